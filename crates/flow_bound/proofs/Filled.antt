@@ -1,11 +1,11 @@
 -- Lists that are filled place by place, and how long a list of distinct jobs is.
-use Rattle.std.proofs.Common.{◌≡◌, ◌≢◌, ℕ, zero, suc, ◌<◌, ◌≤◌, Bool, false, cond, List, [], ◌∷◌, length, slice_index}
+use Rattle.std.proofs.Common.{◌≡◌, ◌≢◌, ℕ, ◌<◌, ◌≤◌, false, List, [], ◌∷◌, length, slice_index}
 use Rattle.std.proofs.Common.{slice_index_or, set, ap, sym, ◌∙◌, subst, inl, inr, arith}
 use Rattle.std.proofs.lemmas.Bool.{cases_lt}
 use Rattle.std.proofs.lemmas.List.{get_or-set_other, get_or-set_same}
 use Rattle.std.proofs.lemmas.List.Elements.{recursion_from_All, All-cons}
 use Rattle.flow_shop.specs.Sequences.{has, AreJobs}
-use Rattle.flow_shop.proofs.JobsLeft.{kept, kept-more, kept-has, sum_by-ones, bool_cases}
+use Rattle.flow_shop.proofs.JobsLeft.{kept-le, kept-has, sum_by-ones}
 
 -- a row is written at a place
 pub row-written : (P : ℕ → List ℕ → Type 0) (rows : List (List ℕ)) (k : ℕ) (row : List ℕ) (j : ℕ) → k < length rows →
@@ -35,15 +35,6 @@ number-written f xs k value within here before j low =
       | inr not_earlier ↦
           let e : j ≡ k = omega arith in
           ap (slice_index (set xs k value)) e ∙ get_or-set_same xs k value 0 within ∙ here ∙ ap f (sym e)
-    ]
-
--- as many numbers are kept as there are, at most
-kept-le : (p : ℕ → Bool) (n : ℕ) → kept (λ _. 1) p n ≤ n
-kept-le p zero = omega arith
-kept-le p (suc n) =
-    elim (bool_cases (p (suc n))) [
-      | inl is_kept ↦ omega (arith, kept-more (λ _. 1) p n, kept-le p n, ap (λ b. cond {A = ℕ} b 1 0) is_kept)
-      | inr is_dropped ↦ omega (arith, kept-more (λ _. 1) p n, kept-le p n, ap (λ b. cond {A = ℕ} b 1 0) is_dropped)
     ]
 
 -- distinct jobs leave room for another one of them

@@ -9,11 +9,12 @@ use Rattle.flow_shop.specs.Least.{greatest}
 use Rattle.flow_shop.specs.Paths.{IsPath, weight, completion, span}
 use Rattle.flow_shop.specs.Front.{IsFrontOf, IsWithinFront}
 use Rattle.flow_shop.proofs.Extremes.{range-le-greatest, greatest-range-le}
-use Rattle.flow_shop.proofs.Recurrence.{after, completed, completion-is, completion-after, after-same}
+use Rattle.flow_shop.proofs.Recurrence.{after, completed, completion-is, completion-after}
 use Rattle.flow_shop.proofs.Recurrence.{time_between-none, time_between-first, weight-le-completed, completed-attained}
 use Rattle.flow_shop.proofs.Recurrence.{path-up, path-le-greatest, greatest-path-le, completed-zero}
 use Rattle.flow_shop.proofs.Admissible.{completed-append, after-later}
-use Rattle.flow_shop.proofs.Fronts.{free_at, completion-small, zeros}
+use Rattle.flow_shop.proofs.Fronts.{child-completion, free_at, completion-small, zeros}
+use Rattle.flow_shop.proofs.Ranges.{greatest-same}
 use Rattle.flow_bound.specs.Insertion.{tail, SpanIsOfFrontsAndTails}
 use Rattle.flow_bound.specs.internal.Tails.{AreTails}
 use Rattle.flow_bound.proofs.MachineLoads.{completed-grows}
@@ -203,13 +204,6 @@ tails-within shop jobs tails limits short are place within =
       completion-small shop (0 ∷ jobs) shop.machines limits,
     )
 
--- two functions that agree on a range have the same greatest value there
-greatest-le : (f g : ℕ → ℕ) (last : ℕ) → ((k : ℕ) → 1 ≤ k → k ≤ last → f k ≡ g k) →
-    greatest (map f (numbers 1 last)) ≤ greatest (map g (numbers 1 last))
-greatest-le f g last same =
-    greatest-range-le f 1 (last + 1 - 1) (greatest (map g (numbers 1 last)))
-    (λ k low high. omega (arith, same k low (omega arith), range-le-greatest g 1 (last + 1 - 1) k low high))
-
 -- the makespan from the front of the jobs before and the tails of those behind
 pub between-is : (shop : Shop) (before behind front tails : List ℕ) (job most : ℕ) → IsFrontOf shop before front →
     AreTails shop behind tails →
@@ -217,10 +211,9 @@ pub between-is : (shop : Shop) (before behind front tails : List ℕ) (job most 
     + free_at tails machine) (numbers 1 shop.machines)) →
     most ≡ span shop (before ++ job ∷ behind)
 between-is shop before behind front tails job most is_front are_tails is =
-    let below = greatest-le given wanted shop.machines same in
-    let above = greatest-le wanted given shop.machines (λ k low high. sym (same k low high)) in
+    let agree = greatest-same given wanted shop.machines same in
     let law = span-is-of-fronts-and-tails shop before behind job in
-    omega (arith, is, below, above, law)
+    omega (arith, is, agree, law)
   where
     given : ℕ → ℕ
     given machine = after shop (free_at front) job machine + free_at tails machine
@@ -230,13 +223,7 @@ between-is shop before behind front tails job most is_front are_tails is =
 
     same : (machine : ℕ) → 1 ≤ machine → machine ≤ shop.machines → given machine ≡ wanted machine
     same machine low high =
-        omega (
-          arith,
-          after-same shop job (free_at front) (completed shop (λ _. 0) before) machine
-              (λ k from to. is_front k from (omega arith) ∙ completion-is shop before k),
-          completion-after shop before job machine,
-          are_tails machine low high,
-        )
+        omega (arith, child-completion shop before front job machine high is_front, are_tails machine low high)
 
 -- behind the last job there is no tail
 pub tails-end : (shop : Shop) (jobs : List ℕ) (place : ℕ) → length jobs ≤ place →

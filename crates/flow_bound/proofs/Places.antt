@@ -9,7 +9,7 @@ use Rattle.std.proofs.lemmas.Bool.{false≢true, eq-eqb, or_left, or_right}
 use Rattle.std.proofs.lemmas.Bool.Decides.{nat_tests, eqb_tells}
 use Rattle.std.proofs.lemmas.List.{get_or-take}
 use Rattle.std.proofs.lemmas.List.Folds.{list_all-map, list_any-append}
-use Rattle.std.proofs.lemmas.List.Elements.{All-append, All-cons, All-nil, All-take, All-drop}
+use Rattle.std.proofs.lemmas.List.Elements.{All-append, All-cons, All-take, All-drop}
 use Rattle.flow_shop.specs.Shop.{Shop}
 use Rattle.flow_shop.specs.Least.{first_least}
 use Rattle.flow_shop.specs.Paths.{span}
@@ -178,6 +178,3 @@ has-more jobs done at job k same =
 -- the empty list has no time
 pub span-none : (shop : Shop) → span shop [] ≡ 0
 span-none shop = completion-is shop [] shop.machines
-
-pub jobs-none : (n : ℕ) → AreJobs n []
-jobs-none n = record { range = All-nil (λ job. (1 ≤ job) × (job ≤ n)); distinct = tt }

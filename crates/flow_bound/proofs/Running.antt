@@ -1,5 +1,5 @@
 -- Running sums of times, and the least, the greatest and the sum over the first numbers.
-use Rattle.std.proofs.Common.{◌≡◌, ◌≢◌, ℕ, zero, suc, ◌+◌, ◌-◌, ◌*◌, ◌<◌, ◌≤◌, min, max, List, [], ◌∷◌, ◌++◌, length}
+use Rattle.std.proofs.Common.{◌≡◌, ◌≢◌, ℕ, zero, suc, ◌+◌, ◌-◌, ◌*◌, ◌<◌, ◌≤◌, min, List, [], ◌∷◌, length}
 use Rattle.std.proofs.Common.{length-append, map, slice_index, set, replicate, ap, sym, ◌∙◌, inl, inr, arith}
 use Rattle.std.specs.List.{range_with_len, sum_by}
 use Rattle.std.proofs.lemmas.Bool.{cases_lt}
@@ -7,10 +7,11 @@ use Rattle.std.proofs.lemmas.List.{get_or-set_other, get_or-set_same}
 use Rattle.std.proofs.lemmas.List.Sums.{sum_by_push, sum_by-append}
 use Rattle.flow_limits.specs.Limits.{most_machines, greatest_time}
 use Rattle.flow_shop.specs.Shop.{Shop, numbers, time, time_between, IsWithinLimits}
-use Rattle.flow_shop.specs.Least.{least, greatest}
-use Rattle.flow_shop.proofs.Extremes.{greatest-append, map-map-append}
+use Rattle.flow_shop.specs.Least.{least}
+use Rattle.flow_shop.proofs.Extremes.{map-map-append}
 use Rattle.flow_shop.proofs.Fronts.{zeros}
 use Rattle.flow_shop.proofs.JobsLeft.{numbers-more}
+use Rattle.flow_shop.proofs.Ranges.{numbers-step}
 use Rattle.flow_shop.proofs.Recurrence.{time_between-more, time_between-none}
 use Rattle.flow_shop.proofs.Taken.{range-split}
 use Rattle.flow_shop.specs.TwoLeast.{least_below}
@@ -37,13 +38,6 @@ pub others-stay : (f : ℕ → ℕ) (xs : List ℕ) (k value last : ℕ) → 1 �
 others-stay f xs k value last from others j low high =
     let other : j - 1 ≢ k - 1 = omega arith in rw get_or-set_other (others j (omega arith) high)
 
-pub numbers-step : (k : ℕ) → 1 ≤ k → numbers 1 (k + 1 - 1) ≡ numbers 1 (k - 1) ++ k ∷ []
-numbers-step zero low = absurd (omega arith)
-numbers-step (suc n) low =
-    let a : suc n + 1 - 1 ≡ suc n = omega arith in
-    let b : n ≡ suc n - 1 = omega arith in
-    ap (numbers 1) a ∙ numbers-more n ∙ ap (λ m. numbers 1 m ++ suc n ∷ []) b
-
 pub sum-step : (f : ℕ → ℕ) (k : ℕ) → 1 ≤ k → sum_by f (numbers 1 (k + 1 - 1)) ≡ sum_by f (numbers 1 (k - 1)) + f k
 sum-step f k low = ap (sum_by f) (numbers-step k low) ∙ sum_by_push f (numbers 1 (k - 1)) k
 
@@ -53,16 +47,6 @@ least-step cap f k low =
     ap (λ xs. least_below cap (map f xs)) (numbers-step k low)
     ∙ ap (least_below cap) (map-map-append f (numbers 1 (k - 1)) (k ∷ []))
     ∙ least-push cap (map f (numbers 1 (k - 1))) (f k)
-
-pub greatest-step : (f : ℕ → ℕ) (k : ℕ) → 1 ≤ k → greatest (map f (numbers 1 (k + 1 - 1)))
-    ≡ max (greatest (map f (numbers 1 (k - 1)))) (f k)
-greatest-step f k low =
-    let pushed : greatest (map f (numbers 1 (k + 1 - 1)))
-    ≡ max (greatest (map f (numbers 1 (k - 1)))) (greatest (f k ∷ [])) =
-    ap (λ xs. greatest (map f xs)) (numbers-step k low)
-    ∙ ap greatest (map-map-append f (numbers 1 (k - 1)) (k ∷ []))
-    ∙ greatest-append (map f (numbers 1 (k - 1))) (f k ∷ []) in
-    omega (arith, pushed)
 
 -- a job's time on some machines, parted behind one of them
 pub time_between-split : (shop : Shop) (job from here last : ℕ) → from ≤ here + 1 → here ≤ last →

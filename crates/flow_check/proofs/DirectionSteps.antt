@@ -5,8 +5,9 @@ use Rattle.std.proofs.Common.{refl, ap, ◌∙◌, inl, inr, arith}
 use Rattle.std.specs.List.{filter, range_with_len}
 use Rattle.std.proofs.lemmas.Bool.{cases_Bool, le-leb, lt-leb}
 use Rattle.std.proofs.lemmas.List.{drop-drop}
-use Rattle.flow_shop.specs.Shop.{Shop, numbers}
+use Rattle.flow_shop.specs.Shop.{Shop}
 use Rattle.flow_shop.specs.Sequences.{has, jobs_left}
+use Rattle.flow_shop.proofs.Ranges.{numbers-first}
 use Rattle.flow_shop.proofs.Taken.{left_from}
 use Rattle.flow_shop.specs.declared.end.End.{End}
 use Rattle.flow_shop.specs.Ends.{end_bound}
@@ -17,22 +18,17 @@ use Rattle.flow_check.specs.internal.ReadTrees.{then_read, each_tree}
 use Rattle.flow_check.specs.internal.ReadDirections.{Reading, first_end, read_at, read_node}
 
 -- the jobs left from one on
-range-first : (job n : ℕ) → job ≤ n → numbers job n ≡ job ∷ numbers (job + 1) n
-range-first job n high =
-    let some : n + 1 - job ≡ suc (n - job) = omega arith in
-    let rest : n - job ≡ n + 1 - (job + 1) = omega arith in
-    ap (range_with_len job) some ∙ ap (λ k. job ∷ range_with_len (job + 1) k) rest
 
 pub left-skip : (n : ℕ) (list : List ℕ) (job : ℕ) → job ≤ n → has list job ≡ true →
     left_from n list job ≡ left_from n list (job + 1)
 left-skip n list job high there =
-    ap (filter (λ k. not (has list k))) (range-first job n high)
+    ap (filter (λ k. not (has list k))) (numbers-first job n high)
     ∙ ap (λ b. cond (not b) (job ∷ left_from n list (job + 1)) (left_from n list (job + 1))) there
 
 pub left-take : (n : ℕ) (list : List ℕ) (job : ℕ) → job ≤ n → has list job ≡ false →
     left_from n list job ≡ job ∷ left_from n list (job + 1)
 left-take n list job high fresh =
-    ap (filter (λ k. not (has list k))) (range-first job n high)
+    ap (filter (λ k. not (has list k))) (numbers-first job n high)
     ∙ ap (λ b. cond (not b) (job ∷ left_from n list (job + 1)) (left_from n list (job + 1))) fresh
 
 pub left-past : (n : ℕ) (list : List ℕ) (job : ℕ) → n < job → left_from n list job ≡ []

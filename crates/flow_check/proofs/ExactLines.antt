@@ -17,8 +17,9 @@ use Rattle.flow_check.specs.internal.Reading.{value_of}
 use Rattle.flow_check.specs.internal.Reading.{first_line, on_line, numbers_in, version_of}
 use Rattle.flow_check.specs.declared.fault.CheckFault.{CheckFault}
 use Rattle.flow_shop.proofs.Lists.{find-some}
+use Rattle.flow_shop.proofs.Bools.{both-true, not-true}
 use Rattle.flow_check.proofs.TreesExact.{fault-value}
-use Rattle.flow_check.proofs.Numbers.{both, off, IsPlain, numbers-sound, numbers-complete, spaced-plain}
+use Rattle.flow_check.proofs.Numbers.{IsPlain, numbers-sound, numbers-complete, spaced-plain}
 
 -- a line and what follows it
 
@@ -74,8 +75,8 @@ on-line-complete fault next text rest h =
 
 pub plain-test : (xs : List ℕ) → list_all (λ b. not (nat_eq b 10)) xs ≡ true → IsPlain xs
 plain-test [] e = tt
-plain-test (x ∷ xs) e = let b = both (not (nat_eq x 10)) (list_all (λ b. not (nat_eq b 10)) xs) e in
-    (off (nat_eq x 10) b.0, plain-test xs b.1)
+plain-test (x ∷ xs) e = let b = both-true (not (nat_eq x 10)) (list_all (λ b. not (nat_eq b 10)) xs) e in
+    (not-true (nat_eq x 10) b.0, plain-test xs b.1)
 
 version-cases : (P : ℕ → Type 0) → P 1 → P 2 → (version : ℕ) → IsVersion version → P version
 version-cases P one two zero is = absurd (omega (arith, is.0))

@@ -10,20 +10,18 @@ use Rattle.flow_shop.specs.Paths.{completion}
 use Rattle.flow_shop.specs.Front.{IsFrontOf, IsWithinFront}
 use Rattle.flow_shop.specs.Sequences.{has, jobs_left}
 use Rattle.flow_shop.specs.Bound.{bound_at, front_of}
-use Rattle.flow_shop.proofs.Recurrence.{after, completed, completion-is, completion-after, after-same}
-use Rattle.flow_shop.proofs.Fronts.{free_at, front-within, time-small}
+use Rattle.flow_shop.proofs.Fronts.{front-within, time-small, tail-small}
 use Rattle.flow_shop.proofs.Admissible.{front_of-is}
 use Rattle.flow_shop.proofs.Extremes.{map-map-append}
 use Rattle.flow_shop.proofs.JobsLeft.{kept-small, none-has}
 use Rattle.std.proofs.lemmas.Bool.Decides.{eqb_tells}
-use Rattle.flow_shop.specs.TwoLeast.{tails, least_below, second_below}
-use Rattle.flow_check.specs.internal.Nodes.{IsNode, AreKnown, AreTwoLeastTails, no_least}
+use Rattle.flow_shop.specs.TwoLeast.{tails, least_below, second_below, least_of_none, IsLeastWithout}
+use Rattle.flow_check.specs.internal.Nodes.{IsListNode, AreKnown, AreTwoLeastTails}
 use Rattle.flow_check.specs.internal.Links.{children}
-use Rattle.flow_check.specs.declared.node.Node.{Node}
-use Rattle.flow_check.specs.declared.node.TwoLeastTails.{TwoLeastTails}
+use Rattle.flow_check.specs.declared.node.ListNode.{ListNode}
+use Rattle.flow_shop.specs.declared.two_least.TwoLeast.{TwoLeast}
 use Rattle.flow_shop.proofs.Taken.{left-sum, left-count, left-split, left-without, left_under}
-use Rattle.flow_shop.proofs.TwoLeastSteps.{Without, without-one, least-below-cap}
-use Rattle.flow_shop.proofs.Fronts.{tail-small}
+use Rattle.flow_shop.proofs.TwoLeastSteps.{without-one, same-without, least-below-cap}
 
 -- the sum of the times of the jobs left fits
 pub work-small : (shop : Shop) (list : List ℕ) (machine : ℕ) → IsWithinLimits shop →
@@ -34,7 +32,7 @@ work-small shop list machine limits =
 
 -- before any bound asks for a tail
 none-known : (shop : Shop) (list least second : List ℕ) →
-    ((machine : ℕ) → 1 ≤ machine → machine ≤ shop.machines → slice_index least (machine - 1) ≡ no_least) →
+    ((machine : ℕ) → 1 ≤ machine → machine ≤ shop.machines → slice_index least (machine - 1) ≡ least_of_none) →
     length least ≡ most_machines → length second ≡ most_machines → AreKnown shop list least second
 none-known shop list least second none least_size second_size = record {
   each = λ machine from to. inl (none machine from to);
@@ -43,10 +41,10 @@ none-known shop list least second none least_size second_size = record {
 }
 
 -- once a machine is asked for
-pub known-more : (shop : Shop) (list : List ℕ) (node : Node) (left machine : ℕ) (two : TwoLeastTails) →
+pub known-more : (shop : Shop) (list : List ℕ) (node : ListNode) (left machine : ℕ) (two : TwoLeast) →
     IsWithinLimits shop →
-    IsNode shop list node left → 1 ≤ machine → machine ≤ shop.machines → AreTwoLeastTails shop list machine two →
-    IsNode shop list (record {
+    IsListNode shop list node left → 1 ≤ machine → machine ≤ shop.machines → AreTwoLeastTails shop list machine two →
+    IsListNode shop list (record {
       front = node.front;
       work = node.work;
       least =
@@ -91,11 +89,11 @@ known-more shop list node left machine two limits is from to low = record {
 }
 
 -- the empty list
-pub root-node : (shop : Shop) (node : Node) → IsWithinLimits shop → IsFrontOf shop [] node.front →
+pub root-node : (shop : Shop) (node : ListNode) → IsWithinLimits shop → IsFrontOf shop [] node.front →
     ((machine : ℕ) → 1 ≤ machine → machine ≤ shop.machines →
     slice_index node.work (machine - 1) ≡ sum_by (λ job. time shop job machine) (jobs_left shop.jobs [])) →
-    length node.work ≡ most_machines → node.least ≡ replicate most_machines no_least →
-    node.second ≡ replicate most_machines no_least → IsNode shop [] node shop.jobs
+    length node.work ≡ most_machines → node.least ≡ replicate most_machines least_of_none →
+    node.second ≡ replicate most_machines least_of_none → IsListNode shop [] node shop.jobs
 root-node shop node limits times work size least second =
     let most : shop.machines ≤ most_machines = limits.machines in
     record {
@@ -103,21 +101,21 @@ root-node shop node limits times work size least second =
       work = work;
       size = size;
       known = none-known shop [] node.least node.second (λ machine from to. ap (λ l. slice_index l (machine - 1)) least
-          ∙ get_or-replicate most_machines (machine - 1) no_least 0 (omega (arith, from, to, most))) (ap length least)
-          (ap length second);
+          ∙ get_or-replicate most_machines (machine - 1) least_of_none 0 (omega (arith, from, to, most)))
+          (ap length least) (ap length second);
       count = omega arith;
       some = none-has shop.jobs;
     }
 
 -- a list's child
-pub child-node : (shop : Shop) (list : List ℕ) (node child : Node) (left job : ℕ) → IsWithinLimits shop →
-    IsNode shop list node (suc left) → 1 ≤ job → job ≤ shop.jobs → has list job ≡ false →
+pub child-node : (shop : Shop) (list : List ℕ) (node child : ListNode) (left job : ℕ) → IsWithinLimits shop →
+    IsListNode shop list node (suc left) → 1 ≤ job → job ≤ shop.jobs → has list job ≡ false →
     IsFrontOf shop (list ++ job ∷ []) child.front → length child.work ≡ most_machines →
     ((machine : ℕ) → 1 ≤ machine → machine ≤ shop.machines →
     slice_index child.work (machine - 1) + time shop job machine ≡ slice_index node.work (machine - 1)) →
-    ((machine : ℕ) → 1 ≤ machine → machine ≤ shop.machines → slice_index child.least (machine - 1) ≡ no_least) →
+    ((machine : ℕ) → 1 ≤ machine → machine ≤ shop.machines → slice_index child.least (machine - 1) ≡ least_of_none) →
     length child.least ≡ most_machines → length child.second ≡ most_machines →
-    IsNode shop (list ++ job ∷ []) child left
+    IsListNode shop (list ++ job ∷ []) child left
 child-node shop list node child left job limits is low high fresh times size less least least_size second_size =
     record {
       times = times;
@@ -135,35 +133,22 @@ child-node shop list node child left job limits is low high fresh times size les
     }
 
 -- the time of a job that is left is no more than the sum of all
-pub work-covers : (shop : Shop) (list : List ℕ) (node : Node) (left job machine : ℕ) → IsNode shop list node left →
-    1 ≤ job → job ≤ shop.jobs → has list job ≡ false → 1 ≤ machine → machine ≤ shop.machines →
+pub work-covers : (shop : Shop) (list : List ℕ) (node : ListNode) (left job machine : ℕ) →
+    IsListNode shop list node left → 1 ≤ job → job ≤ shop.jobs → has list job ≡ false → 1 ≤ machine →
+    machine ≤ shop.machines →
     time shop job machine ≤ slice_index node.work (machine - 1)
 work-covers shop list node left job machine is low high fresh from to =
     omega (arith, is.work machine from to, left-sum (λ j. time shop j machine) shop.jobs list job low high fresh)
 
-pub node-within : (shop : Shop) (list : List ℕ) (node : Node) (left : ℕ) → IsWithinLimits shop →
-    IsNode shop list node left → IsWithinFront shop node.front
+pub node-within : (shop : Shop) (list : List ℕ) (node : ListNode) (left : ℕ) → IsWithinLimits shop →
+    IsListNode shop list node left → IsWithinFront shop node.front
 node-within shop list node left limits is = front-within shop list node.front limits (omega (arith, is.count)) is.times
-
--- the completion time of a child
-pub child-completion : (shop : Shop) (list front : List ℕ) (job machine : ℕ) → machine ≤ shop.machines →
-    IsFrontOf shop list front → after shop (free_at front) job machine ≡ completion shop (list ++ job ∷ []) machine
-child-completion shop list front job machine to is =
-    after-same shop job (free_at front) (completed shop (λ _. 0) list) machine (λ k low high. is k low (omega
-    (arith, high, to)) ∙ completion-is shop list k)
-    ∙ sym (completion-after shop list job machine)
-
-same-without : (y z p q r s m n : ℕ) → y ≡ z → p ≡ q → r ≡ s → Without y p r m → Without z q s n → m ≡ n
-same-without y z p q r s m n yz pq rs a b = elim (eqb_tells y p) [
-  | inl same ↦ omega (arith, a.0 same.1, b.0 (sym yz ∙ same.1 ∙ pq), rs)
-  | inr other ↦ omega (arith, a.1 other.1, b.1 (λ e. other.1 (yz ∙ e ∙ sym pq)), pq)
-]
 
 -- the least over the jobs left once a job is taken, from the two least before
 pub without-left : (f : ℕ → ℕ) (n : ℕ) (list : List ℕ) (job y p q m : ℕ) → 1 ≤ job → job ≤ n → has list job ≡ false →
-    p ≡ least_below no_least (map f (jobs_left n list)) →
-    q ≡ second_below no_least no_least (map f (jobs_left n list)) → y ≡ f job → Without y p q m →
-    m ≡ least_below no_least (map f (jobs_left n (list ++ job ∷ [])))
+    p ≡ least_below least_of_none (map f (jobs_left n list)) →
+    q ≡ second_below least_of_none least_of_none (map f (jobs_left n list)) → y ≡ f job → IsLeastWithout y p q m →
+    m ≡ least_below least_of_none (map f (jobs_left n (list ++ job ∷ [])))
 without-left f n list job y p q m low high fresh is_p is_q is_y picked =
     let us : List ℕ = left_under list job in
     let vs : List ℕ = children n list (job + 1) in
@@ -171,21 +156,23 @@ without-left f n list job y p q m low high fresh is_p is_q is_y picked =
     ap (map f) (left-split n list job low high fresh) ∙ map-map-append f us (job ∷ vs) in
     let rest : map f (jobs_left n (list ++ job ∷ [])) ≡ map f us ++ map f vs =
     ap (map f) (left-without n list job low high) ∙ map-map-append f us vs in
-    same-without y (f job) p (least_below no_least (map f us ++ f job ∷ map f vs)) q
-    (second_below no_least no_least (map f us ++ f job ∷ map f vs)) m (least_below no_least (map f us ++ map f vs)) is_y
-    (is_p ∙ ap (least_below no_least) whole) (is_q ∙ ap (second_below no_least no_least) whole) picked
-    (without-one (f job) no_least no_least (map f us) (map f vs) (omega arith))
-    ∙ sym (ap (least_below no_least) rest)
+    same-without y (f job) p (least_below least_of_none (map f us ++ f job ∷ map f vs)) q
+    (second_below least_of_none least_of_none (map f us ++ f job ∷ map f vs)) m
+    (least_below least_of_none (map f us ++ map f vs)) is_y
+    (is_p ∙ ap (least_below least_of_none) whole) (is_q ∙ ap (second_below least_of_none least_of_none) whole) picked
+    (without-one (f job) least_of_none least_of_none (map f us) (map f vs) (omega arith))
+    ∙ sym (ap (least_below least_of_none) rest)
 
 -- the bound of a list with jobs left
-pub own-bound : (shop : Shop) (list : List ℕ) (node : Node) (left machine : ℕ) (two : TwoLeastTails) →
+pub own-bound : (shop : Shop) (list : List ℕ) (node : ListNode) (left machine : ℕ) (two : TwoLeast) →
     IsWithinLimits shop →
-    IsNode shop list node (suc left) → 1 ≤ machine → machine ≤ shop.machines → AreTwoLeastTails shop list machine two →
+    IsListNode shop list node (suc left) → 1 ≤ machine → machine ≤ shop.machines →
+    AreTwoLeastTails shop list machine two →
     (slice_index node.front (machine - 1) + slice_index node.work (machine - 1) + two.least
     ≡ bound_at shop list machine) × (two.least ≤ most_machines * greatest_time)
 own-bound shop list node left machine two limits is from to low =
     let most : shop.machines ≤ most_machines = limits.machines in
-    let cap = least-below-cap no_least (most_machines * greatest_time) (λ job. time_between shop job (machine
+    let cap = least-below-cap least_of_none (most_machines * greatest_time) (λ job. time_between shop job (machine
     + 1) shop.machines) (jobs_left shop.jobs list) (omega (arith, is.some))
     (λ job. omega (arith, tail-small shop job (shop.machines - machine) machine limits (omega (arith, to)), most))
     (omega arith) in
@@ -194,22 +181,22 @@ own-bound shop list node left machine two limits is from to low =
     (omega (arith, front, is.work machine from to, low.0, cap.0), omega (arith, low.0, cap.0, cap.1))
 
 -- the bound of a child with jobs left
-pub child-bound : (shop : Shop) (list : List ℕ) (node : Node) (left job machine free t tail behind : ℕ)
-    (two : TwoLeastTails) →
-    IsWithinLimits shop → IsNode shop list node (suc (suc left)) → 1 ≤ machine → machine ≤ shop.machines →
+pub child-bound : (shop : Shop) (list : List ℕ) (node : ListNode) (left job machine free t tail behind : ℕ)
+    (two : TwoLeast) →
+    IsWithinLimits shop → IsListNode shop list node (suc (suc left)) → 1 ≤ machine → machine ≤ shop.machines →
     1 ≤ job → job ≤ shop.jobs → has list job ≡ false → AreTwoLeastTails shop list machine two →
     free ≡ completion shop (list ++ job ∷ []) machine → t ≡ time shop job machine →
-    tail ≡ time_between shop job (machine + 1) shop.machines → Without tail two.least two.second behind →
+    tail ≡ time_between shop job (machine + 1) shop.machines → IsLeastWithout tail two.least two.second behind →
     (free + (slice_index node.work (machine - 1) - t) + behind ≡ bound_at shop (list ++ job ∷ []) machine)
     × (behind ≤ most_machines * greatest_time)
 child-bound shop list node left job machine free t tail behind two limits is from to low high fresh are is_free is_t
     is_tail picked =
     let most : shop.machines ≤ most_machines = limits.machines in
     let f : ℕ → ℕ = λ j. time_between shop j (machine + 1) shop.machines in
-    let behind_is : behind ≡ least_below no_least (tails shop machine (jobs_left shop.jobs (list ++ job ∷ []))) =
+    let behind_is : behind ≡ least_below least_of_none (tails shop machine (jobs_left shop.jobs (list ++ job ∷ []))) =
     without-left f shop.jobs list job tail two.least two.second behind low high fresh are.0 are.1 is_tail picked in
     let count = left-count shop.jobs list job low high fresh in
-    let cap = least-below-cap no_least (most_machines * greatest_time) f (jobs_left shop.jobs (list ++ job
+    let cap = least-below-cap least_of_none (most_machines * greatest_time) f (jobs_left shop.jobs (list ++ job
     ∷ [])) (omega (arith, is.some, count))
     (λ j. omega (arith, tail-small shop j (shop.machines - machine) machine limits (omega (arith, to)), most))
     (omega arith) in
@@ -218,8 +205,8 @@ child-bound shop list node left job machine free t tail behind two limits is fro
     let sum = left-sum (λ j. time shop j machine) shop.jobs list job low high fresh in
     (omega (arith, front, is.work machine from to, sum, is_t, behind_is, cap.0), omega (arith, behind_is, cap.0, cap.1))
 
-pub work-fits : (shop : Shop) (list : List ℕ) (node : Node) (left machine : ℕ) → IsWithinLimits shop →
-    IsNode shop list node left → 1 ≤ machine → machine ≤ shop.machines →
+pub work-fits : (shop : Shop) (list : List ℕ) (node : ListNode) (left machine : ℕ) → IsWithinLimits shop →
+    IsListNode shop list node left → 1 ≤ machine → machine ≤ shop.machines →
     slice_index node.work (machine - 1) ≤ most_jobs * greatest_time
 work-fits shop list node left machine limits is from to =
     let most : shop.jobs ≤ most_jobs = limits.jobs in

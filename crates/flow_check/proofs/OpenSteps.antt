@@ -2,12 +2,12 @@
 use Rattle.std.proofs.Common.{◌≡◌, ◌↔◌, ℕ, ◌-◌, ◌/◌, ◌%◌, ◌<◌, ◌≤◌, false, List, ◌++◌, length, slice_index}
 use Rattle.std.proofs.Common.{slice_index_or, ap, ◌∙◌, subst, arith}
 use Rattle.std.specs.Global.{Vec}
+use Rattle.flow_shop.proofs.Lists.{some-of}
 use Rattle.flow_shop.specs.Shop.{Shop}
 use Rattle.flow_shop.specs.Sequences.{has}
 use Rattle.flow_shop.specs.declared.end.End.{End}
 use Rattle.flow_nodes.specs.Groups.{AreGroups, IsGroup, child_bound}
 use Rattle.flow_nodes.specs.Marks.{mark}
-use Rattle.flow_nodes.proofs.GroupSteps.{some-of}
 
 -- the mark of a job that is left tells whether its child is below a number
 pub job-tells : {V : Type 0} (list : V → List ℕ) (cap width : ℕ) (shop : Shop) (number : ℕ) (end : End)

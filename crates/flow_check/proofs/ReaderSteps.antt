@@ -2,11 +2,11 @@
 use Rattle.std.proofs.Common.{◌≡◌, ◌≢◌, ℕ, suc, ◌+◌, ◌-◌, ◌<◌, ◌≤◌, List, [], ◌∷◌, ◌++◌, drop, slice_index}
 use Rattle.std.proofs.Common.{slice_set, Result, refl, ap, sym, subst, ◌∙◌, arith}
 use Rattle.flow_shop.specs.Shop.{Shop}
-use Rattle.flow_check.specs.internal.Nodes.{IsNode, IsAt}
+use Rattle.flow_check.specs.internal.Nodes.{IsListNode, IsAt}
 use Rattle.flow_check.specs.internal.Reader.{frame_at, here, above, path, put_back, Stands, IsBack, Opened, Closed}
 use Rattle.flow_check.specs.internal.Reader.{IsReading, children_read}
 use Rattle.flow_check.specs.declared.fault.CheckFault.{CheckFault}
-use Rattle.flow_check.specs.declared.reader.Frame.{Frame}
+use Rattle.flow_check.specs.declared.reader.ListFrame.{ListFrame}
 use Rattle.flow_check.specs.declared.reader.TreeReader.{TreeReader}
 use Rattle.flow_check.proofs.Links.{links-back}
 use Rattle.flow_check.proofs.Readers.{at-same, same-above, above-opened, above-closed}
@@ -23,7 +23,7 @@ Reads shop version value line root whole base r last at bytes =
 abbrev pub reached : List ℕ → ℕ → TreeReader → List ℕ
 reached root base r = path root (above r.frames.items r.child_left (base - r.child_left))
 
-pub none-above : (frames : List Frame) (place count : ℕ) → count ≡ 0 → above frames place count ≡ []
+pub none-above : (frames : List ListFrame) (place count : ℕ) → count ≡ 0 → above frames place count ≡ []
 none-above frames place count e = ap (above frames place) e
 
 pub reads-start : (shop : Shop) (version value line : ℕ) (root : List ℕ) (r : TreeReader) (at : ℕ) (bytes : List ℕ) →
@@ -81,8 +81,8 @@ pub reads-open : (shop : Shop) (version value line : ℕ) (root : List ℕ) (who
     Reads shop version value line root whole base s 0 (at + 1) bytes
 reads-open shop version value line root whole base r s last at bytes i some plus deep is =
     let next = reading-child i some in
-    let kid : IsNode shop (reached root base r ++ slice_index r.links.items last ∷ []) (here s) r.child_left =
-    subst (IsNode shop (reached root base r ++ slice_index r.links.items last
+    let kid : IsListNode shop (reached root base r ++ slice_index r.links.items last ∷ []) (here s) r.child_left =
+    subst (IsListNode shop (reached root base r ++ slice_index r.links.items last
     ∷ []) (here s)) is.child_left (is.child (reached root base r) i.here.is_node next.3) in
     reading-dive (here s) s.links.items s.child_left 43 (above s.frames.items s.child_left
     (base - s.child_left)) i some plus kid is.links (sym is.child_left) refl
@@ -95,7 +95,7 @@ pub reads-close : (shop : Shop) (version value line : ℕ) (root : List ℕ) (wh
     r.child_left < base → Closed (frame_at r.frames.items (suc r.child_left)) r s →
     Reads shop version value line root whole base s (frame_at r.frames.items (suc r.child_left)).job at bytes
 reads-close shop version value line root whole base r s last at bytes i none deep is =
-    let f : Frame = frame_at r.frames.items (suc r.child_left) in
+    let f : ListFrame = frame_at r.frames.items (suc r.child_left) in
     let up = reading-up s.links.items f (above s.frames.items s.child_left (base - s.child_left)) i none
     (above-closed base r s is deep) is.links in
     let node : f.node ≡ here s = ap (λ fs. (frame_at fs (suc r.child_left)).node) (sym is.frames)

@@ -8,17 +8,17 @@ use Rattle.flow_shop.specs.Shop.{Shop}
 use Rattle.flow_shop.specs.Sequences.{has}
 use Rattle.flow_check.specs.internal.Lags.{AreTwoLeastLagsTo, AreKept, AreUnknown}
 use Rattle.flow_check.specs.internal.Links.{AreLinks, IsPlace}
-use Rattle.flow_check.specs.internal.Nodes.{IsNode, IsAt, left_before, left_here}
+use Rattle.flow_check.specs.internal.Nodes.{IsListNode, IsAt, left_before, left_here}
 use Rattle.flow_check.specs.internal.Reader.{frame_at, here, above, Stands, IsBack, Opened, Closed}
-use Rattle.flow_check.specs.declared.node.Node.{Node}
+use Rattle.flow_check.specs.declared.node.ListNode.{ListNode}
 use Rattle.flow_check.specs.declared.release.TwoLeastLags.{TwoLeastLags}
-use Rattle.flow_check.specs.declared.reader.Frame.{Frame}
+use Rattle.flow_check.specs.declared.reader.ListFrame.{ListFrame}
 use Rattle.flow_check.specs.declared.reader.TreeReader.{TreeReader}
 use Rattle.flow_check.proofs.Links.{next-some, links-out, links-back}
 
 -- a frame that was read is the one at its place
-pub frame-is : (frames : List Frame) (place : ℕ) (f : Frame) → place < length frames → f ≡ get_or frames place f →
-    f ≡ frame_at frames place
+pub frame-is : (frames : List ListFrame) (place : ℕ) (f : ListFrame) → place < length frames →
+    f ≡ get_or frames place f → f ≡ frame_at frames place
 frame-is frames place f within is = is ∙ get_or_default frames place f _ within
 
 -- jobs left at a list or its child, before and after the child is taken
@@ -28,8 +28,8 @@ before-here None child_left left e = sym e
 before-here (Some job) child_left left e = ap suc (sym e)
 
 -- a list is reached by the same node, links and count
-pub at-same : (shop : Shop) (list : List ℕ) (node other : Node) (links same : List ℕ) (left right : ℕ) → node ≡ other →
-    links ≡ same → left ≡ right → IsAt shop list other same right → IsAt shop list node links left
+pub at-same : (shop : Shop) (list : List ℕ) (node other : ListNode) (links same : List ℕ) (left right : ℕ) →
+    node ≡ other → links ≡ same → left ≡ right → IsAt shop list other same right → IsAt shop list node links left
 at-same shop list node other links same left right e f g at =
     subst (λ n. IsAt shop list n links left) (sym e) (subst (λ l. IsAt shop list other l left) (sym f) (subst
     (IsAt shop list other same) (sym g) at))
@@ -42,7 +42,7 @@ none-kept shop list kept none machine from within =
     (sym (none (machine - 1) (omega (arith, from, within)))) tt
 
 -- the list's node may know more
-pub learnt : (shop : Shop) (old new : TreeReader) (f : Frame) → new.child_left ≡ old.child_left →
+pub learnt : (shop : Shop) (old new : TreeReader) (f : ListFrame) → new.child_left ≡ old.child_left →
     new.links.items ≡ old.links.items → new.frames.items ≡ set old.frames.items old.child_left f →
     old.child_left < length old.frames.items →
     ((list : List ℕ) → Stands shop list old → IsAt shop list f.node old.links.items (suc old.child_left)) →
@@ -66,7 +66,7 @@ learnt shop old new f child_left links frames within kept lags = record {
 }
 
 -- frames that are written in two parts
-pub parts-set : (lower upper : List Frame) (child_left place : ℕ) (f kid : Frame) → length lower ≡ child_left →
+pub parts-set : (lower upper : List ListFrame) (child_left place : ℕ) (f kid : ListFrame) → length lower ≡ child_left →
     place < child_left →
     set lower place kid ++ set upper 0 f ≡ set (set (lower ++ upper) child_left f) place kid
 parts-set lower upper child_left place f kid parted under =
@@ -77,14 +77,14 @@ parts-set lower upper child_left place f kid parted under =
     ∙ set-append_left lower (set upper 0 f) place kid room)
 
 -- a child is opened
-pub opened : (shop : Shop) (last job value : ℕ) (old new : TreeReader) (f kid : Frame) → suc new.child_left
+pub opened : (shop : Shop) (last job value : ℕ) (old new : TreeReader) (f kid : ListFrame) → suc new.child_left
     ≡ old.child_left →
     new.links.items ≡ slice_set old.links.items last value → value ≡ slice_index old.links.items job →
     new.frames.items ≡ set (set old.frames.items old.child_left f) new.child_left kid →
     old.child_left < length old.frames.items →
     f ≡ record { node = here old; job = job; last = last } →
-    ((list : List ℕ) → IsNode shop list (here old) (suc old.child_left) → has list job ≡ false →
-    IsNode shop (list ++ job ∷ []) kid.node (suc new.child_left)) → AreUnknown new.lags.items →
+    ((list : List ℕ) → IsListNode shop list (here old) (suc old.child_left) → has list job ≡ false →
+    IsListNode shop (list ++ job ∷ []) kid.node (suc new.child_left)) → AreUnknown new.lags.items →
     Opened shop last job old new
 opened shop last job value old new f kid child_left links leads frames within is made none = record {
   lags = none;
@@ -108,12 +108,12 @@ opened shop last job value old new f kid child_left links leads frames within is
       omega (arith, length-set old.frames.items old.child_left f, within, child_left) in
       let there : here new ≡ kid.node = ap (λ fs. (frame_at fs new.child_left).node) frames
       ∙ ap (λ g. g.node) (get_or-set_same (set old.frames.items old.child_left f) new.child_left kid _ room) in
-      subst (λ n. IsNode shop (list ++ job ∷ []) n (suc new.child_left)) (sym there) (made list node fresh);
+      subst (λ n. IsListNode shop (list ++ job ∷ []) n (suc new.child_left)) (sym there) (made list node fresh);
 }
 
 -- the frames above
 
-pub same-above : (fs gs : List Frame) (place count : ℕ) → ((k : ℕ) → place < k → frame_at fs k ≡ frame_at gs k) →
+pub same-above : (fs gs : List ListFrame) (place count : ℕ) → ((k : ℕ) → place < k → frame_at fs k ≡ frame_at gs k) →
     above fs place count ≡ above gs place count
 same-above fs gs place zero same = refl
 same-above fs gs place (suc count) same =
@@ -135,7 +135,7 @@ above-opened shop last job base old new is deep =
     ∙ ap (λ r. record { node = here old; job = job; last = last }
     ∷ r) (same-above new.frames.items old.frames.items old.child_left (base - old.child_left) is.others)
 
-pub above-more : (frames : List Frame) (place base : ℕ) → place < base →
+pub above-more : (frames : List ListFrame) (place base : ℕ) → place < base →
     above frames place (base - place) ≡ frame_at frames (suc place) ∷ above frames (suc place) (base - suc place)
 above-more frames place base deep =
     let count : base - place ≡ suc (base - suc place) = omega (arith, deep) in

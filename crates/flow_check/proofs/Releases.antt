@@ -1,8 +1,8 @@
 -- Lags of jobs, and the release of a machine.
-use Rattle.std.proofs.Common.{◌≡◌, ◌≢◌, cond, nat_eq, nat_le, Bool, true, inl, inr, ℕ, zero, suc, ◌+◌, ◌-◌, ◌*◌, ◌<◌}
-use Rattle.std.proofs.Common.{◌≤◌, max, List, [], ◌∷◌, ◌++◌, length, map, false, refl}
+use Rattle.std.proofs.Common.{◌≡◌, cond, nat_eq, nat_le, Bool, true, inl, inr, ℕ, zero, suc, ◌+◌, ◌-◌, ◌*◌, ◌<◌}
+use Rattle.std.proofs.Common.{◌≤◌, List, [], ◌∷◌, ◌++◌, length, map, false, refl}
 use Rattle.std.proofs.Common.{slice_index, slice_index_or, ap, ap₂, sym, ◌∙◌, arith}
-use Rattle.std.proofs.lemmas.Bool.{cases_Bool, eq-eqb, ne_eqb, le-leb, lt-leb, leb-true, leb-false}
+use Rattle.std.proofs.lemmas.Bool.{cases_Bool, le-leb, lt-leb, leb-true, leb-false}
 use Rattle.flow_shop.specs.Limits.{most_machines, greatest_time}
 use Rattle.flow_shop.specs.Shop.{Shop, IsWithinLimits, numbers, time, time_between}
 use Rattle.flow_shop.specs.Rows.{AreRows}
@@ -10,19 +10,18 @@ use Rattle.flow_shop.specs.declared.row.Row.{Row}
 use Rattle.flow_shop.specs.Least.{greatest, least}
 use Rattle.flow_shop.specs.Sequences.{has, jobs_left}
 use Rattle.flow_shop.specs.Bound.{bound_at, released_bound_at, bound_of, front_of, release}
-use Rattle.flow_shop.specs.TwoLeast.{least_below}
+use Rattle.flow_shop.specs.TwoLeast.{least_below, least_of_none, IsLeastWithout}
 use Rattle.flow_shop.proofs.Admissible.{front_of-is, front-le-release, released_bound_is_stronger}
-use Rattle.flow_shop.proofs.Extremes.{map-map-append, greatest-append}
-use Rattle.flow_shop.proofs.Fronts.{free_at, time-small, tail-small}
-use Rattle.flow_shop.proofs.JobsLeft.{numbers-more}
+use Rattle.flow_shop.proofs.Fronts.{free_at, child-completion, time-small, tail-small}
+use Rattle.flow_shop.proofs.Ranges.{greatest-same}
 use Rattle.flow_shop.proofs.Recurrence.{after, time_between-first, time_between-none}
 use Rattle.flow_shop.proofs.Taken.{left-count}
-use Rattle.flow_shop.proofs.TwoLeastSteps.{Without, least-below-cap}
+use Rattle.flow_shop.proofs.TwoLeastSteps.{least-below-cap}
 use Rattle.flow_check.specs.internal.Lags.{AreTwoLeastLagsTo, lags}
-use Rattle.flow_check.specs.internal.Nodes.{IsNode, no_least}
-use Rattle.flow_check.specs.declared.node.Node.{Node}
+use Rattle.flow_check.specs.internal.Nodes.{IsListNode}
+use Rattle.flow_check.specs.declared.node.ListNode.{ListNode}
 use Rattle.flow_check.specs.declared.release.TwoLeastLags.{TwoLeastLags}
-use Rattle.flow_check.proofs.NodeSteps.{child-completion, without-left}
+use Rattle.flow_check.proofs.NodeSteps.{without-left}
 
 -- the times up to a machine, and those from there on
 between-split : (shop : Shop) (job d a k m : ℕ) → k ≡ a + d → k ≤ suc m → 1 ≤ a →
@@ -73,47 +72,19 @@ lag-small shop job from machine limits low up high =
     let is = lag-is shop job from machine _ _ _ _ limits low up high refl refl refl refl in
     omega (arith, is.0, is.1)
 
--- the greatest over the numbers up to one more
-greatest-suc : (value : ℕ → ℕ) (n : ℕ) →
-    greatest (map value (numbers 1 (suc n))) ≡ max (greatest (map value (numbers 1 n))) (value (suc n))
-greatest-suc value n =
-    let last : max (value (suc n)) 0 ≡ value (suc n) = omega arith in
-    ap (λ ns. greatest (map value ns)) (numbers-more n)
-    ∙ ap greatest (map-map-append value (numbers 1 n) (suc n ∷ []))
-    ∙ greatest-append (map value (numbers 1 n)) (value (suc n) ∷ [])
-    ∙ ap (λ v. max (greatest (map value (numbers 1 n))) v) last
-
-pub greatest-more : (value : ℕ → ℕ) (k : ℕ) → 1 ≤ k →
-    greatest (map value (numbers 1 (k + 1 - 1))) ≡ max (greatest (map value (numbers 1 (k - 1)))) (value k)
-greatest-more value zero low = absurd (omega (arith, low))
-greatest-more value (suc n) low =
-    let a : suc n + 1 - 1 ≡ suc n = omega arith in
-    let b : n ≡ suc n - 1 = omega arith in
-    ap (λ m. greatest (map value (numbers 1 m))) a ∙ greatest-suc value n
-    ∙ ap (λ m. max (greatest (map value (numbers 1 m))) (value (suc n))) b
-
-greatest-same : (f g : ℕ → ℕ) (n : ℕ) → ((k : ℕ) → 1 ≤ k → k ≤ n → f k ≡ g k) →
-    greatest (map f (numbers 1 n)) ≡ greatest (map g (numbers 1 n))
-greatest-same f g zero same = refl
-greatest-same f g (suc n) same =
-    greatest-suc f n
-    ∙ ap₂ max (greatest-same f g n (λ k low high. same k low (omega (arith, high)))) (same (suc n) (omega arith)
-    (omega arith))
-    ∙ sym (greatest-suc g n)
-
 -- where jobs are left, the number that stands for none takes no part
 pub least-lags : (shop : Shop) (from machine : ℕ) (jobs : List ℕ) → IsWithinLimits shop → 1 ≤ from →
     from ≤ machine → machine ≤ shop.machines → 0 < length jobs →
-    least_below no_least (lags shop from machine jobs) ≡ least (lags shop from machine jobs)
+    least_below least_of_none (lags shop from machine jobs) ≡ least (lags shop from machine jobs)
 least-lags shop from machine jobs limits low up high some =
-    (least-below-cap no_least (most_machines * greatest_time) (λ job. time_between shop job from
+    (least-below-cap least_of_none (most_machines * greatest_time) (λ job. time_between shop job from
     (machine - 1)) jobs some
     (λ job. lag-small shop job from machine limits low up high) (omega arith)).0
 
 -- the release for the jobs left of a list
-pub own-release : (shop : Shop) (list : List ℕ) (node : Node) (left machine : ℕ) (two : TwoLeastLags) →
+pub own-release : (shop : Shop) (list : List ℕ) (node : ListNode) (left machine : ℕ) (two : TwoLeastLags) →
     IsWithinLimits shop →
-    IsNode shop list node (suc left) → machine ≤ shop.machines → AreTwoLeastLagsTo shop list machine two →
+    IsListNode shop list node (suc left) → machine ≤ shop.machines → AreTwoLeastLagsTo shop list machine two →
     greatest (map (λ from. slice_index node.front (from - 1) + slice_index two.least (from - 1)) (numbers 1 machine))
     ≡ release shop (front_of shop list) (jobs_left shop.jobs list) machine
 own-release shop list node left machine two limits is high are =
@@ -127,8 +98,8 @@ own-release shop list node left machine two limits is high are =
     ap₂ (λ a b. a + b) front lag)
 
 -- the greatest that is found for a list is the release, which is at least the front
-pub own-late : (shop : Shop) (list : List ℕ) (node : Node) (left machine : ℕ) (two : TwoLeastLags) (late end : ℕ) →
-    IsWithinLimits shop → IsNode shop list node (suc left) → 1 ≤ machine → machine ≤ shop.machines →
+pub own-late : (shop : Shop) (list : List ℕ) (node : ListNode) (left machine : ℕ) (two : TwoLeastLags) (late end : ℕ) →
+    IsWithinLimits shop → IsListNode shop list node (suc left) → 1 ≤ machine → machine ≤ shop.machines →
     AreTwoLeastLagsTo shop list machine two → late ≡ greatest (map (λ from. slice_index node.front (from - 1)
     + slice_index two.least (from - 1)) (numbers 1 end)) → end ≡ machine →
     (late ≡ release shop (front_of shop list) (jobs_left shop.jobs list) machine)
@@ -142,8 +113,8 @@ own-late shop list node left machine two late end limits is low high are found w
     (value, is.times machine low high ∙ sym (front_of-is shop list machine low high), omega (arith, value, least))
 
 -- the release for the jobs left of a list's child
-pub child-release : (shop : Shop) (list : List ℕ) (node : Node) (left job machine : ℕ) →
-    IsNode shop list node left → machine ≤ shop.machines →
+pub child-release : (shop : Shop) (list : List ℕ) (node : ListNode) (left job machine : ℕ) →
+    IsListNode shop list node left → machine ≤ shop.machines →
     greatest (map (λ from. after shop (free_at node.front) job from
     + least (lags shop from machine (jobs_left shop.jobs (list ++ job ∷ [])))) (numbers 1 machine))
     ≡ release shop (front_of shop (list ++ job ∷ [])) (jobs_left shop.jobs (list ++ job ∷ [])) machine
@@ -158,11 +129,11 @@ child-release shop list node left job machine is high =
     ∙ sym (front_of-is shop (list ++ job ∷ []) from low within)))
 
 -- the least lag of the jobs left of a list's child
-pub child-lag : (shop : Shop) (list : List ℕ) (node : Node) (left job from machine y m : ℕ) (two : TwoLeastLags) →
-    IsWithinLimits shop → IsNode shop list node (suc (suc left)) → 1 ≤ job → job ≤ shop.jobs →
+pub child-lag : (shop : Shop) (list : List ℕ) (node : ListNode) (left job from machine y m : ℕ) (two : TwoLeastLags) →
+    IsWithinLimits shop → IsListNode shop list node (suc (suc left)) → 1 ≤ job → job ≤ shop.jobs →
     has list job ≡ false → AreTwoLeastLagsTo shop list machine two → 1 ≤ from → from ≤ machine →
     machine ≤ shop.machines → y ≡ time_between shop job from (machine - 1) →
-    Without y (slice_index two.least (from - 1)) (slice_index two.second (from - 1)) m →
+    IsLeastWithout y (slice_index two.least (from - 1)) (slice_index two.second (from - 1)) m →
     m ≡ least (lags shop from machine (jobs_left shop.jobs (list ++ job ∷ [])))
 child-lag shop list node left job from machine y m two limits is first last fresh are low up high lag picked =
     let here = are from low up in
@@ -173,19 +144,19 @@ child-lag shop list node left job from machine y m two limits is first last fres
     (arith, is.some, count))
 
 -- what the release adds to the machine bound
-pub release-gains : (shop : Shop) (list : List ℕ) (machine gain version : ℕ) → version ≡ 2 →
+pub release-gains : (shop : Shop) (list : List ℕ) (machine gain version : ℕ) → nat_eq version 2 ≡ true →
     slice_index (front_of shop list) (machine - 1) + gain
     ≡ release shop (front_of shop list) (jobs_left shop.jobs list) machine →
     bound_at shop list machine + gain ≡ bound_of version shop list machine
 release-gains shop list machine gain version is gains =
-    let same = ap (λ b. cond b released_bound_at bound_at shop list machine) (eq-eqb version 2 is) in
+    let same = ap (λ b. cond b released_bound_at bound_at shop list machine) is in
     omega (arith, gains, same)
 
 -- the other version has the machine bound
-pub plain-gains : (shop : Shop) (list : List ℕ) (machine version : ℕ) → version ≢ 2 →
+pub plain-gains : (shop : Shop) (list : List ℕ) (machine version : ℕ) → nat_eq version 2 ≡ false →
     bound_at shop list machine + 0 ≡ bound_of version shop list machine
 plain-gains shop list machine version is =
-    let same = ap (λ b. cond b released_bound_at bound_at shop list machine) (ne_eqb version 2 is) in
+    let same = ap (λ b. cond b released_bound_at bound_at shop list machine) is in
     omega (arith, same)
 
 -- the bound of a version is at least the machine bound

@@ -12,6 +12,7 @@ use Rattle.flow_shop.specs.Shop.{Shop}
 use Rattle.flow_shop.specs.Front.{IsFrontOf}
 use Rattle.flow_shop.specs.JobSet.{contains}
 use Rattle.flow_shop.specs.Sequences.{has, AreDistinct}
+use Rattle.flow_shop.proofs.Bools.{or-true}
 use Rattle.flow_shop.proofs.JobsLeft.{InRange, apart, or_false}
 use Rattle.flow_shop.proofs.Lists.{not_eq-sym}
 use Rattle.flow_check.specs.TextLines.{line, spaced}
@@ -207,10 +208,6 @@ members-more set done job k size low high from to before = elim (cases_Bool (nat
       ∙ or-none (has done k))
 ]
   where
-    or-true : (b : Bool) → (b || (true || false)) ≡ true
-    or-true true = refl
-    or-true false = refl
-
     or-none : (b : Bool) → (b || (false || false)) ≡ b
     or-none true = refl
     or-none false = refl

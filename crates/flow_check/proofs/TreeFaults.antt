@@ -7,6 +7,7 @@ use Rattle.std.specs.Cmp.Lexicographic.{bytes_decides}
 use Rattle.std.proofs.lemmas.Bool.{cases_Bool, eqb-true, leb-true, leb-false, ltb-true, lt-leb, lt-ltb, le-leb}
 use Rattle.std.proofs.lemmas.Bool.{eq-eqb, false≢true}
 use Rattle.std.proofs.lemmas.Result.{IfErr-weaker}
+use Rattle.flow_shop.proofs.Bools.{both-true}
 use Rattle.flow_shop.specs.Shop.{Shop}
 use Rattle.flow_shop.specs.Paths.{span}
 use Rattle.flow_shop.specs.Sequences.{jobs_left}
@@ -143,17 +144,13 @@ tree-has shop bound value place (suc left) node (byte ∷ rest) =
           ))))
     ]
   where
-    both : (a b : Bool) → (a && b) ≡ true → (a ≡ true) × (b ≡ true)
-    both true b e = (refl, e)
-    both false b e = absurd (false≢true e)
-
     all : (a b : Bool) → a ≡ true → b ≡ true → (a && b) ≡ true
     all a b p q = ap (λ x. x && b) p ∙ q
 
     letter-known : (shop : Shop) (byte : ℕ) → is_letter shop byte ≡ true →
         (1 ≤ byte - 64) × (byte - 64 ≤ shop.machines) × (byte ≡ letter (byte - 64))
     letter-known shop byte e =
-        let l = both (nat_lt 64 byte) (nat_le (byte - 64) shop.machines) e in
+        let l = both-true (nat_lt 64 byte) (nat_le (byte - 64) shop.machines) e in
         let above : 64 < byte = ltb-true 64 byte l.0 in
         (omega arith, leb-true (byte - 64) shop.machines l.1, omega arith)
 

@@ -1,22 +1,20 @@
 -- The steps of reading a tree with a stack.
 use Rattle.std.proofs.Common.{◌≡◌, ◌≢◌, ℕ, zero, suc, ◌+◌, ◌<◌, ◌≤◌, Bool, true, false, List, [], ◌∷◌, ◌++◌, length}
 use Rattle.std.proofs.Common.{drop, slice_index, slice_set, Result, Ok, Err, refl, ap, sym, subst, ◌∙◌, arith, get_or}
-use Rattle.std.proofs.Common.{reverse}
-use Rattle.std.proofs.lemmas.List.{reverse-append}
 use Rattle.std.proofs.Math.Seq.{drop-cons}
 use Rattle.flow_shop.specs.Shop.{Shop}
 use Rattle.flow_shop.specs.Bound.{bound_of}
 use Rattle.flow_shop.specs.Sequences.{has, jobs_left}
 use Rattle.flow_check.specs.internal.ReadTrees.{read_tree, each_tree, then_read}
 use Rattle.flow_check.specs.internal.Links.{children, AreLinks}
-use Rattle.flow_check.specs.internal.Nodes.{IsNode, IsAt}
+use Rattle.flow_check.specs.internal.Nodes.{IsListNode, IsAt}
 use Rattle.flow_check.specs.internal.Reader.{children_read, path, resume, IsStack, IsReading}
 use Rattle.flow_check.specs.internal.PartsGive.{LetterGives, TreeGives}
 use Rattle.flow_check.specs.declared.fault.CheckFault.{CheckFault}
 use Rattle.flow_check.specs.declared.fault.CheckFault.TheVariants.{Memory, Header, Size, Value, Sequence, NotAttained}
 use Rattle.flow_check.specs.declared.fault.CheckFault.TheVariants.{Tree, Weak, Low, End}
-use Rattle.flow_check.specs.declared.node.Node.{Node}
-use Rattle.flow_check.specs.declared.reader.Frame.{Frame}
+use Rattle.flow_check.specs.declared.node.ListNode.{ListNode}
+use Rattle.flow_check.specs.declared.reader.ListFrame.{ListFrame}
 use Rattle.flow_check.proofs.Links.{children-next, children-none, next-some, next-place, start-place, links-out}
 use Rattle.flow_check.proofs.Links.{links-back}
 
@@ -35,7 +33,7 @@ pub no-byte : (shop : Shop) (version value place left : ℕ) (list : List ℕ) �
 no-byte shop version value place zero list = refl
 no-byte shop version value place (suc left) list = refl
 
-pub reading-start : (shop : Shop) (version value place : ℕ) (root : List ℕ) (node : Node) (links : List ℕ)
+pub reading-start : (shop : Shop) (version value place : ℕ) (root : List ℕ) (node : ListNode) (links : List ℕ)
     (child_left from : ℕ)
     (bytes : List ℕ) → IsAt shop root node links (suc child_left) →
     IsReading shop version value place root (children_read shop version value place child_left root
@@ -85,8 +83,8 @@ plus-gives shop version value place root left child_left from bytes byte r e plu
 
 -- the next child, where there is one
 pub reading-child : {shop : Shop} {version value place : ℕ} {root : List ℕ} {whole : Result
-    (List ℕ) CheckFault} {node : Node} {links : List ℕ} {child_left last at : ℕ} {bytes : List ℕ} {frames : List Frame}
-    →
+    (List ℕ) CheckFault} {node : ListNode} {links : List ℕ} {child_left last at : ℕ} {bytes : List ℕ}
+    {frames : List ListFrame} →
     IsReading shop version value place root whole node links child_left last at bytes frames →
     slice_index links last ≢ 0 →
     (last < slice_index links last) × (1 ≤ slice_index links last) × (slice_index links last ≤ shop.jobs)
@@ -96,8 +94,8 @@ reading-child {shop} {root} {links} {last} {frames} i some =
 
 -- the next child is read
 child-read : {shop : Shop} {version value place : ℕ} {root : List ℕ} {whole : Result
-    (List ℕ) CheckFault} {node : Node} {links : List ℕ} {child_left last at : ℕ} {bytes : List ℕ} {frames : List Frame}
-    (bs : List ℕ) →
+    (List ℕ) CheckFault} {node : ListNode} {links : List ℕ} {child_left last at : ℕ} {bytes : List ℕ}
+    {frames : List ListFrame} (bs : List ℕ) →
     IsReading shop version value place root whole node links child_left last at bytes frames →
     slice_index links last ≢ 0 →
     drop at bytes ≡ bs →
@@ -119,8 +117,8 @@ child-read {shop} {version} {value} {place} {root} {whole} {node} {links} {child
     ∷ children shop.jobs (path root frames) (slice_index links last + 1)) b) k) dropped
 
 pub reading-fault : {shop : Shop} {version value place : ℕ} {root : List ℕ} {whole : Result
-    (List ℕ) CheckFault} {node : Node} {links : List ℕ} {child_left last at : ℕ} {bytes : List ℕ} {frames : List Frame}
-    (bs : List ℕ) (fault : CheckFault) →
+    (List ℕ) CheckFault} {node : ListNode} {links : List ℕ} {child_left last at : ℕ} {bytes : List ℕ}
+    {frames : List ListFrame} (bs : List ℕ) (fault : CheckFault) →
     IsReading shop version value place root whole node links child_left last at bytes frames →
     slice_index links last ≢ 0 →
     drop at bytes ≡ bs →
@@ -138,8 +136,8 @@ reading-fault {shop} {version} {value} {place} {root} {whole} {node} {links} {ch
     + 1)))) (resume shop version value place root (suc child_left) frames)) bad
 
 pub reading-leaf : {shop : Shop} {version value place : ℕ} {root : List ℕ} {whole : Result
-    (List ℕ) CheckFault} {node : Node} {links : List ℕ} {child_left last at : ℕ} {bytes : List ℕ} {frames : List Frame}
-    →
+    (List ℕ) CheckFault} {node : ListNode} {links : List ℕ} {child_left last at : ℕ} {bytes : List ℕ}
+    {frames : List ListFrame} →
     IsReading shop version value place root whole node links child_left last at bytes frames →
     slice_index links last ≢ 0 →
     read_tree shop (bound_of version) value place child_left (path root frames ++ slice_index links last ∷ [])
@@ -163,12 +161,12 @@ reading-leaf {shop} {version} {value} {place} {root} {whole} {node} {links} {chi
     }
 
 pub reading-dive : {shop : Shop} {version value place : ℕ} {root : List ℕ} {whole : Result
-    (List ℕ) CheckFault} {node : Node} {links : List ℕ} {child_left last at : ℕ} {bytes : List ℕ} {frames : List Frame}
-    (child : Node) (less : List ℕ) (lower byte : ℕ) (deeper : List Frame) →
+    (List ℕ) CheckFault} {node : ListNode} {links : List ℕ} {child_left last at : ℕ} {bytes : List ℕ}
+    {frames : List ListFrame} (child : ListNode) (less : List ℕ) (lower byte : ℕ) (deeper : List ListFrame) →
     IsReading shop version value place root whole node links child_left last at bytes frames →
     slice_index links last ≢ 0 →
     drop at bytes ≡ byte ∷ drop (at + 1) bytes →
-    IsNode shop (path root frames ++ slice_index links last ∷ []) child child_left →
+    IsListNode shop (path root frames ++ slice_index links last ∷ []) child child_left →
     less ≡ slice_set links last (slice_index links (slice_index links last)) → child_left ≡ suc lower → byte ≡ 43 →
     deeper ≡ record { node = node; job = slice_index links last; last = last } ∷ frames →
     IsReading shop version value place root whole child less lower 0 (at + 1) bytes deeper
@@ -186,7 +184,7 @@ reading-dive {shop} {version} {value} {place} {root} {whole} {node} {links} {chi
     let goal : IsReading shop version value place root whole child less lower 0 (at
     + 1) bytes (record { node = node; job = job; last = last } ∷ frames) = record {
       here = record {
-        is_node = subst (IsNode shop (path root frames ++ job ∷ []) child) e is;
+        is_node = subst (IsListNode shop (path root frames ++ job ∷ []) child) e is;
         are_links =
             subst (λ l. AreLinks shop.jobs (path root frames ++ job ∷ []) l) (sym out) taken;
       };
@@ -222,8 +220,8 @@ reading-dive {shop} {version} {value} {place} {root} {whole} {node} {links} {chi
 
 -- no child is left
 reading-none : {shop : Shop} {version value place : ℕ} {root : List ℕ} {whole : Result
-    (List ℕ) CheckFault} {node : Node} {links : List ℕ} {child_left last at : ℕ} {bytes : List ℕ} {frames : List Frame}
-    →
+    (List ℕ) CheckFault} {node : ListNode} {links : List ℕ} {child_left last at : ℕ} {bytes : List ℕ}
+    {frames : List ListFrame} →
     IsReading shop version value place root whole node links child_left last at bytes frames → slice_index links last
     ≡ 0 →
     whole ≡ resume shop version value place root (suc child_left) frames (drop at bytes)
@@ -237,8 +235,8 @@ reading-none {shop} {version} {value} {place} {root} {whole} {node} {links} {chi
     (path root frames) last (slice_index links last) (i.here.are_links.each last i.after_last) none)
 
 pub reading-done : {shop : Shop} {version value place : ℕ} {root : List ℕ} {whole : Result
-    (List ℕ) CheckFault} {node : Node} {links : List ℕ} {child_left last at : ℕ} {bytes : List ℕ} {frames : List Frame}
-    →
+    (List ℕ) CheckFault} {node : ListNode} {links : List ℕ} {child_left last at : ℕ} {bytes : List ℕ}
+    {frames : List ListFrame} →
     IsReading shop version value place root whole node links child_left last at bytes frames → slice_index links last
     ≡ 0 →
     frames ≡ [] → whole ≡ Ok (drop at bytes)
@@ -248,8 +246,8 @@ reading-done {shop} {version} {value} {place} {root} {whole} {node} {links} {chi
     reading-none i none ∙ ap (λ fs. resume shop version value place root (suc child_left) fs (drop at bytes)) empty
 
 pub reading-up : {shop : Shop} {version value place : ℕ} {root : List ℕ} {whole : Result
-    (List ℕ) CheckFault} {node : Node} {links : List ℕ} {child_left last at : ℕ} {bytes : List ℕ} {frames : List Frame}
-    (back : List ℕ) (f : Frame) (higher : List Frame) →
+    (List ℕ) CheckFault} {node : ListNode} {links : List ℕ} {child_left last at : ℕ} {bytes : List ℕ}
+    {frames : List ListFrame} (back : List ℕ) (f : ListFrame) (higher : List ListFrame) →
     IsReading shop version value place root whole node links child_left last at bytes frames → slice_index links last
     ≡ 0 →
     frames ≡ f ∷ higher → back ≡ slice_set links f.last f.job →
@@ -312,6 +310,3 @@ drop-past [] zero h = refl
 drop-past [] (suc at) h = refl
 drop-past (b ∷ bs) zero h = absurd (omega (arith, h))
 drop-past (b ∷ bs) (suc at) h = drop-past bs at (omega (arith, h))
-
-pub reverse-push : {A : Type 0} (xs new : List A) (x : A) → new ≡ xs ++ x ∷ [] → reverse new ≡ x ∷ reverse xs
-reverse-push xs new x e = ap reverse e ∙ reverse-append xs (x ∷ [])

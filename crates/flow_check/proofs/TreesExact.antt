@@ -1,9 +1,10 @@
 -- Trees are read exactly where they cover.
-use Rattle.std.proofs.Common.{◌&&◌, nat_lt, ◌≡◌, ℕ, zero, suc, ◌+◌, ◌-◌, ◌<◌, ◌≤◌, Bool, true, false, cond, nat_eq}
+use Rattle.std.proofs.Common.{nat_lt, ◌≡◌, ℕ, zero, suc, ◌+◌, ◌-◌, ◌<◌, ◌≤◌, Bool, true, false, cond, nat_eq}
 use Rattle.std.proofs.Common.{nat_le, List, [], ◌∷◌, ◌++◌, Result, Ok, Err, refl, ap, sym, subst, ◌∙◌, inl, inr, arith}
 use Rattle.std.proofs.Common.{append_assoc}
 use Rattle.std.specs.List.{AllZip, concat, flat_map}
-use Rattle.std.proofs.lemmas.Bool.{cases_Bool, eqb-true, leb-true, ltb-true, le-leb, false≢true}
+use Rattle.std.proofs.lemmas.Bool.{cases_Bool, eqb-true, leb-true, ltb-true, le-leb}
+use Rattle.flow_shop.proofs.Bools.{both-true}
 use Rattle.flow_shop.specs.Shop.{Shop}
 use Rattle.flow_shop.specs.Paths.{span}
 use Rattle.flow_shop.specs.Sequences.{jobs_left}
@@ -46,10 +47,6 @@ cut-ok : (p h : Bool) (place : ℕ) (after rest : List ℕ) → cut_fault p h pl
 cut-ok true true place after rest e = (refl, refl, ok-same after rest e)
 cut-ok true false place after rest e = absurd (err-ok (Weak place) rest e)
 cut-ok false h place after rest e = absurd (err-ok (Tree place) rest e)
-
-both : (a b : Bool) → (a && b) ≡ true → (a ≡ true) × (b ≡ true)
-both true b e = (refl, e)
-both false b e = absurd (false≢true e)
 
 -- what a reader of trees gives
 abbrev pub Sound : (ℕ → List ℕ → Result (List ℕ) CheckFault) → (ℕ → List ℕ → Type 0) → Type 0
@@ -107,7 +104,7 @@ tree-sound shop bound value place (suc left) node (byte ∷ after) rest e =
       | inr other ↦
           let f : one ≡ Ok rest = sym (ap (λ b. cond b each one) other) ∙ e in
           let h = cut-ok (is_letter shop byte) (nat_le value (bound shop node (byte - 64))) place after rest f in
-          let l = both (nat_lt 64 byte) (nat_le (byte - 64) shop.machines) h.0 in
+          let l = both-true (nat_lt 64 byte) (nat_le (byte - 64) shop.machines) h.0 in
           let above : 64 < byte = ltb-true 64 byte l.0 in
           let is : byte ≡ letter (byte - 64) = omega arith in (
             byte ∷ [],

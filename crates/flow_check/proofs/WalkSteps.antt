@@ -8,6 +8,7 @@ use Rattle.std.proofs.lemmas.Bool.Decides.{eqb_tells}
 use Rattle.std.proofs.lemmas.List.{length-take-le}
 use Rattle.flow_shop.specs.Shop.{Shop}
 use Rattle.flow_shop.specs.Sequences.{has}
+use Rattle.flow_shop.proofs.Bools.{or-true}
 use Rattle.flow_shop.proofs.Taken.{left_from, has-push}
 use Rattle.flow_shop.proofs.EndSteps.{has-child}
 use Rattle.flow_shop.specs.declared.end.End.{End}
@@ -17,7 +18,7 @@ use Rattle.flow_nodes.specs.Nodes.{IsJob}
 use Rattle.flow_nodes.specs.Groups.{child_bound}
 use Rattle.flow_check.specs.declared.fault.CheckFault.TheVariants.{Low, Tree}
 use Rattle.flow_nodes.specs.declared.marks.Marks.{Marks}
-use Rattle.flow_check.specs.declared.two_ended.walk.Frame.{Frame}
+use Rattle.flow_check.specs.declared.two_ended.walk.NodeFrame.{NodeFrame}
 use Rattle.flow_check.specs.declared.two_ended.walk.Path.{Path}
 use Rattle.flow_check.specs.internal.ReadTrees.{then_read}
 use Rattle.flow_check.specs.internal.ReadDirections.{Reading, first_end, read_node}
@@ -38,10 +39,6 @@ child-has end first last job k = has-child end first last job k ∙ has-push (fi
 or-false : (b : Bool) → (b || false) ≡ b
 or-false true = refl
 or-false false = refl
-
-or-true : (b : Bool) → (b || true) ≡ true
-or-true true = refl
-or-true false = refl
 
 pub left-without : (shop : Shop) (end : End) (first last : List ℕ) (old new : Marks) (job : ℕ) →
     AreLeft shop first last old → ((other : ℕ) → 1 ≤ other → other ≢ job → job_mark new other ≡ job_mark old other) →
@@ -113,7 +110,7 @@ left-root shop marks jobs same marked others = record {
 pub count-above : (path : Path) → path.depth < length path.frames.items → length (above path) ≡ path.depth
 count-above path within = length-take-le path.depth path.frames.items (omega arith)
 
-pub last-above : (frames : List Frame) (depth : ℕ) → 0 < depth → depth < length frames →
+pub last-above : (frames : List NodeFrame) (depth : ℕ) → 0 < depth → depth < length frames →
     take depth frames ≡ take (depth - 1) frames ++ frame_at frames (depth - 1) ∷ []
 last-above frames depth some within =
     let e : depth ≡ suc (depth - 1) = omega arith in
@@ -128,21 +125,21 @@ above-back old new some within depth frames =
 
 -- the walk stands at a place of a text, and reads the children of a frame from the one behind the frame's job on
 pub record StandsAt
-    (shop : Shop) (number : ℕ) (whole : Reading) (text : List ℕ) (place : ℕ) (frames : List Frame) (frame : Frame)
-    (first last : List ℕ) (left : ℕ) : Type 0 where
+    (shop : Shop) (number : ℕ) (whole : Reading) (text : List ℕ) (place : ℕ) (frames : List NodeFrame)
+    (frame : NodeFrame) (first last : List ℕ) (left : ℕ) : Type 0 where
   pub frames_are : AreFrames shop number [] [] frames
   pub is_frame : IsFrame shop number first last frame
   pub answer : whole ≡ around shop number shop.jobs [] [] frames
       (children_read shop number frame.end left first last (left_from shop.jobs (first ++ last) (frame.job + 1))
       (drop place text))
 
-abbrev pub Stands : Shop → ℕ → Reading → List ℕ → ℕ → List Frame → Frame → Type 0
+abbrev pub Stands : Shop → ℕ → Reading → List ℕ → ℕ → List NodeFrame → NodeFrame → Type 0
 Stands shop number whole text place frames frame =
     StandsAt shop number whole text place frames frame (first_of [] frames) (last_of [] frames)
     (shop.jobs - length frames)
 
 -- at the root
-pub stands-root : (shop : Shop) (number : ℕ) (text : List ℕ) (frame : Frame) → end_bound shop [] [] < number →
+pub stands-root : (shop : Shop) (number : ℕ) (text : List ℕ) (frame : NodeFrame) → end_bound shop [] [] < number →
     1 ≤ shop.jobs → first_end (drop 0 text) ≡ Some frame.end → frame.job ≡ 0 → IsFrame shop number [] [] frame →
     Stands shop number (read_node shop number shop.jobs [] [] text) text 1 [] frame
 stands-root shop number text frame low some is before is_frame =
@@ -158,8 +155,8 @@ stands-root shop number text frame low some is before is_frame =
           next;
     }
 
-module _ (shop : Shop) (number : ℕ) (whole : Reading) (text : List ℕ) (place : ℕ) (frames : List Frame)
-    (frame : Frame) (first last : List ℕ) (left : ℕ)
+module _ (shop : Shop) (number : ℕ) (whole : Reading) (text : List ℕ) (place : ℕ) (frames : List NodeFrame)
+    (frame : NodeFrame) (first last : List ℕ) (left : ℕ)
     (stands : StandsAt shop number whole text place frames frame first last left) where
   -- a job left that is not marked has a child that is not below the number
   not-open : (job : ℕ) → 1 ≤ job → job ≤ shop.jobs → job_mark frame.below job ≡ 0 → has (first ++ last) job ≡ false →
@@ -226,7 +223,7 @@ module _ (shop : Shop) (number : ℕ) (whole : Reading) (text : List ℕ) (place
         (last_with frame.end last job) (drop place text) opened.2 more none)
         ∙ around-fault shop number shop.jobs [] [] frames (Tree 5)
 
-    module _ (child : Frame) (some : 1 < left) (is : first_end (drop place text) ≡ Some child.end)
+    module _ (child : NodeFrame) (some : 1 < left) (is : first_end (drop place text) ≡ Some child.end)
         (before : child.job ≡ 0) where
       read-child : whole ≡ around shop number shop.jobs [] [] frames
           (then_read (children_read shop number child.end (left - 1) (first_with frame.end first job)
@@ -250,8 +247,8 @@ module _ (shop : Shop) (number : ℕ) (whole : Reading) (text : List ℕ) (place
           (drop (place + 1) text)) next)
 
 -- the children of a frame are read, and it was the root's
-pub stands-done : (shop : Shop) (number : ℕ) (whole : Reading) (text : List ℕ) (place : ℕ) (frames : List Frame)
-    (frame : Frame) → Stands shop number whole text place frames frame →
+pub stands-done : (shop : Shop) (number : ℕ) (whole : Reading) (text : List ℕ) (place : ℕ) (frames : List NodeFrame)
+    (frame : NodeFrame) → Stands shop number whole text place frames frame →
     ((other : ℕ) → frame.job < other → other ≤ shop.jobs → job_mark frame.below other ≡ 0) → length frames ≡ 0 →
     whole ≡ Ok (drop place text)
 stands-done shop number whole text place [] frame stands none e =
@@ -260,8 +257,8 @@ stands-done shop number whole text place [] frame stands none e =
 stands-done shop number whole text place (f ∷ fs) frame stands none e = absurd (omega (arith, e))
 
 -- or the walk goes back
-pub stands-back : (shop : Shop) (number : ℕ) (whole : Reading) (text : List ℕ) (place : ℕ) (frames aboves : List Frame)
-    (frame above : Frame) → Stands shop number whole text place frames frame →
+pub stands-back : (shop : Shop) (number : ℕ) (whole : Reading) (text : List ℕ) (place : ℕ)
+    (frames aboves : List NodeFrame) (frame above : NodeFrame) → Stands shop number whole text place frames frame →
     ((other : ℕ) → frame.job < other → other ≤ shop.jobs → job_mark frame.below other ≡ 0) →
     frames ≡ aboves ++ above ∷ [] → Stands shop number whole text place aboves above
 stands-back shop number whole text place frames aboves frame above stands none e =
@@ -278,18 +275,18 @@ stands-back shop number whole text place frames aboves frame above stands none e
     }
 
 -- the job that was put there
-pub parent-back : (shop : Shop) (number : ℕ) (frames aboves : List Frame) (above : Frame) →
+pub parent-back : (shop : Shop) (number : ℕ) (frames aboves : List NodeFrame) (above : NodeFrame) →
     AreFrames shop number [] [] frames → frames ≡ aboves ++ above ∷ [] →
     IsParent shop number (first_of [] aboves) (last_of [] aboves) above
 parent-back shop number frames aboves above are e =
     (frames-pop shop number [] [] aboves above (subst (AreFrames shop number [] []) e are)).1
 
 -- the jobs left there
-pub left-back : (shop : Shop) (number : ℕ) (frames aboves : List Frame) (above : Frame) (old new : Marks) →
+pub left-back : (shop : Shop) (number : ℕ) (frames aboves : List NodeFrame) (above : NodeFrame) (old new : Marks) →
     AreFrames shop number [] [] frames → frames ≡ aboves ++ above ∷ [] →
     AreLeft shop (first_of [] frames) (last_of [] frames) old →
-    ((other : ℕ) → 1 ≤ other → other ≢ above.job → job_mark new other ≡ job_mark old other) → job_mark new above.job ≡ 1 →
-    AreLeft shop (first_of [] aboves) (last_of [] aboves) new
+    ((other : ℕ) → 1 ≤ other → other ≢ above.job → job_mark new other ≡ job_mark old other) →
+    job_mark new above.job ≡ 1 → AreLeft shop (first_of [] aboves) (last_of [] aboves) new
 left-back shop number frames aboves above old new are e left others same =
     let is = parent-back shop number frames aboves above are e in
     left-with shop above.end (first_of [] aboves) (last_of [] aboves) old new above.job is.is_frame.job is.left
@@ -298,8 +295,8 @@ left-back shop number frames aboves above old new are e left others same =
     (subst (λ fs. AreLeft shop (first_of [] fs) (last_of [] fs) old) e left))) others same
 
 -- or it goes to the next child below the number
-pub stands-child : (shop : Shop) (number : ℕ) (whole : Reading) (text : List ℕ) (place : ℕ) (frames : List Frame)
-    (frame child : Frame) (job : ℕ) → Stands shop number whole text place frames frame → frame.job < job →
+pub stands-child : (shop : Shop) (number : ℕ) (whole : Reading) (text : List ℕ) (place : ℕ) (frames : List NodeFrame)
+    (frame child : NodeFrame) (job : ℕ) → Stands shop number whole text place frames frame → frame.job < job →
     (job - 1) / 16 < (shop.jobs + 15) / 16 → job_mark frame.below job ≡ 1 →
     ((other : ℕ) → frame.job < other → other < job → job_mark frame.below other ≡ 0) →
     length frames + 1 < shop.jobs → first_end (drop place text) ≡ Some child.end → child.job ≡ 0 →
@@ -307,7 +304,7 @@ pub stands-child : (shop : Shop) (number : ℕ) (whole : Reading) (text : List �
     child → Stands shop number whole text (place + 1) (frames ++ with_job frame job ∷ []) child
 stands-child shop number whole text place frames frame child job stands above inside marked least room is before
     is_frame =
-    let put : Frame = with_job frame job in
+    let put : NodeFrame = with_job frame job in
     let first : List ℕ = first_of [] frames in
     let last : List ℕ = last_of [] frames in
     let left : ℕ = shop.jobs - length frames in
@@ -343,7 +340,7 @@ stands-child shop number whole text place frames frame child job stands above in
     (last_with frame.end last job) (left - 1)) (sym (first-push [] frames put)) at))
 
 -- the jobs left at the child
-pub left-child : (shop : Shop) (frames : List Frame) (put : Frame) (old new : Marks) →
+pub left-child : (shop : Shop) (frames : List NodeFrame) (put : NodeFrame) (old new : Marks) →
     AreLeft shop (first_of [] frames) (last_of [] frames) old →
     ((other : ℕ) → 1 ≤ other → other ≢ put.job → job_mark new other ≡ job_mark old other) → job_mark new put.job ≡ 0 →
     AreLeft shop (first_of [] (frames ++ put ∷ [])) (last_of [] (frames ++ put ∷ [])) new

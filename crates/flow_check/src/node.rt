@@ -8,20 +8,20 @@ ghost use Rattle.flow_shop.specs.Front.{IsFrontOf, IsWithinFront};
 ghost use Rattle.flow_shop.specs.Sequences.{has, jobs_left};
 ghost use Rattle.flow_shop.specs.Bound.{bound_at};
 ghost use Rattle.flow_check.specs.internal.Links.{AreLinks};
-ghost use Rattle.flow_check.specs.internal.Nodes.{IsNode, IsAt, AreTwoLeastTails, IsChild, IsLeastWithout};
+ghost use Rattle.flow_check.specs.internal.Nodes.{IsListNode, IsAt, AreTwoLeastTails, IsChild};
 ghost use Rattle.flow_nodes.specs.Nodes.{IsMachine, IsJob};
 ghost use Rattle.flow_check.specs.internal.Nodes.{grown, left_before};
 
 use crate::trees_text::TreesText;
 use flow_limits::MAX_MACHINES;
 use flow_nodes::time_of_all;
-use flow_shop::Instance;
+use flow_shop::{Instance, TwoLeast};
 
 /// What is kept of a list of jobs. The machine bounds of the list and of its children are computed from it. A job's
 /// tail after a machine is its time on all later machines. The two least tails after a machine are found when the
 /// first bound asks for them.
 #[derive(Clone, Copy)]
-pub(crate) struct Node {
+pub(crate) struct ListNode {
     /// The completion time of the list on each machine.
     pub(crate) front: [u64; MAX_MACHINES],
     /// For each machine the sum of the times of the jobs left.
@@ -32,27 +32,17 @@ pub(crate) struct Node {
     second: [u32; MAX_MACHINES],
 }
 
-/// The two least tails of the jobs left after one machine. Where two jobs have the least tail, both are the same. The
-/// greatest number stands for a tail where there is no such job.
-#[derive(Drop)]
-pub(crate) struct TwoLeastTails {
-    /// The least.
-    least: u32,
-    /// The second least.
-    second: u32,
-}
-
-impl Node {
+impl ListNode {
     /// The empty list.
     pub(crate) fn root(instance: &Instance) -> Self
-        ensures { IsNode instance.now [] result instance.now.jobs }
+        ensures { IsListNode instance.now [] result instance.now.jobs }
     {
         let machines = instance.machines();
         let mut work = [0; MAX_MACHINES];
         for machine in 1..machines + 1 {
             work[machine as usize - 1] = u64::from(time_of_all(instance, machine));
         }
-        Node {
+        ListNode {
             front: [0; MAX_MACHINES],
             work,
             least: [u32::MAX; MAX_MACHINES],
@@ -62,13 +52,13 @@ impl Node {
 
     /// Becomes the node of the child that has this job at its end, where `list` is the node of the list. Only the
     /// instance's machines are written.
-    pub(crate) fn become_child(&mut self, text: &TreesText, list: &Node, job: u16)
-        requires at { (jobs : List ℕ) × (left : ℕ) × IsNode text.now.shop.now jobs list.now left
+    pub(crate) fn become_child(&mut self, text: &TreesText, list: &ListNode, job: u16)
+        requires at { (jobs : List ℕ) × (left : ℕ) × IsListNode text.now.shop.now jobs list.now left
             × (has jobs job ≡ false) }
         requires job { IsJob text.now.shop.now job }
-        ensures { (jobs : List ℕ) (left : ℕ) → IsNode text.now.shop.now jobs list.now (suc left) →
+        ensures { (jobs : List ℕ) (left : ℕ) → IsListNode text.now.shop.now jobs list.now (suc left) →
             has jobs job ≡ false →
-            IsNode text.now.shop.now (jobs ++ job ∷ []) self.new left }
+            IsListNode text.now.shop.now (jobs ++ job ∷ []) self.new left }
     {
         let row = &text.rows[job as usize - 1];
         let machines = text.shop.machines();
@@ -102,38 +92,29 @@ fn completion_of(text: &TreesText, front: &[u64; MAX_MACHINES], job: u16, machin
     free
 }
 
-/// The least of some numbers without one of them, from the two least of all.
-pub(crate) fn least_without(one: u32, least: u32, second: u32) -> u32
-    ensures { IsLeastWithout one least second result }
-{
-    if one == least { second } else { least }
-}
-
 /// Finds the two least tails of the jobs left after a machine.
-fn find_tails(text: &TreesText, links: &[u16], machine: u16) -> TwoLeastTails
+fn find_tails(text: &TreesText, links: &[u16], machine: u16) -> TwoLeast
     requires links { (list : List ℕ) × AreLinks text.now.shop.now.jobs list links.now }
     requires machine { IsMachine text.now.shop.now machine }
     ensures { (list : List ℕ) → AreLinks text.now.shop.now.jobs list links.now →
         AreTwoLeastTails text.now.shop.now list machine result }
 {
     let place = machine as usize - 1;
-    let mut least = u32::MAX;
-    let mut second = u32::MAX;
+    let mut two = TwoLeast::none();
     let mut last = 0;
     'jobs: loop {
         let job = links[last as usize];
         if job == 0 {
-            return TwoLeastTails { least, second };
+            return two;
         }
         let tail = text.rows[job as usize - 1].tails[place];
-        second = second.min(least.max(tail));
-        least = least.min(tail);
+        two = two.with(tail);
         last = job;
     }
 }
 
 /// The two least tails of the jobs left after a machine: those that the node keeps, or else they are found and kept.
-fn tails_of(text: &TreesText, node: &mut Node, links: &[u16], machine: u16) -> TwoLeastTails
+fn tails_of(text: &TreesText, node: &mut ListNode, links: &[u16], machine: u16) -> TwoLeast
     requires at { (list : List ℕ) × (left : ℕ) × IsAt text.now.shop.now list node.old links.now left }
     requires machine { IsMachine text.now.shop.now machine }
     ensures tails { (list : List ℕ) (left : ℕ) → IsAt text.now.shop.now list node.old links.now left →
@@ -144,7 +125,7 @@ fn tails_of(text: &TreesText, node: &mut Node, links: &[u16], machine: u16) -> T
     let place = machine as usize - 1;
     let known = node.least[place];
     if known != u32::MAX {
-        return TwoLeastTails {
+        return TwoLeast {
             least: known,
             second: node.second[place],
         };
@@ -156,10 +137,10 @@ fn tails_of(text: &TreesText, node: &mut Node, links: &[u16], machine: u16) -> T
 }
 
 /// The completion time of a list, or of a child of it, on the last machine.
-pub(crate) fn makespan_at(text: &TreesText, node: &Node, child: Option<u16>) -> u64
-    requires at { (list : List ℕ) × (left : ℕ) × IsNode text.now.shop.now list node.now left
+pub(crate) fn makespan_at(text: &TreesText, node: &ListNode, child: Option<u16>) -> u64
+    requires at { (list : List ℕ) × (left : ℕ) × IsListNode text.now.shop.now list node.now left
         × IsChild text.now.shop.now.jobs list child }
-    ensures { (list : List ℕ) (left : ℕ) → IsNode text.now.shop.now list node.now left →
+    ensures { (list : List ℕ) (left : ℕ) → IsListNode text.now.shop.now list node.now left →
         result ≡ completion text.now.shop.now (grown list child) text.now.shop.now.machines }
 {
     let machines = text.shop.machines();
@@ -172,7 +153,7 @@ pub(crate) fn makespan_at(text: &TreesText, node: &Node, child: Option<u16>) -> 
 /// The machine bound of a list, or of a child of it, where jobs are left.
 pub(crate) fn bound(
     text: &TreesText,
-    node: &mut Node,
+    node: &mut ListNode,
     links: &[u16],
     child: Option<u16>,
     machine: u16,
@@ -194,7 +175,7 @@ pub(crate) fn bound(
         None => node.front[place] + node.work[place] + u64::from(two.least),
         Some(job) => {
             let row = &text.rows[job as usize - 1];
-            let tail = least_without(row.tails[place], two.least, two.second);
+            let tail = two.without(row.tails[place]);
             let work = node.work[place] - u64::from(row.times[place]);
             completion_of(text, &node.front, job, machine) + work + u64::from(tail)
         }

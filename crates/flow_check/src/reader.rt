@@ -5,10 +5,10 @@ ghost use Rattle.flow_check.specs.internal.Links.{AreLinks, IsPlace};
 ghost use Rattle.flow_check.specs.internal.Reader.{Stands, Opened, Closed, frame_at};
 ghost use Rattle.flow_shop.specs.Limits.{most_jobs};
 
-use crate::node::Node;
+use crate::node::ListNode;
 use crate::release::{TwoLeastLags, forget, unknown_lags};
 use crate::trees_text::TreesText;
-use flow_shop::Instance;
+use flow_shop::{Instance, has_releases};
 use std::alloc::{AllocError, Global};
 
 /// A place in the text of the trees.
@@ -22,9 +22,9 @@ pub(crate) struct Spot {
 
 /// A list of jobs, and which of its children is being read.
 #[derive(Drop)]
-pub(crate) struct Frame {
+pub(crate) struct ListFrame {
     /// What is kept of the list.
-    pub(crate) node: Node,
+    pub(crate) node: ListNode,
     /// The job that the child has at its end.
     pub(crate) job: u16,
     /// The job left before it, or 0. Its link leads to `job` again once the child is read.
@@ -39,7 +39,7 @@ pub(crate) struct TreeReader {
     pub(crate) links: Vec<u16>,
     /// The frames of the list and of the lists above it: at place `k` that of the list whose children have `k` jobs
     /// left.
-    pub(crate) frames: Vec<Frame>,
+    pub(crate) frames: Vec<ListFrame>,
     /// In version 2 the two least lags of the list's jobs left to each machine, where they are found; in version 1
     /// there are none.
     pub(crate) lags: Vec<Option<TwoLeastLags>>,
@@ -62,14 +62,14 @@ fn all_links(alloc: Global, jobs: u16) -> Result<Vec<u16>, AllocError>
 }
 
 /// A frame for each job, all with the same node.
-fn all_frames(alloc: Global, jobs: u16, node: &Node) -> Result<Vec<Frame>, AllocError>
+fn all_frames(alloc: Global, jobs: u16, node: &ListNode) -> Result<Vec<ListFrame>, AllocError>
     ensures size { IfOk result (λ frames. length frames.items ≡ jobs) }
     ensures each { IfOk result (λ frames. (place : ℕ) → place < jobs →
         (frame_at frames.items place).node ≡ node.now) }
 {
     let mut frames = Vec::with_capacity(alloc, jobs as usize)?;
     'frames: while frames.len() < jobs as usize {
-        frames.push(Frame {
+        frames.push(ListFrame {
             node: *node,
             job: 0,
             last: 0,
@@ -89,8 +89,13 @@ impl TreeReader {
     {
         let jobs = instance.jobs();
         let links = all_links(alloc, jobs)?;
-        let frames = all_frames(alloc, jobs, &Node::root(instance))?;
-        let lags = unknown_lags(alloc, if version == 2 { instance.machines() } else { 0 })?;
+        let frames = all_frames(alloc, jobs, &ListNode::root(instance))?;
+        let places = if has_releases(version) {
+            instance.machines()
+        } else {
+            0
+        };
+        let lags = unknown_lags(alloc, places)?;
         Ok(TreeReader {
             links,
             frames,

@@ -8,12 +8,13 @@ ghost use Rattle.flow_shop.specs.Sequences.{jobs_left};
 ghost use Rattle.flow_shop.specs.Bound.{bound_at, bound_of, front_of, release};
 ghost use Rattle.flow_check.specs.internal.Links.{AreLinks};
 ghost use Rattle.flow_nodes.specs.Nodes.{IsMachine, IsJob};
-ghost use Rattle.flow_check.specs.internal.Nodes.{IsNode, IsAt, IsChild, grown, left_before};
+ghost use Rattle.flow_check.specs.internal.Nodes.{IsListNode, IsAt, IsChild, grown, left_before};
 ghost use Rattle.flow_check.specs.internal.Lags.{AreTwoLeastLagsTo, AreKept, AreUnknown, TakesIn};
 
-use crate::node::{Node, bound, least_without};
+use crate::node::{ListNode, bound};
 use crate::trees_text::TreesText;
 use flow_limits::MAX_MACHINES;
+use flow_shop::{TwoLeast, has_releases};
 use std::alloc::{AllocError, Global};
 
 /// The two least lags of the jobs left to one machine, from each machine up to it. A job's lag from a machine to
@@ -41,13 +42,15 @@ pub(crate) fn unknown_lags(
     Ok(lags)
 }
 
-/// Forgets all lags that are known.
+/// Forgets all lags that are known. No other place is written, since most are not known each time.
 pub(crate) fn forget(lags: &mut [Option<TwoLeastLags>])
     ensures size { length lags.new ≡ length lags.old }
     ensures none { AreUnknown lags.new }
 {
     for place in 0..lags.len() {
-        lags[place] = None;
+        if lags[place].is_some() {
+            lags[place] = None;
+        }
     }
 }
 
@@ -74,9 +77,13 @@ impl TwoLeastLags {
     {
         for from in 1..machine + 1 {
             let place = from as usize - 1;
-            let lag = lag(text, job, from, machine);
-            self.second[place] = self.second[place].min(self.least[place].max(lag));
-            self.least[place] = self.least[place].min(lag);
+            let two = TwoLeast {
+                least: self.least[place],
+                second: self.second[place],
+            };
+            let more = two.with(lag(text, job, from, machine));
+            self.least[place] = more.least;
+            self.second[place] = more.second;
         }
     }
 }
@@ -133,11 +140,11 @@ fn lags_of(
 }
 
 /// How much later than its front a machine is released for the jobs left of a list.
-fn own_gain(text: &TreesText, node: &Node, lags: &TwoLeastLags, machine: u16) -> u64
-    requires at { (list : List ℕ) × (left : ℕ) × IsNode text.now.shop.now list node.now (suc left)
+fn own_gain(text: &TreesText, node: &ListNode, lags: &TwoLeastLags, machine: u16) -> u64
+    requires at { (list : List ℕ) × (left : ℕ) × IsListNode text.now.shop.now list node.now (suc left)
         × AreTwoLeastLagsTo text.now.shop.now list machine lags.now }
     requires machine { IsMachine text.now.shop.now machine }
-    ensures { (list : List ℕ) (left : ℕ) → IsNode text.now.shop.now list node.now (suc left) →
+    ensures { (list : List ℕ) (left : ℕ) → IsListNode text.now.shop.now list node.now (suc left) →
         AreTwoLeastLagsTo text.now.shop.now list machine lags.now →
         slice_index (front_of text.now.shop.now list) (machine - 1) + result
         ≡ release text.now.shop.now (front_of text.now.shop.now list)
@@ -153,12 +160,12 @@ fn own_gain(text: &TreesText, node: &Node, lags: &TwoLeastLags, machine: u16) ->
 
 /// How much later than its front a machine is released for the jobs left of a list's child that has this job at its
 /// end.
-fn child_gain(text: &TreesText, node: &Node, lags: &TwoLeastLags, job: u16, machine: u16) -> u64
-    requires at { (list : List ℕ) × (left : ℕ) × IsNode text.now.shop.now list node.now (suc (suc left))
+fn child_gain(text: &TreesText, node: &ListNode, lags: &TwoLeastLags, job: u16, machine: u16) -> u64
+    requires at { (list : List ℕ) × (left : ℕ) × IsListNode text.now.shop.now list node.now (suc (suc left))
         × AreTwoLeastLagsTo text.now.shop.now list machine lags.now
         × IsChild text.now.shop.now.jobs list (Some job) }
     requires machine { IsMachine text.now.shop.now machine }
-    ensures { (list : List ℕ) (left : ℕ) → IsNode text.now.shop.now list node.now (suc (suc left)) →
+    ensures { (list : List ℕ) (left : ℕ) → IsListNode text.now.shop.now list node.now (suc (suc left)) →
         AreTwoLeastLagsTo text.now.shop.now list machine lags.now →
         IsChild text.now.shop.now.jobs list (Some job) →
         slice_index (front_of text.now.shop.now (list ++ job ∷ [])) (machine - 1) + result
@@ -172,8 +179,11 @@ fn child_gain(text: &TreesText, node: &Node, lags: &TwoLeastLags, job: u16, mach
         let place = from as usize - 1;
         free = node.front[place].max(free) + u64::from(row.times[place]);
         let own = lag(text, job, from, machine);
-        let lag = least_without(own, lags.least[place], lags.second[place]);
-        release = release.max(free + u64::from(lag));
+        let two = TwoLeast {
+            least: lags.least[place],
+            second: lags.second[place],
+        };
+        release = release.max(free + u64::from(two.without(own)));
     }
     release - free
 }
@@ -181,7 +191,7 @@ fn child_gain(text: &TreesText, node: &Node, lags: &TwoLeastLags, job: u16, mach
 /// How much the bound of the version is above the machine bound of a list, or of a child of it, where jobs are left.
 fn gain(
     text: &TreesText,
-    node: &Node,
+    node: &ListNode,
     kept: &mut [Option<TwoLeastLags>],
     links: &[u16],
     child: Option<u16>,
@@ -202,7 +212,7 @@ fn gain(
         bound_at text.now.shop.now (grown list child) machine + result
         ≡ bound_of text.now.version text.now.shop.now (grown list child) machine }
 {
-    if text.version != 2 {
+    if !has_releases(text.version) {
         return 0;
     }
     let lags = lags_of(text, kept, links, machine);
@@ -216,7 +226,7 @@ fn gain(
 /// left. The machine bound alone is often enough.
 pub(crate) fn reaches(
     text: &TreesText,
-    node: &mut Node,
+    node: &mut ListNode,
     kept: &mut [Option<TwoLeastLags>],
     links: &[u16],
     child: Option<u16>,

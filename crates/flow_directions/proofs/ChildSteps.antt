@@ -12,9 +12,9 @@ use Rattle.flow_nodes.proofs.KeptNodes.{lengths}
 use Rattle.flow_directions.specs.Search.{directions_of, first_below}
 use Rattle.flow_directions.specs.internal.Lists.{HasLists}
 use Rattle.flow_nodes.specs.Marks.{chosen}
-use Rattle.flow_directions.specs.internal.Packs.{HasLeft, IsBranch, jobs_at}
+use Rattle.flow_directions.specs.internal.Packs.{HasLeft, IsMarkedNode, jobs_at}
 use Rattle.flow_directions.specs.internal.Walk.{Ends, IsAt, KeepsPacks}
-use Rattle.flow_directions.specs.declared.branch.Branch.{Branch}
+use Rattle.flow_directions.specs.declared.marked_node.MarkedNode.{MarkedNode}
 use Rattle.flow_directions.specs.declared.lists.Lists.{Lists}
 use Rattle.flow_directions.specs.declared.pack.Pack.{Pack}
 use Rattle.flow_directions.specs.declared.walk.SearchStop.{SearchStop}
@@ -98,14 +98,14 @@ pub record IsNext {V : Type 0} (shop : Shop) (number : ℕ) (here : Pack V) (end
   pub job_is : job ≡ slice_index here.names.items place
 
 module _ {V : Type 0} {list : V → List ℕ} {cap width : ℕ} {shop : Shop} {number left : ℕ} {packs : List (Pack V)}
-    {branch : Branch} {before : Lists} {first last : List ℕ}
-    (at : IsAt list cap width shop number first last left before branch packs) (none : Pack V) where
+    {marked : MarkedNode} {before : Lists} {first last : List ℕ}
+    (at : IsAt list cap width shop number first last left before marked packs) (none : Pack V) where
   pub pack-few : length (slice_index_or packs 0 none).groups.items ≤ 50
-  pack-few = (at.is_branch none).is_pack.room.few
+  pack-few = (at.is_marked none).is_pack.room.few
 
   -- how many jobs the lists have
   pub at-count : length first + length last + left ≡ shop.jobs
-  at-count = omega (arith, (at.is_branch none).is_node.count, at.count)
+  at-count = omega (arith, (at.is_marked none).is_node.count, at.count)
 
   -- where it is taken from the marks
   pub next-here : {end : End} {old new : List ℕ} {lists : Lists} {marks rest : Marks} {place job : ℕ}
@@ -118,7 +118,7 @@ module _ {V : Type 0} {list : V → List ℕ} {cap width : ℕ} {shop : Shop} {n
       IsNext shop number (slice_index_or packs 0 none) end first last old new lists marks rest place job
   next-here {place = place} {job = job} packs2 groups keep count within popped read stands =
       let names : List ℕ = (slice_index_or packs 0 none).names.items in
-      let size : length names ≡ groups * 16 = omega (arith, (at.is_branch none).is_pack.room.names, count) in
+      let size : length names ≡ groups * 16 = omega (arith, (at.is_marked none).is_pack.room.names, count) in
       let inside : place < length names = omega (arith, within, size) in
       record {
         within = inside;
@@ -145,25 +145,26 @@ module _ {V : Type 0} {list : V → List ℕ} {cap width : ℕ} {shop : Shop} {n
     job-open = stands-job.each.0
 
     -- the search stands at the child
-    pub child-at : (lists2 : Lists) (child : Branch) (packs2 : List (Pack V)) → 1 ≤ length packs →
+    pub child-at : (lists2 : Lists) (child : MarkedNode) (packs2 : List (Pack V)) → 1 ≤ length packs →
         KeepsPacks shop packs packs2 →
         HasLists shop.jobs (first_with end first job) (last_with end last job) lists2 →
         IsNode shop (first_with end first job) (last_with end last job) child.node →
-        ((names : List ℕ) → HasLeft shop first last names branch.left → place < length names →
+        ((names : List ℕ) → HasLeft shop first last names marked.left → place < length names →
         slice_index names place ≡ job →
         HasLeft shop (first_with end first job) (last_with end last job) names child.left) →
         IsAt list cap width shop number (first_with end first job) (last_with end last job) (left - 1) lists2 child
         packs2
     child-at lists2 child packs2 some keep has_lists node has_left = record {
       below = job-open.below;
-      is_branch = λ other.
+      is_marked = λ other.
           let same : slice_index_or packs2 0 other ≡ slice_index_or packs 0 none =
           keep.same other ∙ head-same packs other none some in
-          subst (λ p. IsBranch list cap width shop (first_with end first job) (last_with end last job) p child)
+          subst (λ p. IsMarkedNode list cap width shop (first_with end first job) (last_with end last job) p child)
           (sym same) (record {
             is_node = node;
-            is_pack = (at.is_branch none).is_pack;
-            left = has_left (slice_index_or packs 0 none).names.items (at.is_branch none).left next.within (sym next.job_is);
+            is_pack = (at.is_marked none).is_pack;
+            left = has_left (slice_index_or packs 0 none).names.items (at.is_marked none).left next.within
+                (sym next.job_is);
           });
       has_lists = has_lists;
       count = omega (

@@ -1,7 +1,8 @@
 -- The end at which a node is opened: that of the plain rule, or the other one.
-use Rattle.std.proofs.Common.{◌≡◌, ℕ, suc, ◌*◌, ◌<◌, ◌≤◌, Bool, true, false, cond, ◌&&◌, nat_lt, nat_le, List, ◌++◌}
-use Rattle.std.proofs.Common.{length, refl, ap, sym, ◌∙◌, inl, inr, arith}
-use Rattle.std.proofs.lemmas.Bool.Decides.{leb_tells}
+use Rattle.std.proofs.Common.{◌≡◌, ℕ, ◌*◌, ◌<◌, ◌≤◌, Bool, true, false, cond, ◌&&◌, nat_lt, nat_le, List, ◌++◌}
+use Rattle.std.proofs.Common.{length, ap, sym, ◌∙◌}
+use Rattle.std.proofs.Math.Bool.{and-false}
+use Rattle.std.proofs.lemmas.Bool.{lt-ltb, le-ltb}
 use Rattle.flow_shop.specs.Shop.{Shop}
 use Rattle.flow_shop.specs.Sequences.{jobs_left}
 use Rattle.flow_shop.specs.declared.end.End.{End}
@@ -11,25 +12,9 @@ use Rattle.flow_directions.specs.internal.Opened.{AreEnds}
 use Rattle.flow_directions.specs.declared.below.Opened.{Opened}
 use Rattle.flow_directions.specs.declared.pack.Pack.{Pack}
 
-lt-true : (a b : ℕ) → a < b → nat_lt a b ≡ true
-lt-true a b h = elim (leb_tells (suc a) b) [
-  | inl below ↦ below.0
-  | inr above ↦ absurd (omega (arith, above.1, h))
-]
-
-lt-false : (a b : ℕ) → b ≤ a → nat_lt a b ≡ false
-lt-false a b h = elim (leb_tells (suc a) b) [
-  | inl below ↦ absurd (omega (arith, below.1, h))
-  | inr above ↦ above.0
-]
-
 -- whether the search looks ahead, by the counts at the plain rule's end and at the other one, and that of the jobs left
 abbrev by_close : ℕ → ℕ → ℕ → Bool
 by_close plain other left = nat_le 2 plain && nat_le (2 * other) (3 * plain) && nat_le 3 left
-
-and-false : (b : Bool) → b && false ≡ false
-and-false true = refl
-and-false false = refl
 
 module _ {V : Type 0} (shop : Shop) (number : ℕ) (first last : List ℕ) (pack : Pack V) (plain other : Opened)
     (are : AreEnds shop number first last pack plain other) where
@@ -72,7 +57,7 @@ module _ {V : Type 0} (shop : Shop) (number : ℕ) (first last : List ℕ) (pack
       plain.end ≡ end_taken shop number first last
   plain-kept lighter =
       are.plain_is ∙ sym (taken-is
-      ∙ ap (chosen_by (looks_ahead shop number first last)) (lt-false (weight shop number other.end first last)
+      ∙ ap (chosen_by (looks_ahead shop number first last)) (le-ltb (weight shop number other.end first last)
       (weight shop number plain.end first last) lighter)
       ∙ ap (λ b. cond b (other_end shop number first last) (plain_end shop number first last))
       (and-false (looks_ahead shop number first last)))
@@ -85,5 +70,5 @@ module _ {V : Type 0} (shop : Shop) (number : ℕ) (first last : List ℕ) (pack
       are.other_is ∙ sym (taken-is
       ∙ ap (λ b. chosen_by b (nat_lt (weight shop number other.end first last)
       (weight shop number plain.end first last))) close
-      ∙ ap (chosen_by true) (lt-true (weight shop number other.end first last)
+      ∙ ap (chosen_by true) (lt-ltb (weight shop number other.end first last)
       (weight shop number plain.end first last) lighter))

@@ -16,7 +16,7 @@ use Rattle.flow_directions.specs.declared.found.Found.TheVariants.{Proved, Below
 use Rattle.flow_directions.specs.declared.found.ProveFault.{ProveFault}
 use Rattle.flow_directions.specs.declared.found.ProveFault.TheVariants.{Jobs, Memory}
 use Rattle.flow_nodes.specs.Marks.{chosen}
-use Rattle.flow_directions.specs.internal.Packs.{HasRoom, IsPack, IsBranch}
+use Rattle.flow_directions.specs.internal.Packs.{HasRoom, IsPack, IsMarkedNode}
 use Rattle.flow_directions.specs.internal.Reached.{IsSequenceAfter}
 use Rattle.flow_directions.specs.internal.Start.{IsStart}
 use Rattle.flow_directions.specs.internal.Walk.{Ends, IsAt}
@@ -115,8 +115,8 @@ module _ {V : Type 0} (list : V → List ℕ) (cap width : ℕ) (shop : Shop) (n
       (record { node = start.node; left = words }) new
   start-at first last is low = record {
     below = low;
-    is_branch = λ none.
-        subst (λ p. IsBranch list cap width shop first last p (record { node = start.node; left = words }))
+    is_marked = λ none.
+        subst (λ p. IsMarkedNode list cap width shop first last p (record { node = start.node; left = words }))
         (sym (first-pack none)) (record {
           is_node = is.is_node;
           is_pack = is_pack;

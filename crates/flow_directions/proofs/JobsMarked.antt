@@ -1,6 +1,6 @@
 -- The jobs at the marked places of a pack: those left, and those whose children are below a number.
-use Rattle.std.proofs.Common.{◌≡◌, ℕ, zero, suc, ◌+◌, ◌*◌, ◌/◌, ◌%◌, ◌<◌, Bool, true, false, not}
-use Rattle.std.proofs.Common.{List, [], ◌∷◌, ◌++◌, length, slice_index, slice_index_or, take, drop, refl, ap, sym}
+use Rattle.std.proofs.Common.{◌≡◌, ℕ, zero, suc, ◌+◌, ◌*◌, ◌/◌, ◌%◌, ◌<◌, true, false, not}
+use Rattle.std.proofs.Common.{List, [], ◌∷◌, ◌++◌, length, slice_index, slice_index_or, take, drop, ap, sym}
 use Rattle.std.proofs.Common.{◌∙◌, subst, inl, inr, arith}
 use Rattle.std.specs.Int.{bit_at}
 use Rattle.std.specs.Global.{Vec}
@@ -12,9 +12,10 @@ use Rattle.flow_shop.specs.Shop.{Shop, numbers}
 use Rattle.flow_shop.specs.Sequences.{has, jobs_left}
 use Rattle.flow_nodes.specs.Groups.{IsGroup}
 use Rattle.flow_nodes.specs.Marks.{mark, chosen}
-use Rattle.flow_directions.specs.internal.Packs.{IsBranch}
-use Rattle.flow_directions.specs.declared.branch.Branch.{Branch}
+use Rattle.flow_directions.specs.internal.Packs.{IsMarkedNode}
+use Rattle.flow_directions.specs.declared.marked_node.MarkedNode.{MarkedNode}
 use Rattle.flow_directions.specs.declared.pack.Pack.{Pack}
+use Rattle.flow_shop.proofs.Bools.{not-true}
 use Rattle.flow_nodes.proofs.MarkedNames.{kept, kept-yes, kept-no}
 use Rattle.flow_nodes.proofs.ChosenNames.{chosen-kept}
 
@@ -35,10 +36,6 @@ kept-each P marks (name ∷ names) each (suc place) within marked = elim (cases_
       kept-each P (λ i. marks (suc i)) names (subst (AllByRecursion P) (kept-no marks name names other) each) place
       (omega arith) marked
 ]
-
-not-true : (b : Bool) → not b ≡ true → b ≡ false
-not-true true is = sym is
-not-true false is = refl
 
 -- where the jobs at marked places are those that a list leaves, the list does not have the job at a marked place
 pub marked-left : (n : ℕ) (list words names : List ℕ) → chosen words names ≡ jobs_left n list → (place : ℕ) →
@@ -67,16 +64,16 @@ lane-mark words group lane low =
     ap (λ w. bit_at (slice_index words w) ((group * 16 + lane) % 16)) word
     ∙ ap (bit_at (slice_index words group)) there
 
--- what is kept of a node has the group at a place, and its jobs at marked lanes are left
+-- a marked node has the group at a place, and its jobs at marked lanes are left
 pub group-of : {V : Type 0} (list : V → List ℕ) (cap width : ℕ) (shop : Shop) (first last : List ℕ) (pack : Pack V)
-    (branch : Branch) (group : ℕ) (names : List ℕ) (vector : Vec V) (vectors : List V) →
-    IsBranch list cap width shop first last pack branch → group < length pack.groups.items →
+    (marked : MarkedNode) (group : ℕ) (names : List ℕ) (vector : Vec V) (vectors : List V) →
+    IsMarkedNode list cap width shop first last pack marked → group < length pack.groups.items →
     names ≡ take 16 (drop (group * 16) pack.names.items) → vector ≡ slice_index_or pack.groups.items group vector →
     vectors ≡ vector.items →
     IsGroup list cap width shop names vectors
-    × ((lane : ℕ) → lane < 16 → bit_at (slice_index branch.left.words group) lane ≡ 1 →
+    × ((lane : ℕ) → lane < 16 → bit_at (slice_index marked.left.words group) lane ≡ 1 →
     has (first ++ last) (slice_index names lane) ≡ false)
-group-of list cap width shop first last pack branch group names vector vectors is within names_are vector_is
+group-of list cap width shop first last pack marked group names vector vectors is within names_are vector_is
     vectors_are = (
       subst (λ l. IsGroup list cap width shop l vectors) (sym names_are)
           (subst (IsGroup list cap width shop (take 16 (drop (group * 16) pack.names.items)))
@@ -84,7 +81,7 @@ group-of list cap width shop first last pack branch group names vector vectors i
       λ lane low bit.
           ap (λ l. has (first ++ last) (slice_index l lane)) names_are
           ∙ ap (has (first ++ last)) (group-name pack.names.items group lane low)
-          ∙ marked-left shop.jobs (first ++ last) branch.left.words pack.names.items is.left (group * 16 + lane)
+          ∙ marked-left shop.jobs (first ++ last) marked.left.words pack.names.items is.left (group * 16 + lane)
           (omega (arith, low, within, is.is_pack.room.names))
-          (lane-mark branch.left.words group lane low ∙ bit),
+          (lane-mark marked.left.words group lane low ∙ bit),
     )

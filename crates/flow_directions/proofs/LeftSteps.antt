@@ -2,10 +2,12 @@
 use Rattle.std.proofs.Common.{◌≡◌, ◌≢◌, ℕ, zero, suc, ◌+◌, ◌-◌, ◌<◌, ◌≤◌, Bool, true, false, not, cond, ◌||◌, nat_eq}
 use Rattle.std.proofs.Common.{List, [], ◌∷◌, ◌++◌, filter, refl, ap, sym, ◌∙◌, inl, inr, arith}
 use Rattle.std.specs.List.{range_with_len}
-use Rattle.std.proofs.lemmas.Bool.{cases_Bool, eq-eqb, ne_eqb, false≢true}
+use Rattle.std.proofs.lemmas.Bool.{cases_Bool, ne_eqb, false≢true}
 use Rattle.flow_shop.specs.Sequences.{has, jobs_left}
 use Rattle.flow_shop.specs.Directions.{first_with, last_with}
 use Rattle.flow_shop.specs.declared.end.End.{End}
+use Rattle.flow_shop.proofs.Bools.{or-true}
+use Rattle.flow_shop.proofs.Lists.{has-first}
 use Rattle.flow_shop.proofs.EndSteps.{left-child}
 use Rattle.flow_shop.proofs.Taken.{left_under, left_from, left-split, left-without}
 
@@ -37,9 +39,6 @@ tail-is x y xs ys e = ap tail_of e
     tail_of [] = []
     tail_of (z ∷ zs) = zs
 
-here-has : (job : ℕ) (xs : List ℕ) → has (job ∷ xs) job ≡ true
-here-has job xs = ap (λ b. b || has xs job) (eq-eqb job job refl)
-
 behind-has : (x job : ℕ) (xs : List ℕ) → has (x ∷ xs) job ≡ false → has xs job ≡ false
 behind-has x job xs none = elim (cases_Bool (nat_eq job x)) [
   | inl is ↦ absurd (false≢true (sym none ∙ ap (λ b. b || has xs job) is))
@@ -47,12 +46,8 @@ behind-has x job xs none = elim (cases_Bool (nat_eq job x)) [
 ]
 
 later-has : (job : ℕ) (xs ys : List ℕ) → has (xs ++ job ∷ ys) job ≡ true
-later-has job [] ys = here-has job ys
+later-has job [] ys = has-first job ys
 later-has job (x ∷ xs) ys = ap (λ b. nat_eq job x || b) (later-has job xs ys) ∙ or-true (nat_eq job x)
-  where
-    or-true : (b : Bool) → (b || true) ≡ true
-    or-true true = refl
-    or-true false = refl
 
 -- a list is parted in one way at an element that it has once
 parted-one : (job : ℕ) (us fs xs ys : List ℕ) → has us job ≡ false → has fs job ≡ false →
@@ -62,7 +57,7 @@ parted-one job [] fs (x ∷ xs) ys before behind e =
     absurd (false≢true (sym behind ∙ ap (λ l. has l job) (tail-is job x fs (xs ++ job ∷ ys) e) ∙ later-has job xs ys))
 parted-one job (u ∷ us) fs [] ys before behind e =
     absurd (false≢true (sym before
-    ∙ ap (λ j. has (j ∷ us) job) (head-is u job (us ++ job ∷ fs) ys e) ∙ here-has job us))
+    ∙ ap (λ j. has (j ∷ us) job) (head-is u job (us ++ job ∷ fs) ys e) ∙ has-first job us))
 parted-one job (u ∷ us) fs (x ∷ xs) ys before behind e =
     ap (λ l. u ∷ l) (parted-one job us fs xs ys (behind-has u job us before) behind
     (tail-is u x (us ++ job ∷ fs) (xs ++ job ∷ ys) e))

@@ -4,9 +4,9 @@ use Rattle.std.proofs.Common.{slice_index_or, refl, ap, sym, ◌∙◌, subst, a
 use Rattle.std.proofs.lemmas.List.{get_or-set_same}
 use Rattle.flow_shop.specs.Shop.{Shop}
 use Rattle.flow_nodes.specs.Marks.{chosen}
-use Rattle.flow_directions.specs.internal.Packs.{HasRoom, IsBranch, IsPack, jobs_at}
+use Rattle.flow_directions.specs.internal.Packs.{HasRoom, IsMarkedNode, IsPack, jobs_at}
 use Rattle.flow_directions.specs.internal.Walk.{IsAt}
-use Rattle.flow_directions.specs.declared.branch.Branch.{Branch}
+use Rattle.flow_directions.specs.declared.marked_node.MarkedNode.{MarkedNode}
 use Rattle.flow_directions.specs.declared.lists.Lists.{Lists}
 use Rattle.flow_directions.specs.declared.pack.Pack.{Pack}
 use Rattle.flow_nodes.specs.declared.marks.Marks.{Marks}
@@ -45,26 +45,26 @@ module _ {V : Type 0} (packs here deeper : List (Pack V)) (value : packs ≡ her
       (each (suc k) d (omega (arith, within, ap length value, length-append here deeper, one)))
 
 module _ {V : Type 0} (list : V → List ℕ) (cap width : ℕ) (shop : Shop) (number left : ℕ) (packs : List (Pack V))
-    (branch : Branch) (lists : Lists) (first last : List ℕ)
-    (at : IsAt list cap width shop number first last left lists branch packs) (none : Pack V) where
-  jobs-count : length (jobs_at (slice_index_or packs 0 none) branch.left) ≡ left
-  jobs-count = ap length (at.is_branch none).left ∙ at.count
+    (marked : MarkedNode) (lists : Lists) (first last : List ℕ)
+    (at : IsAt list cap width shop number first last left lists marked packs) (none : Pack V) where
+  jobs-count : length (jobs_at (slice_index_or packs 0 none) marked.left) ≡ left
+  jobs-count = ap length (at.is_marked none).left ∙ at.count
 
   -- the search stands there too
   pub packed-at : (deeper : List (Pack V)) (new : Pack V) (marks : Marks) → 1 ≤ length deeper →
       IsPack list cap width shop new → chosen marks.words new.names.items ≡ take left new.names.items →
-      take (length (jobs_at (slice_index_or packs 0 none) branch.left)) new.names.items
-      ≡ jobs_at (slice_index_or packs 0 none) branch.left →
-      IsAt list cap width shop number first last left lists (record { node = branch.node; left = marks })
+      take (length (jobs_at (slice_index_or packs 0 none) marked.left)) new.names.items
+      ≡ jobs_at (slice_index_or packs 0 none) marked.left →
+      IsAt list cap width shop number first last left lists (record { node = marked.node; left = marks })
       (set deeper 0 new)
   packed-at deeper new marks some is_pack begins jobs = record {
     below = at.below;
-    is_branch = λ other.
-        subst (λ p. IsBranch list cap width shop first last p (record { node = branch.node; left = marks }))
+    is_marked = λ other.
+        subst (λ p. IsMarkedNode list cap width shop first last p (record { node = marked.node; left = marks }))
         (sym (get_or-set_same deeper 0 new other some)) (record {
-          is_node = (at.is_branch none).is_node;
+          is_node = (at.is_marked none).is_node;
           is_pack = is_pack;
-          left = begins ∙ ap (λ n. take n new.names.items) (sym jobs-count) ∙ jobs ∙ (at.is_branch none).left;
+          left = begins ∙ ap (λ n. take n new.names.items) (sym jobs-count) ∙ jobs ∙ (at.is_marked none).left;
         });
     has_lists = at.has_lists;
     count = at.count;

@@ -7,7 +7,7 @@ use Rattle.std.specs.List.{filter}
 use Rattle.std.proofs.lemmas.Bool.{cases_Bool, cases_eq, eq-eqb, false≢true}
 use Rattle.std.proofs.lemmas.List.{get_or-set_same, get_or-set_other, drop_more, take_more, take_more_set}
 use Rattle.std.proofs.lemmas.List.{take-append-drop}
-use Rattle.std.proofs.lemmas.List.Elements.{All-nil, recursion_from_All, All-from_recursion}
+use Rattle.std.proofs.lemmas.List.Elements.{recursion_from_All, All-from_recursion}
 use Rattle.std.proofs.lemmas.List.Folds.{list_any-append}
 use Rattle.flow_limits.specs.Limits.{most_jobs}
 use Rattle.flow_shop.specs.Shop.{Shop, numbers}
@@ -16,6 +16,8 @@ use Rattle.flow_shop.specs.Sequences.{has, jobs_left, AreDistinct, AreJobs}
 use Rattle.flow_shop.specs.declared.end.End.TheVariants.{Back}
 use Rattle.flow_shop.proofs.JobsLeft.{InRange-first, InRange-rest, distinct-first, distinct-rest, apart, or_false}
 use Rattle.flow_shop.proofs.JobsLeft.{filter-more}
+use Rattle.flow_shop.proofs.Lists.{drop-at}
+use Rattle.flow_shop.proofs.SequenceLemmas.{no-jobs}
 use Rattle.flow_shop.proofs.Taken.{has-same, has-other, left_under, left_from, left-split}
 use Rattle.flow_directions.specs.internal.Start.{Holds, IsStart}
 use Rattle.flow_directions.specs.declared.start.StartNode.{StartNode}
@@ -95,19 +97,12 @@ at-more list jobs index long =
     ap (λ xs. list ++ xs) (take_more jobs index 0 long)
     ∙ sym (append_assoc list (take index jobs) (slice_index jobs index ∷ []))
 
--- the jobs from a place on, and one more before them
-pub drop-back : (jobs : List ℕ) (place : ℕ) → 1 ≤ place → place ≤ length jobs →
-    drop (place - 1) jobs ≡ slice_index jobs (place - 1) ∷ drop place jobs
-drop-back jobs place low high =
-    let here : place - 1 + 1 ≡ place = omega arith in
-    drop_more jobs (place - 1) 0 (omega arith) ∙ ap (λ k. slice_index jobs (place - 1) ∷ drop k jobs) here
-
--- that job is in neither list
+-- the job before a place is in neither list, where the last one begins at that place
 pub next-back : (n : ℕ) (first last : List ℕ) (place : ℕ) → 1 ≤ place → place ≤ length last →
     AreJobs n (first ++ last) → IsNext n (first ++ drop place last) (slice_index last (place - 1))
 next-back n first last place low high are =
     let split : last ≡ take (place - 1) last ++ slice_index last (place - 1) ∷ drop place last =
-    sym (take-append-drop (place - 1) last) ∙ ap (λ xs. take (place - 1) last ++ xs) (drop-back last place low high) in
+    sym (take-append-drop (place - 1) last) ∙ ap (λ xs. take (place - 1) last ++ xs) (drop-at last place low high) in
     next-between n first (take (place - 1) last) (drop place last) (slice_index last (place - 1))
     (subst (AreJobs n) (ap (λ xs. first ++ xs) split) are)
 
@@ -115,10 +110,6 @@ next-back n first last place low high are =
 pub count-both : (n : ℕ) (first last : List ℕ) → AreJobs n (first ++ last) →
     length first + length last + length (jobs_left n (first ++ last)) ≡ n
 count-both n first last are = omega (arith, left-length n (first ++ last) are, length-append first last)
-
--- no job of the empty list
-pub no-jobs : (n : ℕ) → AreJobs n []
-no-jobs n = record { range = All-nil (λ job. (1 ≤ job) × (job ≤ n)); distinct = tt }
 
 -- one more number that a list may leave
 pub under-more : (list : List ℕ) (job : ℕ) → 1 ≤ job →

@@ -201,7 +201,8 @@ module _ (shop : Shop) (number : ℕ) where
       ∙ visits_with-open left first last low
       ∙ ap (λ xs. opens end ∷ xs) (flat_map-same
       (λ job. visits_with shop number left (first_with end first job) (last_with end last job))
-      (child_visits shop number end first last) (jobs_left shop.jobs (first ++ last)) (visits-child end first last left is))
+      (child_visits shop number end first last) (jobs_left shop.jobs (first ++ last))
+      (visits-child end first last left is))
 
   -- or else the node, and what is met at its children
   pub visits-open : (first last : List ℕ) → 0 < length (jobs_left shop.jobs (first ++ last)) →

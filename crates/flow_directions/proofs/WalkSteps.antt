@@ -15,7 +15,8 @@ use Rattle.flow_shop.proofs.LeastFound.{in-order}
 use Rattle.flow_nodes.specs.Nodes.{IsJob}
 use Rattle.flow_nodes.specs.Groups.{child_bound}
 use Rattle.flow_directions.specs.Search.{end_taken, Visit, opens, visits, signs, first_reached}
-use Rattle.flow_directions.specs.Search.{directions_of, first_below, jobs_below, child_visits, part_visits, parts_visits}
+use Rattle.flow_directions.specs.Search.{directions_of, first_below, jobs_below, child_visits, part_visits}
+use Rattle.flow_directions.specs.Search.{parts_visits}
 use Rattle.flow_directions.specs.declared.found.Part.{Part}
 use Rattle.flow_directions.specs.internal.Lists.{HasLists}
 use Rattle.flow_directions.specs.declared.lists.Lists.{Lists}

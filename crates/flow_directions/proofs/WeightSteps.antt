@@ -9,8 +9,8 @@ use Rattle.flow_shop.specs.declared.end.End.{End}
 use Rattle.flow_nodes.specs.Nodes.{IsNode}
 use Rattle.flow_directions.specs.Search.{fewest_below, jobs_below, weight}
 use Rattle.flow_nodes.specs.Marks.{mark}
-use Rattle.flow_directions.specs.internal.Packs.{HasLeft, IsBranch}
-use Rattle.flow_directions.specs.declared.branch.Branch.{Branch}
+use Rattle.flow_directions.specs.internal.Packs.{HasLeft, IsMarkedNode}
+use Rattle.flow_directions.specs.declared.marked_node.MarkedNode.{MarkedNode}
 use Rattle.flow_directions.specs.declared.pack.Pack.{Pack}
 use Rattle.flow_directions.proofs.JobsMarked.{marked-left}
 
@@ -41,23 +41,23 @@ module _ (shop : Shop) (number : ℕ) (end : End) (first last : List ℕ) where
 
 -- the job of a marked place, and the child that puts it at an end
 module _ {V : Type 0} (list : V → List ℕ) (cap width : ℕ) (shop : Shop) (first last : List ℕ) (pack : Pack V)
-    (branch : Branch) (place job : ℕ) (is : IsBranch list cap width shop first last pack branch)
+    (marked : MarkedNode) (place job : ℕ) (is : IsMarkedNode list cap width shop first last pack marked)
     (inside : place < length pack.names.items) (named : job ≡ slice_index pack.names.items place)
-    (marked : mark branch.left.words place ≡ 1) where
+    (is_left : mark marked.left.words place ≡ 1) where
   pub job-fresh : has (first ++ last) job ≡ false
   job-fresh =
       ap (has (first ++ last)) named
-      ∙ marked-left shop.jobs (first ++ last) branch.left.words pack.names.items is.left place inside marked
+      ∙ marked-left shop.jobs (first ++ last) marked.left.words pack.names.items is.left place inside is_left
 
-  pub child-branch : (end : End) (child : Branch) →
-      (IsNode shop first last branch.node → has (first ++ last) job ≡ false →
+  pub child-marked : (end : End) (child : MarkedNode) →
+      (IsNode shop first last marked.node → has (first ++ last) job ≡ false →
       IsNode shop (first_with end first job) (last_with end last job) child.node) →
-      ((names : List ℕ) → HasLeft shop first last names branch.left → has (first ++ last) job ≡ false →
-      place < length names → slice_index names place ≡ job → mark branch.left.words place ≡ 1 →
+      ((names : List ℕ) → HasLeft shop first last names marked.left → has (first ++ last) job ≡ false →
+      place < length names → slice_index names place ≡ job → mark marked.left.words place ≡ 1 →
       HasLeft shop (first_with end first job) (last_with end last job) names child.left) →
-      IsBranch list cap width shop (first_with end first job) (last_with end last job) pack child
-  child-branch end child node left = record {
+      IsMarkedNode list cap width shop (first_with end first job) (last_with end last job) pack child
+  child-marked end child node left = record {
     is_node = node is.is_node job-fresh;
     is_pack = is.is_pack;
-    left = left pack.names.items is.left job-fresh inside (sym named) marked;
+    left = left pack.names.items is.left job-fresh inside (sym named) is_left;
   }

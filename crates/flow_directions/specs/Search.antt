@@ -197,9 +197,9 @@ IsFound shop number budget first last (Below sequence makespan directions) =
     × (directions ≡ length (directions_of shop number first last)) × (directions ≤ budget)
 IsFound shop number budget first last Over = budget < length (directions_of shop number first last)
 
--- What a search of a node came to, with a budget of directions. `Proved` and `Below`: what it found, with the directions
--- that it wrote. `Rest`: it is over its budget; these are the first directions, as many as the budget, and it goes on
--- with these parts, one after the other.
+-- What a search of a node came to, with a budget of directions. `Proved` and `Below`: what it found, with the
+-- directions that it wrote. `Rest`: it is over its budget; these are the first directions, as many as the budget, and
+-- it goes on with these parts, one after the other.
 abbrev pub IsAdvanced : Shop → ℕ → ℕ → List ℕ → List ℕ → Advanced → Type 0
 IsAdvanced shop number budget first last (advanced.Proved text) = IsFound shop number budget first last (Proved text)
 IsAdvanced shop number budget first last (advanced.Below sequence makespan directions) =

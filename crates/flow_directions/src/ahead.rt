@@ -1,33 +1,34 @@
 //! The look-ahead: of two ends of a node the one whose children have fewer children.
 
-ghost use Rattle.std.specs.Prelude.{◌≡◌, ℕ, ◌*◌, ◌<◌, ◌≤◌, ◌&&◌, List, min, nat_le};
+ghost use Rattle.std.specs.Prelude.{◌≡◌, ℕ, ◌*◌, ◌<◌, ◌≤◌, ◌&&◌, List, nat_le};
 ghost use Rattle.flow_limits.specs.Limits.{most_machines};
 ghost use Rattle.flow_shop.specs.Shop.{Shop};
 ghost use Rattle.flow_directions.specs.Search.{end_taken, fewest_below, jobs_below, weight};
+ghost use Rattle.flow_nodes.specs.Lanes.{limit_of};
 ghost use Rattle.flow_nodes.specs.Marks.{mark};
-ghost use Rattle.flow_directions.specs.internal.Packs.{HasRoom, IsBranch, jobs_at};
+ghost use Rattle.flow_directions.specs.internal.Packs.{HasRoom, IsMarkedNode, jobs_at};
 ghost use Rattle.flow_directions.specs.internal.Opened.{AreEnds};
 
 use crate::below::{Opened, marks_below};
-use crate::branch::Branch;
+use crate::marked_node::MarkedNode;
 use crate::pack::Pack;
 use flow_nodes::Lanes;
 use flow_shop::{End, Instance};
 
 /// How many children of a node are below a number at the end where they are fewer.
 #[inline(always)]
-fn fewest<V: Lanes>(pack: &Pack<V>, branch: &Branch, limit: u32) -> u32
+fn fewest<V: Lanes>(pack: &Pack<V>, marked: &MarkedNode, limit: u32) -> u32
     requires wide { V.WIDTH ≡ 16 }
     requires limit { limit ≤ V.CAP }
     requires room { (shop : Shop) × HasRoom shop pack.now × (shop.machines ≤ most_machines) }
     ensures small { result ≤ 800 }
-    ensures fewest { (shop : Shop) (number : ℕ) (first last : List ℕ) → limit ≡ min number 4294967295 →
-        IsBranch V.list V.CAP V.WIDTH shop first last pack.now branch.now →
+    ensures fewest { (shop : Shop) (number : ℕ) (first last : List ℕ) → limit ≡ limit_of number →
+        IsMarkedNode V.list V.CAP V.WIDTH shop first last pack.now marked.now →
         result ≡ fewest_below shop number first last }
 {
     let groups = pack.groups.len();
-    let fronts = marks_below(pack, branch, End::Front, limit);
-    let backs = marks_below(pack, branch, End::Back, limit);
+    let fronts = marks_below(pack, marked, End::Front, limit);
+    let backs = marks_below(pack, marked, End::Back, limit);
     fronts.count(groups).min(backs.count(groups))
 }
 
@@ -36,7 +37,7 @@ fn fewest<V: Lanes>(pack: &Pack<V>, branch: &Branch, limit: u32) -> u32
 fn weigh<V: Lanes>(
     instance: &Instance,
     pack: &Pack<V>,
-    branch: &Branch,
+    marked: &MarkedNode,
     limit: u32,
     opened: &Opened,
     most: u32,
@@ -44,16 +45,16 @@ fn weigh<V: Lanes>(
     requires wide { V.WIDTH ≡ 16 }
     requires limit { limit ≤ V.CAP }
     requires at { (first : List ℕ) × (last : List ℕ)
-        × IsBranch V.list V.CAP V.WIDTH instance.now first last pack.now branch.now }
+        × IsMarkedNode V.list V.CAP V.WIDTH instance.now first last pack.now marked.now }
     requires within { (place : ℕ) → mark opened.now.below.words place ≡ 1 →
-        mark branch.now.left.words place ≡ 1 }
+        mark marked.now.left.words place ≡ 1 }
     ensures small { result ≤ 640000 }
-    ensures exact { (number : ℕ) (first last : List ℕ) → limit ≡ min number 4294967295 →
-        IsBranch V.list V.CAP V.WIDTH instance.now first last pack.now branch.now →
+    ensures exact { (number : ℕ) (first last : List ℕ) → limit ≡ limit_of number →
+        IsMarkedNode V.list V.CAP V.WIDTH instance.now first last pack.now marked.now →
         jobs_at pack.now opened.now.below ≡ jobs_below instance.now number opened.now.end first last →
         result < most → result ≡ weight instance.now number opened.now.end first last }
-    ensures reaches { (number : ℕ) (first last : List ℕ) → limit ≡ min number 4294967295 →
-        IsBranch V.list V.CAP V.WIDTH instance.now first last pack.now branch.now →
+    ensures reaches { (number : ℕ) (first last : List ℕ) → limit ≡ limit_of number →
+        IsMarkedNode V.list V.CAP V.WIDTH instance.now first last pack.now marked.now →
         jobs_at pack.now opened.now.below ≡ jobs_below instance.now number opened.now.end first last →
         most ≤ result → most ≤ weight instance.now number opened.now.end first last }
 {
@@ -61,7 +62,7 @@ fn weigh<V: Lanes>(
     let mut rest = opened.below;
     let mut weight = 0;
     'children: while let Some(place) = rest.pop(groups) {
-        let child = branch.child(instance, opened.end, place, pack.names[place]);
+        let child = marked.child(instance, opened.end, place, pack.names[place]);
         weight += fewest(pack, &child, limit);
         if weight >= most {
             return weight;
@@ -84,7 +85,7 @@ fn looks_ahead(plain: u32, other: u32, left: u32) -> bool
 pub(crate) fn look_ahead<V: Lanes>(
     instance: &Instance,
     pack: &Pack<V>,
-    branch: &Branch,
+    marked: &MarkedNode,
     limit: u32,
     plain: &Opened,
     other: &Opened,
@@ -92,25 +93,25 @@ pub(crate) fn look_ahead<V: Lanes>(
     requires wide { V.WIDTH ≡ 16 }
     requires limit { limit ≤ V.CAP }
     requires at { (first : List ℕ) × (last : List ℕ)
-        × IsBranch V.list V.CAP V.WIDTH instance.now first last pack.now branch.now }
-    requires plain { (place : ℕ) → mark plain.now.below.words place ≡ 1 → mark branch.now.left.words place ≡ 1 }
-    requires other { (place : ℕ) → mark other.now.below.words place ≡ 1 → mark branch.now.left.words place ≡ 1 }
-    ensures within { (place : ℕ) → mark result.below.words place ≡ 1 → mark branch.now.left.words place ≡ 1 }
-    ensures end { (number : ℕ) (first last : List ℕ) → limit ≡ min number 4294967295 →
-        IsBranch V.list V.CAP V.WIDTH instance.now first last pack.now branch.now →
+        × IsMarkedNode V.list V.CAP V.WIDTH instance.now first last pack.now marked.now }
+    requires plain { (place : ℕ) → mark plain.now.below.words place ≡ 1 → mark marked.now.left.words place ≡ 1 }
+    requires other { (place : ℕ) → mark other.now.below.words place ≡ 1 → mark marked.now.left.words place ≡ 1 }
+    ensures within { (place : ℕ) → mark result.below.words place ≡ 1 → mark marked.now.left.words place ≡ 1 }
+    ensures end { (number : ℕ) (first last : List ℕ) → limit ≡ limit_of number →
+        IsMarkedNode V.list V.CAP V.WIDTH instance.now first last pack.now marked.now →
         AreEnds instance.now number first last pack.now plain.now other.now →
         result.end ≡ end_taken instance.now number first last }
-    ensures below { (number : ℕ) (first last : List ℕ) → limit ≡ min number 4294967295 →
-        IsBranch V.list V.CAP V.WIDTH instance.now first last pack.now branch.now →
+    ensures below { (number : ℕ) (first last : List ℕ) → limit ≡ limit_of number →
+        IsMarkedNode V.list V.CAP V.WIDTH instance.now first last pack.now marked.now →
         AreEnds instance.now number first last pack.now plain.now other.now →
         jobs_at pack.now result.below ≡ jobs_below instance.now number result.end first last }
 {
     let groups = pack.groups.len();
     let plain_count = plain.below.count(groups);
     let other_count = other.below.count(groups);
-    if looks_ahead(plain_count, other_count, branch.left.count(groups)) {
-        let weight = weigh(instance, pack, branch, limit, plain, u32::MAX);
-        if weigh(instance, pack, branch, limit, other, weight) < weight {
+    if looks_ahead(plain_count, other_count, marked.left.count(groups)) {
+        let weight = weigh(instance, pack, marked, limit, plain, u32::MAX);
+        if weigh(instance, pack, marked, limit, other, weight) < weight {
             return *other;
         }
     }

@@ -1,31 +1,26 @@
 //! The search for directions that prove a number for a node.
 
-ghost use Rattle.std.specs.Prelude.{◌≡◌, ◌↔◌, ℕ, ◌≤◌, ◌<◌, min, All, Err, List, ◌++◌, length, slice_index_or};
+ghost use Rattle.std.specs.Prelude.{◌≡◌, ◌↔◌, ℕ, ◌≤◌, ◌<◌, All, Err, List, ◌++◌, length, slice_index_or};
 ghost use Rattle.std.specs.Prelude.{IfOk, IfErr, OnOk};
 ghost use Rattle.flow_limits.specs.Limits.{most_jobs};
 ghost use Rattle.flow_shop.specs.Sequences.{AreJobs, IsSequence};
 ghost use Rattle.flow_shop.specs.Ends.{end_bound};
+ghost use Rattle.flow_nodes.specs.Lanes.{limit_of};
 ghost use Rattle.flow_directions.specs.Search.{IsAdvanced, IsFound, Shows};
 ghost use Rattle.flow_directions.specs.internal.Packs.{HasRoom};
 ghost use Rattle.flow_directions.specs.internal.Reached.{IsSequenceAfter};
 ghost use Rattle.flow_directions.specs.internal.Start.{IsStart};
 ghost use Rattle.flow_directions.specs.declared.found.ProveFault.TheVariants.{Jobs, Memory};
 
-use crate::branch::Branch;
 use crate::found::{Advanced, Found, ProveFault};
+use crate::marked_node::MarkedNode;
 use crate::pack::Pack;
 use crate::start::StartNode;
-use crate::walk::{Aim, SearchStop, Written, search};
-use flow_nodes::{LANES, Lanes, Marks};
+use crate::walk::{SearchStop, Terms, Written, search};
+use flow_nodes::{LANES, Lanes, Marks, fits_narrow_lanes, limit_of};
 use flow_shop::{Instance, Sequence, makespan};
 use std::alloc::{AllocError, Global};
 use std::simd::prelude::*;
-
-/// No bound of a node is so great.
-const ABOVE_BOUNDS: u64 = 4_294_967_295;
-
-/// The greatest number that lanes of 16 bits have.
-const NARROW: u64 = 65_535;
 
 /// The most packs: the greatest has 50 groups, and each further one half as many or fewer.
 const MOST_PACKS: usize = 6;
@@ -82,7 +77,7 @@ fn run<V: Lanes>(
     budget: u64,
 ) -> Result<Advanced, ProveFault>
     requires wide { V.WIDTH ≡ 16 }
-    requires cap { min number 4294967295 ≤ V.CAP }
+    requires cap { limit_of number ≤ V.CAP }
     requires some { 1 ≤ start.left }
     requires at { (first : List ℕ) × (last : List ℕ) × IsStart instance.now first last start
         × (end_bound instance.now first last < number) }
@@ -93,13 +88,13 @@ fn run<V: Lanes>(
 {
     let mut packs = packs_for::<V>(alloc, instance, start.left)?;
     start.pack(instance, &mut packs[0]);
-    let branch = Branch {
+    let marked = MarkedNode {
         node: start.node,
         left: Marks::first(start.left),
     };
-    let aim = Aim {
+    let terms = Terms {
         number,
-        limit: number.min(ABOVE_BOUNDS) as u32,
+        limit: limit_of(number),
         budget,
         alloc,
     };
@@ -111,10 +106,10 @@ fn run<V: Lanes>(
     };
     match search(
         instance,
-        aim,
+        terms,
         &mut written,
         packs.as_mut_slice(),
-        &branch,
+        &marked,
         left,
     ) {
         Ok(()) => Ok(Advanced::Proved(written.directions)),
@@ -156,7 +151,7 @@ pub fn advance(
     if start.left == 0 {
         return sequence_of(alloc, instance, start.lists.all(), Vec::new(alloc));
     }
-    if number <= NARROW {
+    if fits_narrow_lanes(number) {
         run::<u16x16>(alloc, instance, start, number, budget)
     } else {
         run::<u32x16>(alloc, instance, start, number, budget)

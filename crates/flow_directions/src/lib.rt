@@ -3,11 +3,11 @@
 
 mod ahead;
 mod below;
-mod branch;
 mod directions;
 mod found;
 mod laws;
 mod lists;
+mod marked_node;
 mod open;
 mod pack;
 mod prover;

@@ -1,33 +1,21 @@
 //! The end at which a node is opened.
 
-ghost use Rattle.std.specs.Prelude.{◌≡◌, ℕ, ◌*◌, ◌<◌, ◌≤◌, false, List, ◌++◌, min, sum_by, length, slice_index};
+ghost use Rattle.std.specs.Prelude.{◌≡◌, ℕ, ◌*◌, ◌<◌, ◌≤◌, false, List, ◌++◌, sum_by, length, slice_index};
 ghost use Rattle.std.specs.Int.{bit_at};
-ghost use Rattle.flow_nodes.specs.Nodes.{IsJob, IsNode};
+ghost use Rattle.flow_nodes.specs.Nodes.{IsNode};
 ghost use Rattle.flow_nodes.specs.Groups.{IsGroup, child_bound};
+ghost use Rattle.flow_nodes.specs.Lanes.{limit_of};
 ghost use Rattle.flow_shop.specs.Sequences.{has};
 ghost use Rattle.flow_directions.specs.Search.{bound_sum, end_taken, jobs_below};
 ghost use Rattle.flow_nodes.specs.Marks.{mark, picked};
-ghost use Rattle.flow_directions.specs.internal.Packs.{IsBranch, jobs_at};
+ghost use Rattle.flow_directions.specs.internal.Packs.{IsMarkedNode, jobs_at};
 
 use crate::ahead::look_ahead;
 use crate::below::{Opened, marks_below};
-use crate::branch::Branch;
+use crate::marked_node::MarkedNode;
 use crate::pack::Pack;
-use flow_nodes::{LANES, Lanes, Node};
+use flow_nodes::{LANES, Lanes, Node, fewer_below, greater_sum};
 use flow_shop::{End, Instance};
-
-/// The bound of the child that puts a job left at an end.
-fn bound_of_child(instance: &Instance, node: &Node, end: End, job: u16) -> u32
-    requires job { IsJob instance.now job }
-    requires left { (first : List ℕ) × (last : List ℕ) × IsNode instance.now first last node.now
-        × (has (first ++ last) job ≡ false) }
-    ensures { (first last : List ℕ) → IsNode instance.now first last node.now → has (first ++ last) job ≡ false →
-        result ≡ child_bound instance.now end first last job }
-{
-    let mut child = *node;
-    child.put(instance, end, job);
-    child.bound(instance)
-}
 
 /// The sum of the bounds of the children that put the jobs of a group at an end, of those whose lanes are marked.
 fn sum_of_group<V: Lanes>(
@@ -57,7 +45,7 @@ fn sum_of_group<V: Lanes>(
             if bound < V::CAP {
                 sum += u64::from(bound);
             } else {
-                sum += u64::from(bound_of_child(instance, node, end, names[lane]));
+                sum += u64::from(node.child_bound(instance, end, names[lane]));
             }
         }
     }
@@ -66,22 +54,27 @@ fn sum_of_group<V: Lanes>(
 
 /// The sum of the bounds of a node's children at an end.
 #[inline(never)]
-fn sum_of_bounds<V: Lanes>(instance: &Instance, pack: &Pack<V>, branch: &Branch, end: End) -> u64
+fn sum_of_bounds<V: Lanes>(
+    instance: &Instance,
+    pack: &Pack<V>,
+    marked: &MarkedNode,
+    end: End,
+) -> u64
     requires wide { V.WIDTH ≡ 16 }
     requires at { (first : List ℕ) × (last : List ℕ)
-        × IsBranch V.list V.CAP V.WIDTH instance.now first last pack.now branch.now }
-    ensures { (first last : List ℕ) → IsBranch V.list V.CAP V.WIDTH instance.now first last pack.now branch.now →
+        × IsMarkedNode V.list V.CAP V.WIDTH instance.now first last pack.now marked.now }
+    ensures { (first last : List ℕ) → IsMarkedNode V.list V.CAP V.WIDTH instance.now first last pack.now marked.now →
         result ≡ bound_sum instance.now end first last }
 {
     let mut sum = 0;
     for group in 0..pack.groups.len() {
-        let left = branch.left.words[group];
+        let left = marked.left.words[group];
         if left != 0 {
             let from = group * LANES;
             let names = &pack.names[from..from + LANES];
             sum += sum_of_group(
                 instance,
-                &branch.node,
+                &marked.node,
                 end,
                 pack.groups[group].as_slice(),
                 names,
@@ -97,39 +90,41 @@ fn sum_of_bounds<V: Lanes>(instance: &Instance, pack: &Pack<V>, branch: &Branch,
 pub(crate) fn open<V: Lanes>(
     instance: &Instance,
     pack: &Pack<V>,
-    branch: &Branch,
+    marked: &MarkedNode,
     limit: u32,
 ) -> Opened
     requires wide { V.WIDTH ≡ 16 }
     requires limit { limit ≤ V.CAP }
     requires at { (first : List ℕ) × (last : List ℕ)
-        × IsBranch V.list V.CAP V.WIDTH instance.now first last pack.now branch.now }
-    ensures within { (place : ℕ) → mark result.below.words place ≡ 1 → mark branch.now.left.words place ≡ 1 }
-    ensures end { (number : ℕ) (first last : List ℕ) → limit ≡ min number 4294967295 →
-        IsBranch V.list V.CAP V.WIDTH instance.now first last pack.now branch.now →
+        × IsMarkedNode V.list V.CAP V.WIDTH instance.now first last pack.now marked.now }
+    ensures within { (place : ℕ) → mark result.below.words place ≡ 1 → mark marked.now.left.words place ≡ 1 }
+    ensures end { (number : ℕ) (first last : List ℕ) → limit ≡ limit_of number →
+        IsMarkedNode V.list V.CAP V.WIDTH instance.now first last pack.now marked.now →
         result.end ≡ end_taken instance.now number first last }
-    ensures below { (number : ℕ) (first last : List ℕ) → limit ≡ min number 4294967295 →
-        IsBranch V.list V.CAP V.WIDTH instance.now first last pack.now branch.now →
+    ensures below { (number : ℕ) (first last : List ℕ) → limit ≡ limit_of number →
+        IsMarkedNode V.list V.CAP V.WIDTH instance.now first last pack.now marked.now →
         jobs_at pack.now result.below ≡ jobs_below instance.now number result.end first last }
 {
     let front = Opened {
         end: End::Front,
-        below: marks_below(pack, branch, End::Front, limit),
+        below: marks_below(pack, marked, End::Front, limit),
     };
     let back = Opened {
         end: End::Back,
-        below: marks_below(pack, branch, End::Back, limit),
+        below: marks_below(pack, marked, End::Back, limit),
     };
     let groups = pack.groups.len();
     let front_count = front.below.count(groups);
     let back_count = back.below.count(groups);
-    let takes_front = front_count < back_count
-        || front_count == back_count
-            && sum_of_bounds(instance, pack, branch, End::Back)
-                <= sum_of_bounds(instance, pack, branch, End::Front);
-    if takes_front {
-        look_ahead(instance, pack, branch, limit, &front, &back)
-    } else {
-        look_ahead(instance, pack, branch, limit, &back, &front)
+    let plain = match fewer_below(front_count, back_count) {
+        Some(end) => end,
+        None => greater_sum(
+            sum_of_bounds(instance, pack, marked, End::Front),
+            sum_of_bounds(instance, pack, marked, End::Back),
+        ),
+    };
+    match plain {
+        End::Front => look_ahead(instance, pack, marked, limit, &front, &back),
+        End::Back => look_ahead(instance, pack, marked, limit, &back, &front),
     }
 }

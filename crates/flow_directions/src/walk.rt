@@ -1,16 +1,17 @@
 //! The walk through the nodes that the search opens.
 
-ghost use Rattle.std.specs.Prelude.{◌≡◌, ℕ, ◌≤◌, List, [], length, min, All, IfOk};
+ghost use Rattle.std.specs.Prelude.{◌≡◌, ℕ, ◌≤◌, List, [], length, All, IfOk};
 ghost use Rattle.flow_shop.specs.Directions.{sign};
+ghost use Rattle.flow_nodes.specs.Lanes.{limit_of};
 ghost use Rattle.flow_directions.specs.internal.Lists.{HasLists};
 ghost use Rattle.flow_directions.specs.internal.Packs.{HasRoom};
 ghost use Rattle.flow_directions.specs.internal.Left.{IsNodeLeft, AreChildrenLeft};
 ghost use Rattle.flow_directions.specs.internal.Walk.{Ends, IsAt, KeepsPacks};
 ghost use Rattle.flow_directions.specs.declared.walk.SearchStop.TheVariants.{Memory};
 
-use crate::branch::Branch;
 use crate::found::Part;
 use crate::lists::Lists;
+use crate::marked_node::MarkedNode;
 use crate::open::open;
 use crate::pack::Pack;
 use flow_nodes::{Lanes, Marks};
@@ -19,10 +20,10 @@ use std::alloc::{AllocError, Global};
 
 /// What a search is to prove, and with how much.
 #[derive(Clone, Copy)]
-pub(crate) struct Aim {
+pub(crate) struct Terms {
     /// The number.
     pub(crate) number: u64,
-    /// The number, or 4,294,967,295 where that is less: no bound is so great.
+    /// The limit that stands for it in 32 bits.
     pub(crate) limit: u32,
     /// The most directions.
     pub(crate) budget: u64,
@@ -111,42 +112,42 @@ fn sign_of(end: End) -> u8
 /// Searches a node that is below the number, at which so many jobs are left, and writes its directions.
 pub(crate) fn search<V: Lanes>(
     instance: &Instance,
-    aim: Aim,
+    terms: Terms,
     written: &mut Written,
     packs: &mut [Pack<V>],
-    branch: &Branch,
+    marked: &MarkedNode,
     left: u16,
 ) -> Result<(), SearchStop>
     requires wide { V.WIDTH ≡ 16 }
-    requires limit { aim.limit ≡ min aim.number 4294967295 }
-    requires cap { aim.limit ≤ V.CAP }
+    requires limit { terms.limit ≡ limit_of terms.number }
+    requires cap { terms.limit ≤ V.CAP }
     requires some { 1 ≤ left }
-    requires within { length written.old.directions.items ≤ aim.budget }
+    requires within { length written.old.directions.items ≤ terms.budget }
     requires rest { written.old.rest.items ≡ [] }
     requires packs { All (λ pack. HasRoom instance.now pack) packs.old }
     requires few { 1 ≤ length packs.old }
     requires at { (first : List ℕ) × (last : List ℕ)
-        × IsAt V.list V.CAP V.WIDTH instance.now aim.number first last left written.old.lists branch.now packs.old }
+        × IsAt V.list V.CAP V.WIDTH instance.now terms.number first last left written.old.lists marked.now packs.old }
     ensures packs { KeepsPacks instance.now packs.old packs.new }
     ensures ends { (first last : List ℕ) →
-        IsAt V.list V.CAP V.WIDTH instance.now aim.number first last left written.old.lists branch.now packs.old →
-        Ends instance.now aim.number aim.budget first last written.old.directions.items written.new result }
+        IsAt V.list V.CAP V.WIDTH instance.now terms.number first last left written.old.lists marked.now packs.old →
+        Ends instance.now terms.number terms.budget first last written.old.directions.items written.new result }
 {
     // The next pack has room for the jobs left: the search goes on there, with half the groups or fewer.
     if packs.len() > 1 && packs[1].names.len() >= left as usize {
         let (here, deeper) = packs.split_at_mut(1);
-        deeper[0].fill(instance, &here[0], &branch.left);
-        let packed = Branch {
-            node: branch.node,
+        deeper[0].fill(instance, &here[0], &marked.left);
+        let packed = MarkedNode {
+            node: marked.node,
             left: Marks::first(left),
         };
-        return search(instance, aim, written, deeper, &packed, left);
+        return search(instance, terms, written, deeper, &packed, left);
     }
-    if written.directions.len() as u64 >= aim.budget {
-        written.leave_node(aim.alloc)?;
+    if written.directions.len() as u64 >= terms.budget {
+        written.leave_node(terms.alloc)?;
         return Err(SearchStop::Over);
     }
-    let opened = open(instance, &packs[0], branch, aim.limit);
+    let opened = open(instance, &packs[0], marked, terms.limit);
     if written.directions.push(sign_of(opened.end)).is_err() {
         return Err(SearchStop::Memory);
     }
@@ -158,13 +159,13 @@ pub(crate) fn search<V: Lanes>(
         if left == 1 {
             return Err(SearchStop::Below);
         }
-        let child = branch.child(instance, opened.end, place, job);
-        match search(instance, aim, written, packs, &child, left - 1) {
+        let child = marked.child(instance, opened.end, place, job);
+        match search(instance, terms, written, packs, &child, left - 1) {
             Ok(()) => written.lists.take(opened.end),
             Err(SearchStop::Over) => {
                 written.lists.take(opened.end);
-                let jobs = packs[0].jobs(aim.alloc, &below)?;
-                written.leave_children(aim.alloc, opened.end, jobs)?;
+                let jobs = packs[0].jobs(terms.alloc, &below)?;
+                written.leave_children(terms.alloc, opened.end, jobs)?;
                 return Err(SearchStop::Over);
             }
             Err(SearchStop::Below) => return Err(SearchStop::Below),

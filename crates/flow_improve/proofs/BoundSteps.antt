@@ -1,7 +1,10 @@
--- The bounds of children once those of a group are written.
-use Rattle.std.proofs.Common.{◌≡◌, ℕ, ◌+◌, ◌-◌, ◌*◌, ◌/◌, ◌%◌, ◌<◌, ◌≤◌, false, List, ◌++◌, length, slice_index, take}
-use Rattle.std.proofs.Common.{drop, ap, ◌∙◌, arith}
-use Rattle.std.proofs.lemmas.List.{get_or-take, get_or-drop}
+-- The bounds of children: once those of a group are written, and their sums and counts place by place.
+use Rattle.std.proofs.Common.{◌≡◌, ℕ, ◌+◌, ◌-◌, ◌*◌, ◌/◌, ◌%◌, ◌<◌, ◌≤◌, Bool, false, nat_lt, List, ◌++◌}
+use Rattle.std.proofs.Common.{length, slice_index, take, drop, sum_by, ap, sym, ◌∙◌, arith}
+use Rattle.std.specs.List.{count_by}
+use Rattle.std.proofs.lemmas.Bool.{lt-ltb, le-ltb}
+use Rattle.std.proofs.lemmas.List.{get_or-take, get_or-drop, length-take, length-drop}
+use Rattle.std.proofs.lemmas.List.Sums.{sum_by_more, count_by_more_yes, count_by_more_no}
 use Rattle.std.proofs.lemmas.List.Elements.{All-get_or}
 use Rattle.flow_shop.specs.Shop.{Shop}
 use Rattle.flow_shop.specs.Sequences.{has}
@@ -10,6 +13,7 @@ use Rattle.flow_nodes.specs.Lanes.{capped, HasLane}
 use Rattle.flow_nodes.specs.Nodes.{IsJob, IsNode}
 use Rattle.flow_nodes.specs.Groups.{AreNames, IsGroup, child_bound}
 use Rattle.flow_improve.specs.internal.Beams.{IsEntry, first_of, job_at, last_of}
+use Rattle.flow_improve.specs.internal.Opens.{bound_of, left_of}
 use Rattle.flow_improve.specs.declared.two_ended.entry.Entry.{Entry}
 use Rattle.flow_improve.proofs.EntrySteps.{is-left}
 
@@ -55,3 +59,59 @@ left-at jobs first place before from low within =
     let next : first + (place - first) ≡ place = omega (arith, from) in
     get_or-take (before - first) (drop first jobs) (place - first) 0 (omega (arith, from, low))
     ∙ get_or-drop first jobs (place - first) 0 ∙ ap (slice_index jobs) next
+
+-- how many jobs an entry has between its lists
+left-length : (shop : Shop) (entry : Entry) → IsEntry shop entry → length (left_of entry) ≡ entry.before - entry.first
+left-length shop entry is =
+    omega (
+      arith,
+      length-take (entry.before - entry.first) (drop entry.first entry.jobs.items),
+      length-drop entry.first entry.jobs.items,
+      is.order,
+      is.within,
+      is.jobs.whole,
+    )
+
+-- the jobs of an entry between its lists, place by place
+module _ (shop : Shop) (entry : Entry) (end : End) (place bound : ℕ) (is : IsEntry shop entry)
+    (from : entry.first ≤ place) (low : place < entry.before)
+    (bound_is : bound ≡ bound_of shop entry end (job_at entry place)) where
+  next-place : place + 1 - entry.first ≡ place - entry.first + 1
+  next-place = omega (arith, from)
+
+  inside : place - entry.first < length (left_of entry)
+  inside = omega (arith, left-length shop entry is, from, low)
+
+  job-is : bound_of shop entry end (slice_index (left_of entry) (place - entry.first)) ≡ bound
+  job-is =
+      ap (bound_of shop entry end) (left-at entry.jobs.items entry.first place entry.before from low
+      (omega (arith, is.within, is.jobs.whole))) ∙ sym bound_is
+
+  -- one more bound is summed
+  pub sum-more : sum_by (bound_of shop entry end) (take (place + 1 - entry.first) (left_of entry))
+      ≡ sum_by (bound_of shop entry end) (take (place - entry.first) (left_of entry)) + bound
+  sum-more =
+      ap (λ n. sum_by (bound_of shop entry end) (take n (left_of entry))) next-place
+      ∙ sum_by_more (bound_of shop entry end) (left_of entry) (place - entry.first) 0 inside
+      ∙ ap (λ n. sum_by (bound_of shop entry end) (take (place - entry.first) (left_of entry)) + n) job-is
+
+  -- one more child is below a number
+  pub count-yes : (number : ℕ) → bound < number →
+      count_by (λ job. nat_lt (bound_of shop entry end job) number) (take (place + 1 - entry.first) (left_of entry))
+      ≡ count_by (λ job. nat_lt (bound_of shop entry end job) number)
+      (take (place - entry.first) (left_of entry)) + 1
+  count-yes number below =
+      let p : ℕ → Bool = λ job. nat_lt (bound_of shop entry end job) number in
+      ap (λ n. count_by p (take n (left_of entry))) next-place
+      ∙ count_by_more_yes p (left_of entry) (place - entry.first) 0 inside
+      (ap (λ n. nat_lt n number) job-is ∙ lt-ltb bound number below)
+
+  -- or is not
+  pub count-no : (number : ℕ) → number ≤ bound →
+      count_by (λ job. nat_lt (bound_of shop entry end job) number) (take (place + 1 - entry.first) (left_of entry))
+      ≡ count_by (λ job. nat_lt (bound_of shop entry end job) number) (take (place - entry.first) (left_of entry))
+  count-no number above =
+      let p : ℕ → Bool = λ job. nat_lt (bound_of shop entry end job) number in
+      ap (λ n. count_by p (take n (left_of entry))) next-place
+      ∙ count_by_more_no p (left_of entry) (place - entry.first) 0 inside
+      (ap (λ n. nat_lt n number) job-is ∙ le-ltb bound number above)

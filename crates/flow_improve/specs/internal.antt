@@ -1,3 +1,4 @@
 pub mod Rooms
 pub mod Reaches
 pub mod Beams
+pub mod Opens

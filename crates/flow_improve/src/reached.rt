@@ -4,7 +4,7 @@ ghost use Rattle.std.specs.Prelude.{◌≡◌, ◌≤◌, length, IfOk};
 ghost use Rattle.flow_shop.specs.Shop.{Shop};
 ghost use Rattle.flow_shop.specs.Paths.{span};
 ghost use Rattle.flow_shop.specs.Sequences.{IsSequence};
-ghost use Rattle.flow_improve.specs.internal.Reaches.{IsReached};
+ghost use Rattle.flow_improve.specs.internal.Reaches.{HasMakespan};
 
 use flow_shop::{Instance, Sequence, makespan};
 use std::alloc::{AllocError, Global};
@@ -30,7 +30,7 @@ impl Reached {
         whole: bool,
     ) -> Result<Reached, AllocError>
         requires { length sequence.now ≡ instance.now.jobs }
-        ensures reached { IfOk result (IsReached instance.now) }
+        ensures reached { IfOk result (HasMakespan instance.now) }
         ensures value { IfOk result (λ reached. reached.value ≡ span instance.now sequence.now) }
     {
         Ok(Reached {
@@ -47,9 +47,9 @@ impl Reached {
         instance: &Instance,
         jobs: &[u16],
     ) -> Result<(), AllocError>
-        requires reached { IsReached instance.now self.old }
+        requires reached { HasMakespan instance.now self.old }
         requires jobs { IsSequence instance.now.jobs jobs.now }
-        ensures reached { IsReached instance.now self.new }
+        ensures reached { HasMakespan instance.now self.new }
         ensures least { self.new.value ≤ self.old.value }
     {
         let sequence = Sequence::of_known(alloc, jobs)?;
@@ -63,7 +63,7 @@ impl Reached {
 
     /// The one of smaller makespan; on a tie this one.
     pub(crate) fn or_better(self, other: Reached) -> Reached
-        ensures reached { (shop : Shop) → IsReached shop self → IsReached shop other → IsReached shop result }
+        ensures reached { (shop : Shop) → HasMakespan shop self → HasMakespan shop other → HasMakespan shop result }
         ensures least { result.value ≤ self.value }
         ensures other { result.value ≤ other.value }
     {

@@ -5,7 +5,7 @@ ghost use Rattle.flow_shop.specs.Paths.{span};
 ghost use Rattle.flow_shop.specs.Rows.{AreRows};
 ghost use Rattle.flow_shop.specs.Sequences.{IsSequence};
 ghost use Rattle.flow_improve.specs.internal.Beams.{ArePasses};
-ghost use Rattle.flow_improve.specs.internal.Reaches.{IsReached};
+ghost use Rattle.flow_improve.specs.internal.Reaches.{HasMakespan};
 
 mod best_children;
 mod bounds;
@@ -17,7 +17,7 @@ use crate::reached::Reached;
 use crate::two_ended::child_order::Mode;
 use crate::two_ended::pass::{Passes, Plan, greatest_time};
 use flow_bound::taillard_bound;
-use flow_nodes::Lanes;
+use flow_nodes::{Lanes, fits_narrow_lanes};
 use flow_shop::{Instance, Row, Sequence, rows};
 use std::alloc::{AllocError, Global};
 use std::simd::prelude::*;
@@ -119,9 +119,9 @@ fn ends_with<V: Lanes>(
 ) -> Result<bool, AllocError>
     requires wide { V.WIDTH ≡ 16 }
     requires passes { ArePasses V.list V.CAP V.WIDTH instance.now passes.old }
-    requires reached { IsReached instance.now reached.old }
+    requires reached { HasMakespan instance.now reached.old }
     ensures passes { ArePasses V.list V.CAP V.WIDTH instance.now passes.new }
-    ensures reached { IsReached instance.now reached.new }
+    ensures reached { HasMakespan instance.now reached.new }
     ensures least { reached.new.value ≤ reached.old.value }
 {
     if reached.value <= limits.least {
@@ -151,8 +151,8 @@ fn search<V: Lanes>(
 ) -> Result<(), AllocError>
     requires wide { V.WIDTH ≡ 16 }
     requires passes { ArePasses V.list V.CAP V.WIDTH instance.now passes.old }
-    requires reached { IsReached instance.now reached.old }
-    ensures reached { IsReached instance.now reached.new }
+    requires reached { HasMakespan instance.now reached.old }
+    ensures reached { HasMakespan instance.now reached.new }
     ensures least { reached.new.value ≤ reached.old.value }
 {
     for doublings in 0..32_u32 {
@@ -182,16 +182,13 @@ fn search_in<V: Lanes>(
 ) -> Result<(), AllocError>
     requires wide { V.WIDTH ≡ 16 }
     requires rows { AreRows instance.now rows.items }
-    requires reached { IsReached instance.now reached.old }
-    ensures reached { IsReached instance.now reached.new }
+    requires reached { HasMakespan instance.now reached.old }
+    ensures reached { HasMakespan instance.now reached.new }
     ensures least { reached.new.value ≤ reached.old.value }
 {
     let mut passes = Passes::<V>::new(alloc, instance, rows, limits.widest())?;
     search(alloc, instance, limits, &mut passes, reached)
 }
-
-/// The greatest number below the cap of lanes of 16 bits.
-const NARROW: u64 = 65_534;
 
 /// The best sequence of a search within limits, and whether it ended as whole.
 fn best_within(
@@ -201,14 +198,15 @@ fn best_within(
     limits: &Limits,
 ) -> Result<Reached, AllocError>
     requires start { length start.now ≡ instance.now.jobs }
-    ensures reached { IfOk result (IsReached instance.now) }
+    ensures reached { IfOk result (HasMakespan instance.now) }
     ensures least { IfOk result (λ reached. reached.value ≤ span instance.now start.now) }
 {
     let mut reached = Reached::new(alloc, instance, start, false)?;
     let rows = rows(alloc, instance)?;
-    // No bound is the sum of more times than these.
+    // No bound is the sum of more times than these, so each is below the number `above`.
     let most = u64::from(instance.jobs()) + u64::from(instance.machines());
-    if most * u64::from(greatest_time(rows.as_slice())) <= NARROW {
+    let above = most * u64::from(greatest_time(rows.as_slice())) + 1;
+    if fits_narrow_lanes(above) {
         search_in::<u16x16>(alloc, instance, limits, rows, &mut reached)?;
     } else {
         search_in::<u32x16>(alloc, instance, limits, rows, &mut reached)?;

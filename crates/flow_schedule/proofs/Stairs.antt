@@ -1,12 +1,13 @@
 -- A heaviest path, followed back from the last job on the last machine.
-use Rattle.std.proofs.Common.{◌≡◌, ◌∙◌, ℕ, suc, ◌+◌, ◌-◌, ◌<◌, ◌≤◌, List, [], ◌∷◌, length, drop, set}
+use Rattle.std.proofs.Common.{◌≡◌, ◌∙◌, ℕ, ◌+◌, ◌-◌, ◌<◌, ◌≤◌, List, [], ◌∷◌, length, drop, set}
 use Rattle.std.proofs.Common.{slice_index, nat_eq, false, ap, sym, refl, subst, arith, replicate, inl, inr}
-use Rattle.std.proofs.Math.Seq.{drop-cons}
 use Rattle.std.proofs.lemmas.Bool.{eqb-false, cases_lt}
 use Rattle.std.proofs.lemmas.List.{drop-set, drop_all, take_all, length-replicate, get_or-replicate}
 use Rattle.flow_shop.specs.Shop.{Shop, time, time_between}
 use Rattle.flow_shop.specs.Paths.{IsPath, weight, completion, span}
-use Rattle.flow_shop.proofs.Recurrence.{time_between-first, time_between-none}
+use Rattle.flow_shop.proofs.Recurrence.{time_between-first}
+use Rattle.flow_shop.proofs.EndSteps.{time-alone}
+use Rattle.flow_shop.proofs.Lists.{drop-at}
 use Rattle.flow_schedule.specs.Timetable.{job_at, start_at, end_at}
 use Rattle.flow_schedule.specs.HeaviestPath.{IsHeaviestPath}
 use Rattle.flow_schedule.proofs.Times.{end-there, end-first_job, end-first_machine}
@@ -17,13 +18,6 @@ pub record IsHeaviestFrom (shop : Shop) (sequence path : List ℕ) (place machin
   pub stairs : IsPath machine (drop (place - 1) path) shop.machines
   pub heaviest : start_at shop sequence place machine
       + weight shop (drop (place - 1) sequence) machine (drop (place - 1) path) ≡ span shop sequence
-
--- the list from a place on
-drop-at : (xs : List ℕ) (place : ℕ) → 1 ≤ place → place ≤ length xs →
-    drop (place - 1) xs ≡ slice_index xs (place - 1) ∷ drop place xs
-drop-at xs place from to =
-    let next : suc (place - 1) ≡ place = omega arith in
-    drop-cons xs (place - 1) 0 (omega arith) ∙ ap (λ k. slice_index xs (place - 1) ∷ drop k xs) next
 
 -- a job leaves its time after it starts
 start-end : (shop : Shop) (sequence : List ℕ) (place machine : ℕ) → 1 ≤ place → place ≤ length sequence →
@@ -58,15 +52,6 @@ starts-apart shop sequence place machine start before from to first starts leave
     ] in
     (later, omega (arith, there, apart))
 
--- the time on one machine
-between-one : (shop : Shop) (job machine : ℕ) → time_between shop job machine machine ≡ time shop job machine
-between-one shop job machine =
-    omega (
-      arith,
-      time_between-first shop job machine machine (omega arith),
-      time_between-none shop job (machine + 1) machine (omega arith),
-    )
-
 -- the weight from a place on
 weight-at : (shop : Shop) (sequence path : List ℕ) (place machine : ℕ) → 1 ≤ place → place ≤ length sequence →
     length path ≡ length sequence → weight shop (drop (place - 1) sequence) machine (drop (place - 1) path)
@@ -99,7 +84,7 @@ from-last shop sequence path place from all each some last =
       heaviest = omega (
         arith,
         sum,
-        between-one shop (job_at sequence place) shop.machines,
+        time-alone shop (job_at sequence place) shop.machines,
         start-end shop sequence place shop.machines from (omega arith) some,
         whole,
       );
@@ -169,7 +154,7 @@ from-job_before shop sequence path place machine from to each some waits walked 
       heaviest = omega (
         arith,
         sum,
-        between-one shop (job_at sequence (place - 1)) machine,
+        time-alone shop (job_at sequence (place - 1)) machine,
         start-end shop sequence (place - 1) machine (omega arith) (omega arith) some,
         walked.heaviest,
         waits,

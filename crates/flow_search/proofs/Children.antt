@@ -1,26 +1,23 @@
 -- The bounds of a node's children.
 use Rattle.std.proofs.Common.{◌≡◌, ℕ, zero, suc, ◌+◌, ◌-◌, ◌*◌, ◌≤◌, Bool, true, false, cond, List, [], ◌∷◌, ◌++◌, map}
-use Rattle.std.proofs.Common.{slice_index, ap, sym, ◌∙◌, inl, inr, arith}
+use Rattle.std.proofs.Common.{slice_index, ap, sym, ◌∙◌, arith}
 use Rattle.std.specs.List.{filter}
 use Rattle.std.proofs.lemmas.List.{append-nil}
-use Rattle.std.proofs.lemmas.Bool.Decides.{eqb_tells}
 use Rattle.flow_limits.specs.Limits.{most_machines, greatest_time}
 use Rattle.flow_shop.specs.Shop.{Shop, numbers, time, time_between, IsWithinLimits}
 use Rattle.flow_shop.specs.Paths.{completion}
-use Rattle.flow_shop.specs.Front.{IsFrontOf, IsWithinFront}
+use Rattle.flow_shop.specs.Front.{IsWithinFront}
 use Rattle.flow_shop.specs.Sequences.{jobs_left}
 use Rattle.flow_shop.specs.Bound.{bound_at, front_of, release, released_bound_at}
-use Rattle.flow_shop.proofs.Recurrence.{after, completed, completion-is, completion-after, after-same}
-use Rattle.flow_shop.proofs.Fronts.{free_at, front-within}
+use Rattle.flow_shop.proofs.Fronts.{front-within}
 use Rattle.flow_shop.proofs.JobsLeft.{filter-more}
 use Rattle.flow_shop.proofs.Admissible.{front_of-is}
-use Rattle.flow_shop.specs.TwoLeast.{tails, least_below, second_below}
-use Rattle.flow_search.specs.internal.TwoLeast.{least_of_none}
-use Rattle.flow_search.specs.internal.Frames.{IsFrame, IsChild, left_from}
+use Rattle.flow_shop.specs.TwoLeast.{IsLeastWithout, tails, least_below, second_below, least_of_none}
+use Rattle.flow_search.specs.internal.Frames.{IsFrame, IsChild}
 use Rattle.flow_search.specs.declared.frame.Frame.{Frame}
 use Rattle.flow_shop.proofs.Extremes.{map-map-append}
-use Rattle.flow_shop.proofs.Taken.{left-sum, left-count, left-split, left-without, left_under}
-use Rattle.flow_shop.proofs.TwoLeastSteps.{Without, without-one, least-below-cap}
+use Rattle.flow_shop.proofs.Taken.{left-sum, left-count, left-split, left-without, left_under, left_from}
+use Rattle.flow_shop.proofs.TwoLeastSteps.{without-one, same-without, least-below-cap}
 use Rattle.flow_shop.proofs.Fronts.{tail-small}
 
 pub frame-within : (shop : Shop) (node : List ℕ) (left : ℕ) (frame : Frame) → IsWithinLimits shop →
@@ -29,19 +26,10 @@ pub frame-within : (shop : Shop) (node : List ℕ) (left : ℕ) (frame : Frame) 
 frame-within shop node left frame limits is =
     front-within shop node frame.front limits (omega (arith, is.count)) is.times
 
--- the completion time of a child
-pub child-completion : (shop : Shop) (node front : List ℕ) (job machine : ℕ) → machine ≤ shop.machines →
-    IsFrontOf shop node front →
-    after shop (free_at front) job machine ≡ completion shop (node ++ job ∷ []) machine
-child-completion shop node front job machine to is =
-    after-same shop job (free_at front) (completed shop (λ _. 0) node) machine
-    (λ k low high. is k low (omega (arith, high, to)) ∙ completion-is shop node k)
-    ∙ sym (completion-after shop node job machine)
-
 -- the least number of the jobs that a child leaves: the second least where its job has the least, else the least
 pub child-least : (f : ℕ → ℕ) (n : ℕ) (node : List ℕ) (job own least second value : ℕ) → IsChild n node job →
     own ≡ f job → least ≡ least_below least_of_none (map f (jobs_left n node)) →
-    second ≡ second_below least_of_none least_of_none (map f (jobs_left n node)) → Without own least second value →
+    second ≡ second_below least_of_none least_of_none (map f (jobs_left n node)) → IsLeastWithout own least second value →
     value ≡ least_below least_of_none (map f (jobs_left n (node ++ job ∷ [])))
 child-least f n node job own least second value kid own_is least_is second_is picked =
     let us : List ℕ = left_under node job in
@@ -50,7 +38,7 @@ child-least f n node job own least second value kid own_is least_is second_is pi
     ap (map f) (left-split n node job kid.from kid.to kid.fresh) ∙ map-map-append f us (job ∷ vs) in
     let rest : map f (jobs_left n (node ++ job ∷ [])) ≡ map f us ++ map f vs =
     ap (map f) (left-without n node job kid.from kid.to) ∙ map-map-append f us vs in
-    let one : Without (f job) (least_below least_of_none (map f us ++ f job ∷ map f vs))
+    let one : IsLeastWithout (f job) (least_below least_of_none (map f us ++ f job ∷ map f vs))
     (second_below least_of_none least_of_none (map f us ++ f job ∷ map f vs))
     (least_below least_of_none (map f us ++ map f vs)) =
     without-one (f job) least_of_none least_of_none (map f us) (map f vs) (omega arith) in
@@ -59,19 +47,13 @@ child-least f n node job own least second value kid own_is least_is second_is pi
     (least_below least_of_none (map f us ++ map f vs)) own_is (least_is ∙ ap (least_below least_of_none) whole)
     (second_is ∙ ap (second_below least_of_none least_of_none) whole) picked one
     ∙ sym (ap (least_below least_of_none) rest)
-  where
-    same-without : (y z p q r s m n : ℕ) → y ≡ z → p ≡ q → r ≡ s → Without y p r m → Without z q s n → m ≡ n
-    same-without y z p q r s m n yz pq rs a b = elim (eqb_tells y p) [
-      | inl same ↦ omega (arith, a.0 same.1, b.0 (sym yz ∙ same.1 ∙ pq), rs)
-      | inr other ↦ omega (arith, a.1 other.1, b.1 (λ e. other.1 (yz ∙ e ∙ sym pq)), pq)
-    ]
 
 -- what stands behind a machine at a child: the second least tail where its job has the least, else the least
 pub child-tail : (shop : Shop) (node : List ℕ) (left job machine tail behind : ℕ) (frame : Frame) →
     IsWithinLimits shop →
     IsFrame shop node (suc (suc left)) frame → IsChild shop.jobs node job → 1 ≤ machine → machine ≤ shop.machines →
     tail ≡ time_between shop job (machine + 1) shop.machines →
-    Without tail (slice_index frame.loads.tails (machine - 1)) (slice_index frame.second (machine - 1)) behind →
+    IsLeastWithout tail (slice_index frame.loads.tails (machine - 1)) (slice_index frame.second (machine - 1)) behind →
     behind ≡ least_below least_of_none (tails shop machine (jobs_left shop.jobs (node ++ job ∷ [])))
 child-tail shop node left job machine tail behind frame limits is kid from to is_tail picked =
     let most : shop.machines ≤ most_machines = limits.machines in
@@ -90,7 +72,7 @@ pub child-bound : (shop : Shop) (node : List ℕ) (left job machine start t tail
     IsFrame shop node (suc (suc left)) frame → IsChild shop.jobs node job → 1 ≤ machine → machine ≤ shop.machines →
     start + t ≡ completion shop (node ++ job ∷ []) machine → t ≡ time shop job machine →
     tail ≡ time_between shop job (machine + 1) shop.machines →
-    Without tail (slice_index frame.loads.tails (machine - 1)) (slice_index frame.second (machine - 1)) behind →
+    IsLeastWithout tail (slice_index frame.loads.tails (machine - 1)) (slice_index frame.second (machine - 1)) behind →
     (start + slice_index frame.loads.sums (machine - 1) + behind ≡ bound_at shop (node ++ job ∷ []) machine)
     × (behind ≤ most_machines * greatest_time)
 child-bound shop node left job machine start t tail behind frame limits is kid from to is_free is_t is_tail picked =
@@ -118,7 +100,7 @@ pub child-released : (shop : Shop) (node : List ℕ) (left job machine late t ta
     late ≡ release shop (front_of shop (node ++ job ∷ [])) (jobs_left shop.jobs (node ++ job ∷ [])) machine →
     t ≤ late → t ≡ time shop job machine →
     tail ≡ time_between shop job (machine + 1) shop.machines →
-    Without tail (slice_index frame.loads.tails (machine - 1)) (slice_index frame.second (machine - 1)) behind →
+    IsLeastWithout tail (slice_index frame.loads.tails (machine - 1)) (slice_index frame.second (machine - 1)) behind →
     late - t + (slice_index frame.loads.sums (machine - 1) + behind) ≡ released_bound_at shop (node ++ job ∷ []) machine
 child-released shop node left job machine late t tail behind frame limits is kid from to is_late low is_t is_tail
     picked =

@@ -1,31 +1,12 @@
 -- The first node of a subtree.
-use Rattle.std.proofs.Common.{
-  ◌≡◌,
-  ◌≢◌,
-  ℕ,
-  suc,
-  ◌+◌,
-  ◌-◌,
-  ◌<◌,
-  ◌≤◌,
-  ◌⊎◌,
-  Bool,
-  true,
-  false,
-  not,
-  nat_eq,
-  List,
-  [],
-  ◌∷◌,
-}
+use Rattle.std.proofs.Common.{◌≡◌, ◌≢◌, ℕ, ◌+◌, ◌-◌, ◌<◌, ◌≤◌, ◌⊎◌, Bool, true, false, not, nat_eq, List, [], ◌∷◌}
 use Rattle.std.proofs.Common.{◌++◌, length, length-append, append_assoc, take, slice_index, slice_index_or, set, ap}
 use Rattle.std.proofs.Common.{sym, ◌∙◌, subst, inl, inr, arith}
 use Rattle.std.specs.List.{filter, range_with_len, sum_by}
 use Rattle.std.proofs.lemmas.Bool.{cases_lt, eq-eqb, ne_eqb, not-true}
 use Rattle.std.proofs.lemmas.List.{get_or-set_other, get_or-set_same, take_more_set, length-take, append-nil}
 use Rattle.std.proofs.lemmas.List.{nil_from_length}
-use Rattle.std.proofs.lemmas.List.Sums.{sum_by-cons}
-use Rattle.flow_shop.specs.Shop.{Shop, numbers, time, time_between}
+use Rattle.flow_shop.specs.Shop.{Shop, numbers, time}
 use Rattle.flow_shop.specs.JobSet.{contains}
 use Rattle.flow_shop.specs.Sequences.{has}
 use Rattle.flow_search.specs.internal.Nodes.{IsAt}
@@ -99,16 +80,6 @@ done-next shop front jobs rows times sums machine value free sum is low in_rows 
       loads = more (λ i v. v
           ≡ sum_by (λ job. time shop job i) jobs) sums 0 sum machine shop.machines low in_sums sum_is is.loads;
     }
-
--- the first machine apart
-pub time_between-first : (shop : Shop) (job a b : ℕ) → a ≤ b →
-    time_between shop job a b ≡ time shop job a + time_between shop job (a + 1) b
-time_between-first shop job a b h =
-    let n : b + 1 - a ≡ suc (b - a) = omega arith in
-    let m : b - a ≡ b + 1 - (a + 1) = omega arith in
-    ap (λ k. sum_by (time shop job) (range_with_len a k)) n
-    ∙ sum_by-cons (time shop job) a (range_with_len (a + 1) (b - a))
-    ∙ ap (λ k. time shop job a + sum_by (time shop job) (range_with_len (a + 1) k)) m
 
 -- once all machines and columns are filled
 pub entered : (shop : Shop) (list front jobs : List ℕ) (group : Group) (frame : ColumnFrame) (machine : ℕ) →

@@ -20,7 +20,8 @@ use Rattle.flow_search.specs.declared.state.SearchState.{SearchState}
 use Rattle.flow_search.specs.declared.eight.group.Group.{Group}
 use Rattle.flow_search.specs.declared.eight.group.ColumnFrame.{ColumnFrame}
 use Rattle.flow_search.proofs.Walk.{answer_of}
-use Rattle.flow_search.proofs.NextChild.{then-assoc, longer-part, reverse-push}
+use Rattle.flow_search.proofs.NextChild.{then-assoc, longer-part}
+use Rattle.flow_shop.proofs.Lists.{reverse-push}
 use Rattle.flow_search.proofs.ColumnsOrder.{columns-are-jobs, column-left}
 
 -- a column before the next, and the frame after its child

@@ -10,24 +10,16 @@ use Rattle.flow_shop.specs.Bound.{release, released_bound_at, front_of}
 use Rattle.flow_shop.proofs.Recurrence.{completion-push, time_between-first}
 use Rattle.flow_shop.proofs.Fronts.{tail-small}
 use Rattle.flow_shop.proofs.Admissible.{front_of-is}
+use Rattle.flow_shop.proofs.Ranges.{greatest-next}
 use Rattle.flow_shop.proofs.Taken.{left-sum}
 use Rattle.flow_bound.proofs.Releases.{start_from, start-here}
-use Rattle.flow_bound.proofs.Running.{greatest-step, time_between-split}
+use Rattle.flow_bound.proofs.Running.{time_between-split}
 use Rattle.flow_search.specs.declared.eight.group.TheConstants.{GONE}
 use Rattle.flow_search.specs.declared.eight.group.MachineRow.{MachineRow}
 use Rattle.flow_search.specs.declared.eight.group.Group.{Group}
 use Rattle.flow_search.specs.declared.eight.group.ColumnFrame.{ColumnFrame}
 use Rattle.flow_search.specs.internal.Columns.{IsLeastOfOthers, IsColumnLeft, IsFrameOf, IsOpened, job_of, child}
 use Rattle.flow_search.proofs.ColumnsPassed.{least-left, behind-is}
-
-greatest-more : (f : ℕ → ℕ) (n : ℕ) →
-    greatest (map f (numbers 1 (n + 1))) ≡ max (greatest (map f (numbers 1 n))) (f (n + 1))
-greatest-more f n =
-    let next : n + 1 + 1 - 1 ≡ n + 1 = omega arith in
-    let here : n + 1 - 1 ≡ n = omega arith in
-    sym (ap (λ k. greatest (map f (numbers 1 k))) next)
-    ∙ greatest-step f (n + 1) (omega arith)
-    ∙ ap (λ k. max (greatest (map f (numbers 1 k))) (f (n + 1))) here
 
 -- the release, from the starts from the earlier machines
 pub release-is : (shop : Shop) (front left : List ℕ) (place : ℕ) →
@@ -36,7 +28,7 @@ pub release-is : (shop : Shop) (front left : List ℕ) (place : ℕ) →
 release-is shop front left place =
     let e : place + 1 - 1 ≡ place = omega arith in
     let here = start-here shop front left (place + 1) (omega arith) ∙ ap (slice_index front) e in
-    omega (arith, greatest-more (start_from shop front left (place + 1)) place, here)
+    omega (arith, greatest-next (start_from shop front left (place + 1)) place, here)
 
 -- one more machine
 pub start_from-more : (shop : Shop) (front left : List ℕ) (machine place first made next : ℕ) →
@@ -44,7 +36,7 @@ pub start_from-more : (shop : Shop) (front left : List ℕ) (machine place first
     next ≡ max made (start_from shop front left machine (place + 1)) →
     next ≡ max first (greatest (map (start_from shop front left machine) (numbers 1 (place + 1))))
 start_from-more shop front left machine place first made next was is =
-    omega (arith, was, is, greatest-more (start_from shop front left machine) place)
+    omega (arith, was, is, greatest-next (start_from shop front left machine) place)
 
 -- what a column's job needs between two machines
 pub between-is : (shop : Shop) (list : List ℕ) (group : Group) (frame : ColumnFrame) (row : MachineRow)

@@ -4,17 +4,17 @@ use Rattle.std.proofs.Common.{arith}
 use Rattle.flow_limits.specs.Limits.{most_machines, greatest_time}
 use Rattle.flow_shop.specs.Shop.{Shop, time_between, IsWithinLimits}
 use Rattle.flow_shop.specs.Least.{least}
-use Rattle.flow_shop.specs.TwoLeast.{least_below}
+use Rattle.flow_shop.specs.TwoLeast.{IsLeastWithout, least_below, least_of_none}
 use Rattle.flow_shop.specs.Sequences.{jobs_left}
-use Rattle.flow_shop.proofs.TwoLeastSteps.{Without, least-below-cap}
+use Rattle.flow_shop.proofs.TwoLeastSteps.{least-below-cap}
 use Rattle.flow_shop.proofs.Taken.{left-count}
 use Rattle.flow_shop.specs.Rows.{IsRow}
 use Rattle.flow_shop.specs.declared.row.Row.{Row}
 use Rattle.flow_shop.proofs.Recurrence.{time_between-first}
 use Rattle.flow_shop.proofs.Fronts.{tail-small}
-use Rattle.flow_search.specs.internal.TwoLeast.{time_to, least_of_none}
+use Rattle.flow_search.specs.internal.TwoLeast.{time_to}
 use Rattle.flow_search.specs.internal.Lags.{IsLagged}
-use Rattle.flow_search.specs.declared.two_least.TwoLeast.{TwoLeast}
+use Rattle.flow_search.specs.declared.two_least.LeastPairs.{LeastPairs}
 use Rattle.flow_search.proofs.Children.{child-least}
 use Rattle.flow_bound.proofs.Running.{time_between-split}
 
@@ -77,11 +77,11 @@ least-to shop machine place jobs limits to low some =
     (λ job. time_to-small shop machine place job limits to low) (omega arith)).0
 
 -- the least time that the jobs which a child leaves need from a machine to before another
-pub child-need : (shop : Shop) (node : List ℕ) (left job machine place own value : ℕ) (row : Row) (lows : TwoLeast) →
+pub child-need : (shop : Shop) (node : List ℕ) (left job machine place own value : ℕ) (row : Row) (lows : LeastPairs) →
     IsLagged shop node left job machine row lows → 1 ≤ machine → place < machine - 1 →
     own ≡ (slice_index row.times place + slice_index row.tails place)
     - (slice_index row.times (machine - 1) + slice_index row.tails (machine - 1)) →
-    Without own (slice_index lows.least place) (slice_index lows.second place) value →
+    IsLeastWithout own (slice_index lows.least place) (slice_index lows.second place) value →
     (value ≡ least (map (time_to shop machine place) (jobs_left shop.jobs (node ++ job ∷ []))))
     × (value ≤ most_machines * greatest_time)
 child-need shop node left job machine place own value row lows is from low own_is picked =

@@ -1,27 +1,25 @@
 -- The next child of a node: its job is the first that is left, and the walk goes on with it.
 use Rattle.std.proofs.Common.{◌≡◌, ℕ, zero, suc, ◌+◌, ◌-◌, ◌<◌, ◌≤◌, Bool, true, false, cond, not, nat_le, List}
-use Rattle.std.proofs.Common.{[], ◌∷◌, ◌++◌, Option, Some, None, length, slice_index_or, reverse, refl, ap}
+use Rattle.std.proofs.Common.{[], ◌∷◌, ◌++◌, Option, Some, None, length, slice_index_or, refl, ap}
 use Rattle.std.proofs.Common.{sym, subst, ◌∙◌, inl, inr, arith, append_assoc, length-append}
 use Rattle.std.specs.List.{filter, find, range_with_len}
-use Rattle.std.proofs.lemmas.List.{reverse-append}
+use Rattle.std.proofs.lemmas.Bool.{not-true}
 use Rattle.flow_shop.specs.Shop.{Shop, numbers}
 use Rattle.flow_shop.specs.Front.{IsFrontOf}
 use Rattle.flow_shop.specs.JobSet.{contains, members}
 use Rattle.flow_shop.specs.Sequences.{has, jobs_left}
 use Rattle.flow_search.specs.Search.{Bound}
 use Rattle.flow_shop.proofs.JobsLeft.{bool_cases}
+use Rattle.flow_shop.proofs.Taken.{left_from}
 use Rattle.flow_bound.specs.Loads.{AreLoadsOf}
 use Rattle.flow_search.specs.internal.Walk.{Walk, Incumbent, walk, walk_each}
 use Rattle.flow_search.specs.internal.TwoLeast.{second_tail}
 use Rattle.flow_search.specs.internal.Nodes.{IsAt}
 use Rattle.flow_search.specs.internal.Nodes.{then_walk}
-use Rattle.flow_search.specs.internal.Frames.{IsFrame, IsChild, path, left_from, walk_from, resume}
+use Rattle.flow_search.specs.internal.Frames.{IsFrame, IsChild, path, walk_from, resume}
 use Rattle.flow_search.specs.declared.frame.Frame.{Frame}
 use Rattle.flow_search.proofs.Walk.{answer_of}
 use Rattle.flow_search.proofs.Nodes.{members-are, left-count}
-
-pub reverse-push : {A : Type 0} (xs new : List A) (x : A) → new ≡ xs ++ x ∷ [] → reverse new ≡ x ∷ reverse xs
-reverse-push xs new x e = ap reverse e ∙ reverse-append xs (x ∷ [])
 
 -- the first of some numbers that pass a test, which agrees with another test on them
 next-in : (p q : ℕ → Bool) (a len j : ℕ) → ((k : ℕ) → a ≤ k → k < a + len → p k ≡ q k) →
@@ -77,10 +75,6 @@ none-in p q a (suc len) same e =
           ∙ ap (λ b. cond b (Some a) (find p rest)) fail)
     ]
 
-not-has : (b : Bool) → not b ≡ true → b ≡ false
-not-has true e = absurd (cc)
-not-has false e = refl
-
 -- the jobs that a node leaves, where the next one is found in the set of them
 
 pub left-next : (shop : Shop) (node front : List ℕ) (set : List Bool) (count from j : ℕ) →
@@ -95,7 +89,7 @@ left-next shop node front set count from j at low high e =
     let free : not (has node j) ≡ true = sym (at.left j (omega (arith, found.1)) (omega (arith, found.2)))
     ∙ found.3 in (
       found.0 ∙ ap (λ n. j ∷ filter (λ k. not (has node k)) (range_with_len (j + 1) n)) len_is,
-      record { from = omega (arith, found.1); to = omega (arith, found.2); fresh = not-has (has node j) free },
+      record { from = omega (arith, found.1); to = omega (arith, found.2); fresh = not-true (has node j) free },
       found.1,
       found.3,
     )
@@ -173,7 +167,7 @@ pub kid-of : (shop : Shop) (node front : List ℕ) (set : List Bool) (count job 
     1 ≤ job → job ≤ shop.jobs →
     contains set job ≡ true → IsChild shop.jobs node job
 kid-of shop node front set count job at low high there =
-    record { from = low; to = high; fresh = not-has (has node job) (sym (at.left job low high) ∙ there) }
+    record { from = low; to = high; fresh = not-true (has node job) (sym (at.left job low high) ∙ there) }
 
 -- the frame of a node, from its rest
 pub frame-of : (shop : Shop) (node front : List ℕ) (set : List Bool) (left : ℕ) (frame : Frame) →

@@ -4,7 +4,7 @@ use Rattle.std.proofs.Common.{nat_le, List, [], ◌∷◌, ◌++◌, Some, None,
 use Rattle.std.proofs.Common.{slice_index_or, slice_set, take, refl, ap, sym, ◌∙◌, inl, inr, arith, length-append}
 use Rattle.std.specs.List.{filter, find, range_with_len, sum_by}
 use Rattle.std.proofs.Math.Bool.{or-false}
-use Rattle.std.proofs.lemmas.Bool.{cond-true, cond-false, eqb-false, eq-eqb, ne_eqb}
+use Rattle.std.proofs.lemmas.Bool.{cond-true, cond-false, eqb-false, not-true}
 use Rattle.std.proofs.lemmas.Bool.Decides.{eqb_tells}
 use Rattle.std.proofs.lemmas.List.{get_or-set_other, get_or-set_same, length-set}
 use Rattle.std.proofs.lemmas.List.Folds.{list_any-append}
@@ -26,19 +26,16 @@ use Rattle.flow_search.specs.internal.Nodes.{IsAt, Wrote, Walked, walked, childr
 use Rattle.flow_search.specs.declared.state.SearchState.{SearchState}
 use Rattle.flow_search.proofs.Walk.{Fresh, fresh-push, range-all, answer_of, has-at}
 use Rattle.flow_shop.proofs.Lists.{find-some}
-
--- the first of the numbers
-pub numbers-next : (k n : ℕ) → k ≤ n → numbers k n ≡ k ∷ numbers (k + 1) n
-numbers-next k n h = let e : n + 1 - k ≡ suc (n + 1 - (k + 1)) = omega arith in ap (range_with_len k) e
+use Rattle.flow_shop.proofs.Ranges.{numbers-first}
 
 pub numbers-none : (n : ℕ) → numbers (n + 1) n ≡ []
 numbers-none n = let e : n + 1 - (n + 1) ≡ 0 = omega arith in ap (range_with_len (n + 1)) e
 
 pub find-here : (p : ℕ → Bool) (k n : ℕ) → k ≤ n → p k ≡ true → find p (numbers k n) ≡ Some k
-find-here p k n h pass = ap (find p) (numbers-next k n h) ∙ cond-true (p k) (Some k) (find p (numbers (k + 1) n)) pass
+find-here p k n h pass = ap (find p) (numbers-first k n h) ∙ cond-true (p k) (Some k) (find p (numbers (k + 1) n)) pass
 
 pub find-skip : (p : ℕ → Bool) (k n : ℕ) → k ≤ n → p k ≡ false → find p (numbers (k + 1) n) ≡ find p (numbers k n)
-find-skip p k n h fail = sym (ap (find p) (numbers-next k n h)
+find-skip p k n h fail = sym (ap (find p) (numbers-first k n h)
     ∙ cond-false (p k) (Some k) (find p (numbers (k + 1) n)) fail)
 
 pub find-past : (p : ℕ → Bool) (k n : ℕ) → n < k → None ≡ find p (numbers k n)
@@ -46,11 +43,11 @@ find-past p k n h = let e : 0 ≡ n + 1 - k = omega arith in ap (λ len. find p 
 
 pub filter-here : (p : ℕ → Bool) (k n : ℕ) → k ≤ n → p k ≡ true →
     filter p (numbers k n) ≡ k ∷ filter p (numbers (k + 1) n)
-filter-here p k n h pass = ap (filter p) (numbers-next k n h)
+filter-here p k n h pass = ap (filter p) (numbers-first k n h)
     ∙ cond-true (p k) (k ∷ filter p (numbers (k + 1) n)) (filter p (numbers (k + 1) n)) pass
 
 pub filter-skip : (p : ℕ → Bool) (k n : ℕ) → k ≤ n → p k ≡ false → filter p (numbers k n) ≡ filter p (numbers (k + 1) n)
-filter-skip p k n h fail = ap (filter p) (numbers-next k n h)
+filter-skip p k n h fail = ap (filter p) (numbers-first k n h)
     ∙ cond-false (p k) (k ∷ filter p (numbers (k + 1) n)) (filter p (numbers (k + 1) n)) fail
 
 find-same : (p q : ℕ → Bool) (a n : ℕ) → ((k : ℕ) → a ≤ k → k < a + n → p k ≡ q k) →
@@ -156,12 +153,14 @@ find-released shop node front unscheduled count value at =
     + least (map (λ job. time_between shop job (k + 1) shop.machines) (jobs_left shop.jobs node)))) same)
 
 -- the bound of version 2
-pub bound-two : (version : ℕ) → version ≡ 2 → bound_of version ≡ released_bound_at
-bound-two version is = ap (λ b. cond b released_bound_at bound_at) (eq-eqb version 2 is)
+pub bound-two : (version : ℕ) (released : Bool) → released ≡ nat_eq version 2 → released ≡ true →
+    bound_of version ≡ released_bound_at
+bound-two version released tells is = ap (λ b. cond b released_bound_at bound_at) (sym tells ∙ is)
 
 -- and of the others
-pub bound-one : (version : ℕ) → version ≢ 2 → bound_of version ≡ bound_at
-bound-one version is = ap (λ b. cond b released_bound_at bound_at) (ne_eqb version 2 is)
+pub bound-one : (version : ℕ) (released : Bool) → released ≡ nat_eq version 2 → released ≡ false →
+    bound_of version ≡ bound_at
+bound-one version released tells is = ap (λ b. cond b released_bound_at bound_at) (sym tells ∙ is)
 
 -- a machine that was found
 pub machine-is : (shop : Shop) (p : ℕ → Bool) (machine : ℕ) → IsWithinLimits shop →
@@ -171,10 +170,6 @@ machine-is shop p machine limits e =
     × (k ≤ shop.machines)) (numbers 1 shop.machines) machine (range-all shop.machines) (sym e) in
     let most : shop.machines ≤ most_machines = limits.machines in
     (at.1.0, omega (arith, at.1.1))
-
-not-false : (b : Bool) → true ≡ not b → b ≡ false
-not-false true e = absurd (cc)
-not-false false e = refl
 
 -- the next node
 pub at-child : (shop : Shop) (node front next : List ℕ) (unscheduled : List Bool) (count left job : ℕ) →
@@ -187,7 +182,7 @@ at-child shop node front next unscheduled count left job at e low high there is_
     let size : length unscheduled ≡ most_jobs = at.size in
     let most : shop.jobs ≤ most_jobs = at.limits.jobs in
     let within : job - 1 < length unscheduled = omega arith in
-    let free : has node job ≡ false = not-false (has node job) (sym there ∙ at.left job low high) in
+    let free : has node job ≡ false = not-true (has node job) (sym (at.left job low high) ∙ there) in
     let fresh : Fresh shop.jobs (node ++ job ∷ []) =
     fresh-push shop.jobs node job (
       recursion_from_All (λ job. (1 ≤ job)

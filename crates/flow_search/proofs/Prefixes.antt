@@ -2,7 +2,7 @@
 use Rattle.std.proofs.Common.{◌≡◌, ℕ, zero, suc, ◌+◌, ◌-◌, ◌*◌, ◌<◌, ◌≤◌, true, false, not, ◌||◌, nat_eq, List, [], ◌∷◌}
 use Rattle.std.proofs.Common.{◌++◌, None, length, Some, take, drop, get_or, slice_index_or, refl, ap, sym, subst, ◌∙◌}
 use Rattle.std.proofs.Common.{inl, inr, arith}
-use Rattle.std.proofs.lemmas.List.{take_more}
+use Rattle.std.proofs.lemmas.List.{take_all, take_more}
 use Rattle.std.proofs.lemmas.Bool.{cond-true, or_left, or_right, eq-eqb, false≢true}
 use Rattle.std.proofs.lemmas.Bool.Decides.{eqb_tells}
 use Rattle.std.proofs.lemmas.List.Elements.{All-from_recursion, recursion_from_All}
@@ -96,14 +96,10 @@ way-goes-on plan prefix front next_front i now next are short h way entered is_n
       tree = entered.tree ∙ way.tree;
     }
 
-take-all : (xs : List ℕ) → take (length xs) xs ≡ xs
-take-all [] = refl
-take-all (x ∷ xs) = ap (λ ys. x ∷ ys) (take-all xs)
-
 -- at the end of the way
 arrived : (prefix node : List ℕ) (i : ℕ) → i ≤ length prefix → length prefix ≤ i → node ≡ take i prefix → node ≡ prefix
 arrived prefix node i low high e = let same : i ≡ length prefix = omega arith in e ∙ ap (λ k. take k prefix) same
-    ∙ take-all prefix
+    ∙ take_all (length prefix) prefix (omega arith)
 
 prefix-walk : (plan : Planned) (bound : Bound) (prefix front : List ℕ) (i count : ℕ) (search : SearchState) →
     count ≡ plan.shop.jobs - length prefix → i ≤ length prefix → length prefix ≤ i →
@@ -133,8 +129,8 @@ prefix-done plan bound admissible prefix front i budget count old new are short 
 -- the bound of each version is admissible
 pub admissible-of : (version : ℕ) → IsAdmissible (bound_of version)
 admissible-of version = elim (eqb_tells version 2) [
-  | inl two ↦ subst IsAdmissible (sym (bound-two version two.1)) released_bound_is_admissible
-  | inr one ↦ subst IsAdmissible (sym (bound-one version one.1)) bound_is_admissible
+  | inl two ↦ subst IsAdmissible (sym (bound-two version (nat_eq version 2) refl two.0)) released_bound_is_admissible
+  | inr one ↦ subst IsAdmissible (sym (bound-one version (nat_eq version 2) refl one.0)) bound_is_admissible
 ]
 
 -- the best and the tree of a prefix of the plan, once its walk is done; the code knows the instance as `shop`

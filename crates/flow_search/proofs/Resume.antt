@@ -19,7 +19,8 @@ use Rattle.flow_search.specs.internal.Walk.{Walk, Incumbent, walk, walk_each}
 use Rattle.flow_search.specs.internal.TwoLeast.{second_tail}
 use Rattle.flow_search.specs.internal.Nodes.{IsAt, Wrote, Entered, Left, Gave, Walked, Opens, walked, incumbent_of}
 use Rattle.flow_search.specs.internal.Nodes.{then_walk}
-use Rattle.flow_search.specs.internal.Frames.{IsFrame, IsChild, IsStack, IsWalking, path, left_from, walk_from, resume}
+use Rattle.flow_search.specs.internal.Frames.{IsFrame, IsChild, IsStack, IsWalking, path, walk_from, resume}
+use Rattle.flow_shop.proofs.Taken.{left_from}
 use Rattle.flow_search.specs.declared.frame.Frame.{Frame}
 use Rattle.flow_search.specs.declared.state.SearchState.{SearchState}
 use Rattle.flow_search.proofs.Walk.{answer_of}

@@ -12,8 +12,8 @@ use Rattle.flow_shop.specs.Bound.{letter, bound_at, released_bound_at}
 use Rattle.flow_shop.proofs.Admissible.{released_bound_is_stronger}
 use Rattle.flow_search.specs.Search.{Bound, in_force, tree_at, tree, pruning_machine}
 use Rattle.flow_search.specs.Plans.{prefix_of, prefixes_of}
-use Rattle.flow_search.specs.Versions.{IsStronger, StrongerBoundsShortenTrees, SecondVersionShortensTrees}
-use Rattle.flow_search.specs.Versions.{SecondVersionKeepsBudget}
+use Rattle.flow_search.specs.VersionLaws.{IsStronger, StrongerBoundsShortenTrees, SecondVersionShortensTrees}
+use Rattle.flow_search.specs.VersionLaws.{SecondVersionKeepsBudget}
 
 -- where none of some numbers passes a test, none passes a stricter one
 none-stricter : (p q : ℕ → Bool) (from n : ℕ) → 1 ≤ from → ((k : ℕ) → 1 ≤ k → q k ≡ true → p k ≡ true) →

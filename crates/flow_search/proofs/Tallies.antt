@@ -4,7 +4,7 @@ use Rattle.std.proofs.Common.{List, [], ◌∷◌, ◌++◌, Option, Some, None,
 use Rattle.std.proofs.Common.{refl, ap, sym, subst, ◌∙◌, inl, inr, arith, unwrap_or}
 use Rattle.std.specs.List.{flat_map, prefix_len, AllByRecursion}
 use Rattle.std.specs.Option.{option_map, option_to_list}
-use Rattle.std.proofs.lemmas.List.{append-nil, take_more, length-map, get_or-map}
+use Rattle.std.proofs.lemmas.List.{append-nil, take_all, take_more, length-map, get_or-map}
 use Rattle.std.proofs.lemmas.List.Concat.{flat_map-append}
 use Rattle.std.proofs.lemmas.List.Folds.{list_all-append}
 use Rattle.std.proofs.lemmas.Bool.{cond-true, cond-false, cases_Bool, cases_lt, and_parts, leb-true, le-leb, lt-leb}
@@ -122,10 +122,6 @@ map-append-one : {X Y : Type 0} (f : X → Y) (xs : List X) (x : X) → map f (x
 map-append-one f [] x = refl
 map-append-one f (y ∷ ys) x = ap (λ zs. f y ∷ zs) (map-append-one f ys x)
 
-take-all : {X : Type 0} (xs : List X) → take (length xs) xs ≡ xs
-take-all [] = refl
-take-all (x ∷ xs) = ap (λ ys. x ∷ ys) (take-all xs)
-
 pub trees-count : (plan : Planned) → length (trees_of plan) ≡ length (prefixes_of plan)
 trees-count plan = length-map (prefixes_of plan) (tree plan.shop (bound_of plan.options.version) plan.start.value)
 
@@ -142,8 +138,8 @@ trees-more plan number h =
 
 pub bests-all : (plan : Planned) → bests plan (length (prefixes_of plan))
     ≡ flat_map (λ prefix. option_to_list (best plan.shop plan.start.value prefix)) (prefixes_of plan)
-bests-all plan = ap (flat_map (λ prefix. option_to_list (best plan.shop plan.start.value prefix))) (take-all
-    (prefixes_of plan))
+bests-all plan = ap (flat_map (λ prefix. option_to_list (best plan.shop plan.start.value prefix))) (take_all
+    (length (prefixes_of plan)) (prefixes_of plan) (omega arith))
 
 -- the first trees of a plan are within the budget
 abbrev pub AreWithin : Planned → ℕ → Type 0
@@ -196,7 +192,7 @@ no-over plan w =
     let texts : List (List ℕ) = trees_of plan in
     let whole : AllByRecursion (λ text. length text ≤ plan.options.budget) texts =
     subst (AllByRecursion (λ text. length text ≤ plan.options.budget)) (ap (λ k. take k texts) (sym (trees-count plan))
-    ∙ take-all texts) w in
+    ∙ take_all (length texts) texts (omega arith)) w in
     let place = none-over plan.options.budget texts whole in
     let past : nat_lt (length texts) (length texts) ≡ false = le-ltb (length texts) (length texts) (omega arith) in
     ap (λ k. cond (nat_lt k (length texts)) (Some k) None) place
@@ -314,7 +310,8 @@ tally-verdict plan tally f is e =
       value = ap (λ f. f.value) same;
       sequence = ap (λ f. f.sequence) same;
       trees =
-          is.trees ∙ ap (λ count. take count (trees_of plan)) (sym (trees-count plan)) ∙ take-all (trees_of plan);
+          is.trees ∙ ap (λ count. take count (trees_of plan)) (sym (trees-count plan))
+          ∙ take_all (length (trees_of plan)) (trees_of plan) (omega arith);
     }
 
 pub verdict-least : (plan : Planned) (verdict : Verdict) → IsPlan plan → IsVerdict plan verdict →

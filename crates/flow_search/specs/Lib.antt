@@ -3,6 +3,6 @@ pub mod Search
 pub mod Plans
 pub mod Outcomes
 pub mod Verdicts
-pub mod Versions
+pub mod VersionLaws
 pub mod Cuts
 pub mod internal

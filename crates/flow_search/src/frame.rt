@@ -1,11 +1,13 @@
 //! What is kept of a node while its children are walked.
 
-ghost use Rattle.std.specs.Prelude.{◌≡◌, ℕ, suc, List, [], ◌∷◌, ◌++◌};
+ghost use Rattle.std.specs.Prelude.{◌≡◌, ℕ, suc, ◌-◌, ◌≤◌, List, [], ◌∷◌, ◌++◌, slice_index};
+ghost use Rattle.flow_limits.specs.Limits.{most_machines};
 ghost use Rattle.flow_shop.specs.JobSet.{members};
 ghost use Rattle.flow_shop.specs.Bound.{bound_at, released_bound_at};
 ghost use Rattle.flow_shop.specs.Sequences.{jobs_left};
 ghost use Rattle.flow_search.specs.internal.Walk.{first_reaching};
 ghost use Rattle.flow_shop.specs.JobSet.{IsSetOf};
+ghost use Rattle.flow_shop.specs.TwoLeast.{IsLeastWithout};
 ghost use Rattle.flow_search.specs.internal.TwoLeast.{AreSecondTails};
 ghost use Rattle.flow_search.specs.internal.Lags.{AreLeastLags};
 ghost use Rattle.flow_search.specs.internal.Frames.{IsFrame, IsChild};
@@ -13,10 +15,10 @@ ghost use Rattle.flow_search.specs.internal.Settings.{shop_of};
 
 use crate::release::release_at_child;
 use crate::setting::Setting;
-use crate::two_least::{LeastLags, least_tails, without};
+use crate::two_least::{LeastLags, least_tails};
 use flow_bound::Loads;
 use flow_limits::MAX_MACHINES;
-use flow_shop::{Front, JobSet};
+use flow_shop::{Front, JobSet, TwoLeast};
 
 /// A node with more than eight jobs left, whose children are walked.
 #[derive(Drop)]
@@ -50,6 +52,22 @@ impl Frame {
         }
     }
 
+    /// The least tail after a machine of the jobs left without one of them, by its own tail.
+    #[inline(always)]
+    fn tail_without(&self, machine: u16, own: u32) -> u32
+        requires from { 1 ≤ machine }
+        requires to { machine ≤ self.now.loads.machines }
+        requires limit { machine ≤ most_machines }
+        ensures { IsLeastWithout own (slice_index self.now.loads.tails (machine - 1))
+            (slice_index self.now.second (machine - 1)) result }
+    {
+        let tails = TwoLeast {
+            least: self.loads.tail(machine),
+            second: self.second[machine as usize - 1],
+        };
+        tails.without(own)
+    }
+
     /// The first machine that prunes a child by the machine bound: whose machine bound there reaches a value.
     pub fn pruning_of_child_plain(&self, setting: &Setting, job: u16, value: u64) -> Option<u16>
         requires at { (node : List ℕ) × (left : ℕ) × IsFrame (shop_of setting.now) node (suc (suc left)) self.now
@@ -63,12 +81,7 @@ impl Frame {
         for machine in 1..setting.instance.machines() + 1 {
             let place = machine as usize - 1;
             let start = self.front.at(machine).max(free);
-            let least = self.loads.tail(machine);
-            let tail = if row.tails[place] == least {
-                self.second[place]
-            } else {
-                least
-            };
+            let tail = self.tail_without(machine, row.tails[place]);
             if value <= start + u64::from(self.loads.sum(machine)) + u64::from(tail) {
                 return Some(machine);
             }
@@ -103,11 +116,7 @@ impl Frame {
             let place = machine as usize - 1;
             let start = self.front.at(machine).max(leaves);
             let time = u64::from(row.times[place]);
-            let tail = without(
-                row.tails[place],
-                self.loads.tail(machine),
-                self.second[place],
-            );
+            let tail = self.tail_without(machine, row.tails[place]);
             let work = u64::from(self.loads.sum(machine)) + u64::from(tail);
             // The released bound is at least the machine bound.
             if value <= start + work {

@@ -16,7 +16,7 @@ use crate::setting::Setting;
 use crate::state::SearchState;
 use crate::two_least::LeastLags;
 use flow_bound::Loads;
-use flow_shop::{Front, Instance, JobSet};
+use flow_shop::{Front, Instance, JobSet, has_releases};
 
 /// The first machine that prunes a node by the machine bound: whose machine bound there reaches a value.
 fn pruning_of_node_plain(
@@ -51,7 +51,7 @@ pub fn pruning_of_node(
     ensures { (node : List ℕ) (left : ℕ) → IsAt (shop_of setting.now) node front.now set.now (suc left) →
         result ≡ pruned_at setting.now value node }
 {
-    if setting.version == 2 {
+    if has_releases(setting.version) {
         pruning_of_node_released(setting, loads, front, set, value)
     } else {
         pruning_of_node_plain(setting.instance, loads, front, value)
@@ -74,7 +74,7 @@ pub fn pruning_of_child(
     requires job { IsJobIn (shop_of setting.now) search.now.unscheduled job }
     ensures { result ≡ pruned_at setting.now search.now.value (search.now.node.items ++ job ∷ []) }
 {
-    if setting.version == 2 {
+    if has_releases(setting.version) {
         here.pruning_of_child_released(setting, lags, job, search.value)
     } else {
         here.pruning_of_child_plain(setting, job, search.value)

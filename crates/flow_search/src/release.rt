@@ -14,7 +14,7 @@ ghost use Rattle.flow_search.specs.internal.Lags.{IsLagged};
 ghost use Rattle.flow_search.specs.internal.Settings.{shop_of};
 
 use crate::setting::Setting;
-use crate::two_least::{TwoLeast, least_lags, without};
+use crate::two_least::{LeastPairs, least_lags};
 use flow_bound::{Loads, release_from_lags};
 use flow_limits::MAX_MACHINES;
 use flow_shop::{Front, JobSet, Row};
@@ -47,7 +47,12 @@ pub fn pruning_of_node_released(
 /// The release of a machine at a child, by when its job leaves the machines up to this one, its row, and the two least
 /// lags of the node's jobs to the machine.
 #[inline(always)]
-pub fn release_at_child(row: &Row, lags: &TwoLeast, free: &[u32; MAX_MACHINES], machine: u16) -> u32
+pub fn release_at_child(
+    row: &Row,
+    lags: &LeastPairs,
+    free: &[u32; MAX_MACHINES],
+    machine: u16,
+) -> u32
     requires from { 1 ≤ machine }
     requires child { (shop : Shop) × (node : List ℕ) × (left : ℕ) × (job : ℕ) ×
         IsLagged shop node left job machine row.now lags.now }
@@ -65,7 +70,7 @@ pub fn release_at_child(row: &Row, lags: &TwoLeast, free: &[u32; MAX_MACHINES], 
     let mut made = free[last];
     for place in 0..last {
         let own = (row.times[place] + row.tails[place]).saturating_sub(needs);
-        let least = without(own, lags.least[place], lags.second[place]);
+        let least = lags.at(place).without(own);
         made = made.max(free[place] + least);
     }
     made

@@ -16,7 +16,7 @@ use crate::frame::Frame;
 use crate::pruning::{pruning_of_child, pruning_of_node};
 use crate::setting::Setting;
 use crate::state::SearchState;
-use crate::two_least::{LeastLags, TwoLeast, renew_lags};
+use crate::two_least::{LeastLags, LeastPairs, renew_lags};
 use flow_bound::Loads;
 use flow_limits::MAX_MACHINES;
 use flow_shop::{Front, JobSet, front_push};
@@ -120,7 +120,7 @@ fn walk_children(
 {
     let instance = setting.instance;
     let jobs = instance.jobs();
-    let mut lags = [TwoLeast::none(); MAX_MACHINES];
+    let mut lags = [LeastPairs::none(); MAX_MACHINES];
     renew_lags(setting, &search.unscheduled, &mut lags);
     'walk: loop {
         let Some(job) = first_of(&search.unscheduled, here.next, jobs) else {

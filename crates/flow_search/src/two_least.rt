@@ -1,7 +1,7 @@
 //! The two least numbers of some jobs, side by side: their tails, or their lags. A job's lag from a machine to another
 //! is its time on the machines from there to the one before the other.
 
-ghost use Rattle.std.specs.Prelude.{◌≡◌, ◌≢◌, ℕ, ◌+◌, ◌-◌, ◌<◌, ◌≤◌, List, [], ◌∷◌, ◌++◌, slice_index};
+ghost use Rattle.std.specs.Prelude.{◌≡◌, ℕ, ◌+◌, ◌-◌, ◌<◌, ◌≤◌, List, [], ◌∷◌, ◌++◌, slice_index};
 ghost use Rattle.flow_limits.specs.Limits.{most_machines};
 ghost use Rattle.flow_shop.specs.Shop.{Shop, IsWithinLimits};
 ghost use Rattle.flow_shop.specs.JobSet.{members};
@@ -12,12 +12,12 @@ ghost use Rattle.flow_search.specs.internal.Settings.{shop_of, HasLags};
 
 use crate::setting::Setting;
 use flow_limits::MAX_MACHINES;
-use flow_shop::{JobSet, Row};
+use flow_shop::{JobSet, Row, TwoLeast, has_releases};
 
 /// The two least of some jobs' numbers at each place, each the greatest number where there is no such job. Where two
 /// jobs have the least, both are the same.
 #[derive(Clone, Copy)]
-pub struct TwoLeast {
+pub struct LeastPairs {
     /// The least.
     pub least: [u32; MAX_MACHINES],
     /// The second least.
@@ -25,25 +25,29 @@ pub struct TwoLeast {
 }
 
 /// The two least lags of some jobs to each machine, from each earlier one; those to machine 1 first.
-pub type LeastLags = [TwoLeast; MAX_MACHINES];
+pub type LeastLags = [LeastPairs; MAX_MACHINES];
 
-/// The least number of some jobs without one of them, by its own number and the two least.
-#[inline(always)]
-pub fn without(own: u32, least: u32, second: u32) -> u32
-    ensures least { own ≡ least → result ≡ second }
-    ensures other { own ≢ least → result ≡ least }
-{
-    if own == least { second } else { least }
-}
-
-impl TwoLeast {
+impl LeastPairs {
     /// Those of no job.
-    pub fn none() -> TwoLeast
+    pub fn none() -> LeastPairs
         ensures { (number : ℕ → ℕ → ℕ) (count : ℕ) → count ≤ most_machines → AreTwoLeast number count [] result }
     {
-        TwoLeast {
+        LeastPairs {
             least: [u32::MAX; MAX_MACHINES],
             second: [u32::MAX; MAX_MACHINES],
+        }
+    }
+
+    /// The two least at a place.
+    #[inline(always)]
+    pub fn at(&self, place: usize) -> TwoLeast
+        requires { place < most_machines }
+        ensures least { result.least ≡ slice_index self.now.least place }
+        ensures second { result.second ≡ slice_index self.now.second place }
+    {
+        TwoLeast {
+            least: self.least[place],
+            second: self.second[place],
         }
     }
 
@@ -55,22 +59,21 @@ impl TwoLeast {
             AreTwoLeast number count jobs self.old → AreTwoLeast number count (jobs ++ job ∷ []) self.new }
     {
         for place in 0..count {
-            let tail = numbers[place];
-            let least = self.least[place];
-            self.second[place] = self.second[place].min(least.max(tail));
-            self.least[place] = least.min(tail);
+            let two = self.at(place).with(numbers[place]);
+            self.least[place] = two.least;
+            self.second[place] = two.second;
         }
     }
 }
 
 /// The two least tails of a set of jobs after each machine.
-pub fn least_tails(setting: &Setting, set: &JobSet) -> TwoLeast
+pub fn least_tails(setting: &Setting, set: &JobSet) -> LeastPairs
     requires jobs { IsSetOf (shop_of setting.now) set.now }
     ensures { AreTwoLeast (tail_at (shop_of setting.now)) (shop_of setting.now).machines (members set.now) result }
 {
     let instance = setting.instance;
     let machines = instance.machines() as usize;
-    let mut tails = TwoLeast::none();
+    let mut tails = LeastPairs::none();
     for job in 1..instance.jobs() + 1 {
         if set.contains(job) {
             tails.take(&setting.rows[job as usize - 1].tails, machines);
@@ -97,7 +100,7 @@ fn times_to(row: &Row, machine: u16) -> [u32; MAX_MACHINES]
 }
 
 /// The two least lags of a set of jobs from each earlier machine to a machine.
-pub fn least_lags(setting: &Setting, set: &JobSet, machine: u16) -> TwoLeast
+pub fn least_lags(setting: &Setting, set: &JobSet, machine: u16) -> LeastPairs
     requires jobs { IsSetOf (shop_of setting.now) set.now }
     requires from { 1 ≤ machine }
     requires to { machine ≤ (shop_of setting.now).machines }
@@ -105,7 +108,7 @@ pub fn least_lags(setting: &Setting, set: &JobSet, machine: u16) -> TwoLeast
 {
     let instance = setting.instance;
     prove!(machine <= instance.machines());
-    let mut lags = TwoLeast::none();
+    let mut lags = LeastPairs::none();
     for job in 1..instance.jobs() + 1 {
         if set.contains(job) {
             let times = times_to(&setting.rows[job as usize - 1], machine);
@@ -120,7 +123,7 @@ pub fn renew_lags(setting: &Setting, set: &JobSet, lags: &mut LeastLags)
     requires jobs { IsSetOf (shop_of setting.now) set.now }
     ensures { HasLags setting.now set.now lags.new }
 {
-    if setting.version != 2 {
+    if !has_releases(setting.version) {
         return;
     }
     for machine in 1..setting.instance.machines() + 1 {

@@ -1,4 +1,5 @@
 pub mod BytesLemmas
+pub mod Begins
 pub mod LineLemmas
 pub mod NumberLemmas
 pub mod TextGrammar

@@ -6,7 +6,7 @@ mod fault;
 mod memory;
 mod standard;
 
-pub use all_bytes::{put_all, read_all};
+pub use all_bytes::{put_all, read_all, read_by_begin};
 pub use device::{Sink, Source};
 pub use fault::{ReadFault, Refused, WriteFault};
 pub use memory::{MemorySink, MemorySource};

@@ -7,7 +7,7 @@ mod text;
 
 pub use bytes::{
     MemorySink, MemorySource, ReadFault, Refused, Sink, Source, StdSink, StdSource, WriteFault,
-    put_all, read_all,
+    put_all, read_all, read_by_begin,
 };
 pub use laws::{each_index_is_judged, each_start_is_judged, texts_have_no_fault};
 pub use text::{

@@ -2,7 +2,7 @@
 #![tactic(auto)]
 
 mod grammar;
-mod invocation;
+mod requests;
 
 pub use grammar::make_command;
-pub use invocation::invocation_of;
+pub use requests::invocation_of;

@@ -4,8 +4,7 @@ use Rattle.std.specs.Prelude.{ℕ, ◌≡◌, ◌-◌, ◌<◌, ◌≤◌, List,
 use Rattle.std.specs.Prelude.{slice_index_or, Option, None, IfSome}
 use Rattle.flow_shop.specs.Shop.{Shop, time_between}
 use Rattle.flow_shop.specs.Sequences.{jobs_left}
-use Rattle.flow_shop.specs.TwoLeast.{least_below, second_below}
-use Rattle.flow_check.specs.internal.Nodes.{no_least}
+use Rattle.flow_shop.specs.TwoLeast.{least_below, second_below, least_of_none}
 use Rattle.flow_check.specs.declared.release.TwoLeastLags.{TwoLeastLags}
 
 -- the lags of some jobs from a machine to another
@@ -16,9 +15,9 @@ lags shop from machine jobs = map (λ job. time_between shop job from (machine -
 abbrev pub AreTwoLeastLagsTo : Shop → List ℕ → ℕ → TwoLeastLags → Type 0
 AreTwoLeastLagsTo shop list machine two =
     (from : ℕ) → 1 ≤ from → from ≤ machine →
-    (slice_index two.least (from - 1) ≡ least_below no_least (lags shop from machine (jobs_left shop.jobs list)))
+    (slice_index two.least (from - 1) ≡ least_below least_of_none (lags shop from machine (jobs_left shop.jobs list)))
     × (slice_index two.second (from - 1)
-    ≡ second_below no_least no_least (lags shop from machine (jobs_left shop.jobs list)))
+    ≡ second_below least_of_none least_of_none (lags shop from machine (jobs_left shop.jobs list)))
 
 -- the lags of one more job are taken in
 abbrev pub TakesIn : Shop → ℕ → ℕ → TwoLeastLags → TwoLeastLags → Type 0

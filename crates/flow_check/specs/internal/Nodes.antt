@@ -1,41 +1,34 @@
 -- What is kept of a list of jobs at which trees are read.
-use Rattle.std.specs.Prelude.{ℕ, suc, ◌≡◌, ◌≢◌, ◌+◌, ◌-◌, ◌≤◌, ◌⊎◌, false, List, [], ◌∷◌, ◌++◌, length, sum_by}
+use Rattle.std.specs.Prelude.{ℕ, suc, ◌≡◌, ◌+◌, ◌-◌, ◌≤◌, ◌⊎◌, false, List, [], ◌∷◌, ◌++◌, length, sum_by}
 use Rattle.std.specs.Prelude.{slice_index}
 use Rattle.std.specs.Prelude.{Option, Some, None}
 use Rattle.flow_shop.specs.Limits.{most_machines}
 use Rattle.flow_shop.specs.Shop.{Shop, time}
 use Rattle.flow_shop.specs.Front.{IsFrontOf}
 use Rattle.flow_shop.specs.Sequences.{has, jobs_left}
-use Rattle.flow_shop.specs.TwoLeast.{tails, least_below, second_below}
+use Rattle.flow_shop.specs.TwoLeast.{tails, least_below, second_below, least_of_none}
 use Rattle.flow_check.specs.internal.Links.{AreLinks}
-use Rattle.flow_check.specs.declared.node.Node.{Node}
-use Rattle.flow_check.specs.declared.node.TwoLeastTails.{TwoLeastTails}
-
--- what stands for a least that is not known, or of no numbers: the greatest number of 32 bits
-abbrev pub no_least : ℕ
-no_least = 4294967295
-
--- the least of some numbers without one of them, of which the least and the second least are known
-abbrev pub IsLeastWithout : ℕ → ℕ → ℕ → ℕ → Type 0
-IsLeastWithout one least second value = (one ≡ least → value ≡ second) × (one ≢ least → value ≡ least)
+use Rattle.flow_check.specs.declared.node.ListNode.{ListNode}
+use Rattle.flow_shop.specs.declared.two_least.TwoLeast.{TwoLeast}
 
 -- the two least tails of the jobs left after a machine
-abbrev pub AreTwoLeastTails : Shop → List ℕ → ℕ → TwoLeastTails → Type 0
+abbrev pub AreTwoLeastTails : Shop → List ℕ → ℕ → TwoLeast → Type 0
 AreTwoLeastTails shop list machine two =
-    (two.least ≡ least_below no_least (tails shop machine (jobs_left shop.jobs list)))
-    × (two.second ≡ second_below no_least no_least (tails shop machine (jobs_left shop.jobs list)))
+    (two.least ≡ least_below least_of_none (tails shop machine (jobs_left shop.jobs list)))
+    × (two.second ≡ second_below least_of_none least_of_none (tails shop machine (jobs_left shop.jobs list)))
 
--- the two least tails after each machine, where the least is known
+-- the two least tails after each machine, where they are known; where they are not, the least is what stands for that of
+-- no numbers
 pub record AreKnown (shop : Shop) (list least second : List ℕ) : Type 0 where
   pub each : (machine : ℕ) → 1 ≤ machine → machine ≤ shop.machines →
-      (slice_index least (machine - 1) ≡ no_least)
+      (slice_index least (machine - 1) ≡ least_of_none)
       ⊎ AreTwoLeastTails shop list machine
       (record { least = slice_index least (machine - 1); second = slice_index second (machine - 1) })
   pub least_size : length least ≡ most_machines
   pub second_size : length second ≡ most_machines
 
 -- what is kept of a list with so many jobs left: its front, and the time of the jobs left on each machine
-pub record IsNode (shop : Shop) (list : List ℕ) (node : Node) (left : ℕ) : Type 0 where
+pub record IsListNode (shop : Shop) (list : List ℕ) (node : ListNode) (left : ℕ) : Type 0 where
   pub times : IsFrontOf shop list node.front
   pub work : (machine : ℕ) → 1 ≤ machine → machine ≤ shop.machines →
       slice_index node.work (machine - 1) ≡ sum_by (λ job. time shop job machine) (jobs_left shop.jobs list)
@@ -45,8 +38,8 @@ pub record IsNode (shop : Shop) (list : List ℕ) (node : Node) (left : ℕ) : T
   pub some : length (jobs_left shop.jobs list) ≡ left
 
 -- a list with its node, and its jobs left linked
-pub record IsAt (shop : Shop) (list : List ℕ) (node : Node) (links : List ℕ) (left : ℕ) : Type 0 where
-  pub is_node : IsNode shop list node left
+pub record IsAt (shop : Shop) (list : List ℕ) (node : ListNode) (links : List ℕ) (left : ℕ) : Type 0 where
+  pub is_node : IsListNode shop list node left
   pub are_links : AreLinks shop.jobs list links
 
 -- a list, or a child of it

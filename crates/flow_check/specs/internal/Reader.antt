@@ -8,23 +8,23 @@ use Rattle.flow_shop.specs.Sequences.{has, jobs_left, extensions}
 use Rattle.flow_check.specs.internal.ReadTrees.{read_tree, each_tree, then_read}
 use Rattle.flow_check.specs.internal.Lags.{AreKept, AreUnknown}
 use Rattle.flow_check.specs.internal.Links.{children, IsPlace}
-use Rattle.flow_check.specs.internal.Nodes.{IsNode, IsAt}
+use Rattle.flow_check.specs.internal.Nodes.{IsListNode, IsAt}
 use Rattle.flow_check.specs.declared.fault.CheckFault.{CheckFault}
-use Rattle.flow_check.specs.declared.node.Node.{Node}
-use Rattle.flow_check.specs.declared.reader.Frame.{Frame}
+use Rattle.flow_check.specs.declared.node.ListNode.{ListNode}
+use Rattle.flow_check.specs.declared.reader.ListFrame.{ListFrame}
 use Rattle.flow_check.specs.declared.reader.TreeReader.{TreeReader}
 
 -- the frame at a place; any frame past the end
-abbrev pub frame_at : List Frame → ℕ → Frame
+abbrev pub frame_at : List ListFrame → ℕ → ListFrame
 frame_at frames place = slice_index_or frames place
     (record { node = record { front = []; work = []; least = []; second = [] }; job = 0; last = 0 })
 
 -- the node of the list at which a reader stands
-abbrev pub here : TreeReader → Node
+abbrev pub here : TreeReader → ListNode
 here reader = (frame_at reader.frames.items reader.child_left).node
 
 -- the first frames above a place, the nearest one first
-abbrev pub above : List Frame → ℕ → ℕ → List Frame
+abbrev pub above : List ListFrame → ℕ → ℕ → List ListFrame
 above frames place zero = []
 above frames place (suc count) = frame_at frames (place + 1) ∷ above frames (place + 1) count
 
@@ -49,24 +49,24 @@ pub record Opened (shop : Shop) (last job : ℕ) (old new : TreeReader) : Type 0
   pub size : length new.frames.items ≡ length old.frames.items
   pub frame : frame_at new.frames.items old.child_left ≡ record { node = here old; job = job; last = last }
   pub others : (place : ℕ) → old.child_left < place → frame_at new.frames.items place ≡ frame_at old.frames.items place
-  pub child : (list : List ℕ) → IsNode shop list (here old) (suc old.child_left) → has list job ≡ false →
-      IsNode shop (list ++ job ∷ []) (here new) (suc new.child_left)
+  pub child : (list : List ℕ) → IsListNode shop list (here old) (suc old.child_left) → has list job ≡ false →
+      IsListNode shop (list ++ job ∷ []) (here new) (suc new.child_left)
   pub lags : AreUnknown new.lags.items
 
 -- a reader went back to the list above, whose frame is this one
-pub record Closed (frame : Frame) (old new : TreeReader) : Type 0 where
+pub record Closed (frame : ListFrame) (old new : TreeReader) : Type 0 where
   pub child_left : new.child_left ≡ suc old.child_left
   pub links : new.links.items ≡ slice_set old.links.items frame.last frame.job
   pub frames : new.frames.items ≡ old.frames.items
   pub lags : AreUnknown new.lags.items
 
 -- the list that a stack of children, the deepest first, leads to
-abbrev pub path : List ℕ → List Frame → List ℕ
+abbrev pub path : List ℕ → List ListFrame → List ℕ
 path root [] = root
 path root (f ∷ fs) = path root fs ++ f.job ∷ []
 
 -- the links, with the jobs of a stack put back
-abbrev pub put_back : List ℕ → List Frame → List ℕ
+abbrev pub put_back : List ℕ → List ListFrame → List ℕ
 put_back links [] = links
 put_back links (f ∷ fs) = put_back (slice_set links f.last f.job) fs
 
@@ -81,7 +81,7 @@ children_read shop version value line child_left list bytes = trees_read shop ve
     (jobs_left shop.jobs list) bytes
 
 -- what is still to be read once the tree of a stack's list is whole
-abbrev pub resume : Shop → ℕ → ℕ → ℕ → List ℕ → ℕ → List Frame → List ℕ → Result (List ℕ) CheckFault
+abbrev pub resume : Shop → ℕ → ℕ → ℕ → List ℕ → ℕ → List ListFrame → List ℕ → Result (List ℕ) CheckFault
 resume shop version value line root left [] bytes = Ok bytes
 resume shop version value line root left (f ∷ fs) bytes =
     then_read (trees_read shop version value line left (path root fs) (children shop.jobs (path root fs) (f.job + 1))
@@ -89,7 +89,7 @@ resume shop version value line root left (f ∷ fs) bytes =
     (resume shop version value line root (suc left) fs)
 
 -- each frame's list is reached, once its job and those above are put back, and does not have the job
-abbrev pub IsStack : Shop → List ℕ → List ℕ → ℕ → List Frame → Type 0
+abbrev pub IsStack : Shop → List ℕ → List ℕ → ℕ → List ListFrame → Type 0
 IsStack shop root links left [] = Unit {0}
 IsStack shop root links left (f ∷ fs) =
     IsAt shop (path root fs) f.node (slice_set links f.last f.job) left
@@ -99,7 +99,8 @@ IsStack shop root links left (f ∷ fs) =
 -- the children of a list are being read, from the one after a job on
 pub record IsReading
     (shop : Shop) (version value line : ℕ) (root : List ℕ) (whole : Result (List ℕ) CheckFault)
-    (node : Node) (links : List ℕ) (child_left last at : ℕ) (bytes : List ℕ) (frames : List Frame) : Type 0 where
+    (node : ListNode) (links : List ℕ) (child_left last at : ℕ) (bytes : List ℕ)
+    (frames : List ListFrame) : Type 0 where
   pub here : IsAt shop (path root frames) node links (suc child_left)
   pub after_last : IsPlace shop.jobs (path root frames) last
   pub stack : IsStack shop root links (suc (suc child_left)) frames

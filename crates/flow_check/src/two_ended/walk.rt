@@ -1,6 +1,6 @@
 //! The walk through the nodes that directions open: where the directions end that prove a number.
 
-ghost use Rattle.std.specs.Prelude.{◌≡◌, ◌≢◌, ◌⊎◌, ℕ, ◌+◌, ◌-◌, ◌/◌, ◌≤◌, ◌<◌, min, false, List, [], ◌∷◌, ◌++◌};
+ghost use Rattle.std.specs.Prelude.{◌≡◌, ◌≢◌, ◌⊎◌, ℕ, ◌+◌, ◌-◌, ◌/◌, ◌≤◌, ◌<◌, false, List, [], ◌∷◌, ◌++◌};
 ghost use Rattle.std.specs.Prelude.{length, drop, take, Err, IfOk, IfErr, IfSome, IfNone};
 ghost use Rattle.flow_limits.specs.Limits.{most_jobs};
 ghost use Rattle.flow_shop.specs.Shop.{Shop};
@@ -8,6 +8,7 @@ ghost use Rattle.flow_shop.specs.Sequences.{has};
 ghost use Rattle.flow_shop.specs.Directions.{Proves, first_with, last_with};
 ghost use Rattle.flow_nodes.specs.Nodes.{IsJob, IsNode};
 ghost use Rattle.flow_nodes.specs.Groups.{AreGroups};
+ghost use Rattle.flow_nodes.specs.Lanes.{limit_of};
 ghost use Rattle.flow_check.specs.TwoEndedFaults.{HasDirectionsFault};
 ghost use Rattle.flow_check.specs.internal.Marks.{job_mark};
 ghost use Rattle.flow_check.specs.internal.Frames.{AreLeft, AreOpen, IsFrame};
@@ -17,20 +18,14 @@ ghost use Rattle.flow_check.specs.declared.fault.CheckFault.TheVariants.{Memory}
 
 use crate::fault::CheckFault;
 use crate::two_ended::DIRECTIONS;
-use flow_nodes::{LANES, Lanes, Marks, Node, groups};
+use flow_nodes::{LANES, Lanes, Marks, Node, fits_narrow_lanes, groups, limit_of};
 use flow_shop::{End, Instance};
 use std::alloc::{AllocError, Global};
 use std::simd::prelude::*;
 
-/// No bound of a node is so great.
-const ABOVE_BOUNDS: u64 = 4_294_967_295;
-
-/// The greatest number that lanes of 16 bits have.
-const NARROW: u64 = 65_535;
-
 /// A node below the number whose children at an end are read.
 #[derive(Clone, Copy)]
-pub(crate) struct Frame {
+pub(crate) struct NodeFrame {
     /// What is kept of the node.
     pub(crate) node: Node,
     /// The end.
@@ -45,7 +40,7 @@ pub(crate) struct Frame {
 #[derive(Drop)]
 pub(crate) struct Path {
     /// The frames of the nodes, the root's first; and behind them memory for those of the nodes below.
-    pub(crate) frames: Vec<Frame>,
+    pub(crate) frames: Vec<NodeFrame>,
     /// How many nodes are above the node.
     pub(crate) depth: usize,
     /// The jobs left at the node.
@@ -78,24 +73,24 @@ fn open_children<V: Lanes>(
     number: u64,
     below: &mut Marks,
 )
-    requires number { min number 4294967295 ≤ V.CAP }
+    requires number { limit_of number ≤ V.CAP }
     requires at { (shop : Shop) × AreGroups V.list V.CAP V.WIDTH shop groups.now }
     ensures { (shop : Shop) (first last : List ℕ) → AreGroups V.list V.CAP V.WIDTH shop groups.now →
         IsNode shop first last node.now → AreLeft shop first last left.now →
         AreOpen shop number end first last below.new }
 {
-    let limit = number.min(ABOVE_BOUNDS) as u32;
+    let limit = limit_of(number);
     node.mark_below(end, groups, left, limit, below);
 }
 
 /// A frame for each job, all with the same node.
-fn all_frames(alloc: Global, jobs: u16, node: Node) -> Result<Vec<Frame>, AllocError>
+fn all_frames(alloc: Global, jobs: u16, node: Node) -> Result<Vec<NodeFrame>, AllocError>
     ensures size { IfOk result (λ frames. length frames.items ≡ jobs) }
     ensures each { IfOk result (λ frames. (place : ℕ) → place < jobs → (frame_at frames.items place).node ≡ node) }
 {
     let mut frames = Vec::with_capacity(alloc, jobs as usize)?;
     'frames: while frames.len() < jobs as usize {
-        frames.push(Frame {
+        frames.push(NodeFrame {
             node,
             end: End::Front,
             below: Marks::none(),
@@ -125,7 +120,7 @@ impl Path {
     /// Begins with the children of the node at an end, of those below a number.
     #[inline(always)]
     fn open<V: Lanes>(&mut self, groups: &[Vec<V>], end: End, number: u64)
-        requires number { min number 4294967295 ≤ V.CAP }
+        requires number { limit_of number ≤ V.CAP }
         requires at { (shop : Shop) × AreGroups V.list V.CAP V.WIDTH shop groups.now }
         requires within { self.old.depth < length self.old.frames.items }
         ensures depth { self.new.depth ≡ self.old.depth }
@@ -224,7 +219,7 @@ fn walk<V: Lanes>(
     text: &[u8],
 ) -> Result<usize, CheckFault>
     requires wide { V.WIDTH ≡ 16 }
-    requires number { min number 4294967295 ≤ V.CAP }
+    requires number { limit_of number ≤ V.CAP }
     ensures within { IfOk result (λ place. place ≤ length text.now) }
     ensures read { EndsAt text.now (read_node instance.now number instance.now.jobs [] [] text.now) result
         ⊎ (result ≡ Err Memory) }
@@ -277,7 +272,7 @@ pub(crate) fn directions_end(
     ensures fault { IfErr result (λ fault.
         HasDirectionsFault instance.now number instance.now.jobs [] [] text.now fault ⊎ (fault ≡ Memory)) }
 {
-    if number <= NARROW {
+    if fits_narrow_lanes(number) {
         walk::<u16x16>(alloc, instance, number, text)
     } else {
         walk::<u32x16>(alloc, instance, number, text)

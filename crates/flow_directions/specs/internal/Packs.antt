@@ -8,7 +8,7 @@ use Rattle.flow_nodes.specs.Groups.{IsGroup}
 use Rattle.flow_nodes.specs.Marks.{chosen}
 use Rattle.flow_nodes.specs.declared.marks.Marks.{Marks}
 use Rattle.flow_directions.specs.declared.pack.Pack.{Pack}
-use Rattle.flow_directions.specs.declared.branch.Branch.{Branch}
+use Rattle.flow_directions.specs.declared.marked_node.MarkedNode.{MarkedNode}
 
 -- memory for some groups, whose names are jobs
 pub record HasRoom {V : Type 0} (shop : Shop) (pack : Pack V) : Type 0 where
@@ -33,9 +33,9 @@ jobs_at pack marks = chosen marks.words pack.names.items
 abbrev pub HasLeft : Shop → List ℕ → List ℕ → List ℕ → Marks → Type 0
 HasLeft shop first last names marks = chosen marks.words names ≡ jobs_left shop.jobs (first ++ last)
 
--- what is kept of a node, whose jobs left are those that a pack has at the marked places
-pub record IsBranch {V : Type 0} (list : V → List ℕ) (cap width : ℕ) (shop : Shop) (first last : List ℕ)
-    (pack : Pack V) (branch : Branch) : Type 0 where
-  pub is_node : IsNode shop first last branch.node
+-- a node, and the marks of the jobs left: they are those that a pack has at the marked places
+pub record IsMarkedNode {V : Type 0} (list : V → List ℕ) (cap width : ℕ) (shop : Shop) (first last : List ℕ)
+    (pack : Pack V) (marked : MarkedNode) : Type 0 where
+  pub is_node : IsNode shop first last marked.node
   pub is_pack : IsPack list cap width shop pack
-  pub left : HasLeft shop first last pack.names.items branch.left
+  pub left : HasLeft shop first last pack.names.items marked.left

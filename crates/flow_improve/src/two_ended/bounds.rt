@@ -7,10 +7,11 @@ ghost use Rattle.flow_nodes.specs.Lanes.{capped, HasLane};
 ghost use Rattle.flow_nodes.specs.Nodes.{IsJob};
 ghost use Rattle.flow_nodes.specs.Groups.{AreGroups, child_bound};
 ghost use Rattle.flow_improve.specs.internal.Beams.{HasBounds, IsEntry, first_of, job_at, last_of};
+ghost use Rattle.flow_improve.specs.internal.Opens.{bound_sum, count_below, end_taken};
 
 use crate::two_ended::entry::Entry;
 use flow_limits::MAX_JOBS;
-use flow_nodes::{LANES, Lanes};
+use flow_nodes::{LANES, Lanes, fewer_below, greater_sum};
 use flow_shop::{End, Instance};
 
 /// How many groups of jobs there are at most.
@@ -43,15 +44,6 @@ fn write_lanes<V: Lanes>(numbers: &mut [u32; MAX_JOBS], group: usize, lanes: V)
     for lane in 0..LANES {
         numbers[from + lane] = lanes.at(lane);
     }
-}
-
-/// What the bounds of the children at an end come to.
-#[derive(Clone, Copy)]
-struct Totals {
-    /// How many are below a number.
-    below: u64,
-    /// The sum of all.
-    sum: u64,
 }
 
 /// The bounds of the children of a node, by their jobs: a number of the cap or more stands as the cap.
@@ -113,23 +105,35 @@ impl ChildBounds {
         if bound < self.cap {
             return bound;
         }
-        let mut child = entry.node;
-        child.put(instance, end, job);
-        child.bound(instance)
+        entry.node.child_bound(instance, end, job)
     }
 
-    /// How many bounds of the children at an end are below a number, and the sum of all bounds there.
-    fn totals(&self, instance: &Instance, entry: &Entry, end: End, number: u64) -> Totals
+    /// How many children at an end are below a number.
+    fn count_below(&self, instance: &Instance, entry: &Entry, end: End, number: u64) -> u32
         requires entry { IsEntry instance.now entry.now }
         requires bounds { HasBounds instance.now entry.now self.now }
+        ensures { result ≡ count_below instance.now entry.now end number }
     {
-        let mut totals = Totals { below: 0, sum: 0 };
+        let mut count = 0;
         for place in entry.first..entry.before {
-            let bound = u64::from(self.at(instance, entry, end, place));
-            totals.below = totals.below.wrapping_add(u64::from(bound < number));
-            totals.sum = totals.sum.wrapping_add(bound);
+            if u64::from(self.at(instance, entry, end, place)) < number {
+                count += 1;
+            }
         }
-        totals
+        count
+    }
+
+    /// The sum of the bounds of all children at an end.
+    fn bound_sum(&self, instance: &Instance, entry: &Entry, end: End) -> u64
+        requires entry { IsEntry instance.now entry.now }
+        requires bounds { HasBounds instance.now entry.now self.now }
+        ensures { result ≡ bound_sum instance.now entry.now end }
+    {
+        let mut sum = 0;
+        for place in entry.first..entry.before {
+            sum += u64::from(self.at(instance, entry, end, place));
+        }
+        sum
     }
 
     /// The end where fewer children are below a number; where as many are, the end whose bounds sum to more; and the
@@ -137,13 +141,16 @@ impl ChildBounds {
     pub(crate) fn end_taken(&self, instance: &Instance, entry: &Entry, number: u64) -> End
         requires entry { IsEntry instance.now entry.now }
         requires bounds { HasBounds instance.now entry.now self.now }
+        ensures { result ≡ end_taken instance.now entry.now number }
     {
-        let front = self.totals(instance, entry, End::Front, number);
-        let back = self.totals(instance, entry, End::Back, number);
-        if back.below < front.below || back.below == front.below && back.sum > front.sum {
-            End::Back
-        } else {
-            End::Front
+        let front_count = self.count_below(instance, entry, End::Front, number);
+        let back_count = self.count_below(instance, entry, End::Back, number);
+        match fewer_below(front_count, back_count) {
+            Some(end) => end,
+            None => greater_sum(
+                self.bound_sum(instance, entry, End::Front),
+                self.bound_sum(instance, entry, End::Back),
+            ),
         }
     }
 }

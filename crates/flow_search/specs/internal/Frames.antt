@@ -39,14 +39,11 @@ IsStack shop root left (f ∷ fs) =
     IsFrame shop (path root fs) left f × IsChild shop.jobs (path root fs) (f.next - 1)
     × AreJobs shop.jobs (path root fs) × IsStack shop root (suc left) fs
 
--- the jobs from one on that a node leaves
-abbrev pub left_from : ℕ → List ℕ → ℕ → List ℕ
-left_from n node from = filter (λ job. not (has node job)) (numbers from n)
-
--- the walk of a node's children from a job on, each with so many jobs left
+-- the walk of a node's children from a job on that it leaves, each with so many jobs left
 abbrev pub walk_from : Shop → Bound → ℕ → List ℕ → ℕ → Incumbent → Walk
 walk_from shop bound left node from incumbent =
-    walk_each (λ job. walk shop bound left (node ++ job ∷ [])) (left_from shop.jobs node from) incumbent
+    walk_each (λ job. walk shop bound left (node ++ job ∷ []))
+    (filter (λ job. not (has node job)) (numbers from shop.jobs)) incumbent
 
 -- what is still to be walked of the nodes of a stack, with so many jobs left below the children of the deepest one
 abbrev pub resume : Shop → Bound → List ℕ → ℕ → List Frame → Incumbent → Walk

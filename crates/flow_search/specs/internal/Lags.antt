@@ -7,16 +7,16 @@ use Rattle.flow_shop.specs.Rows.{IsRow}
 use Rattle.flow_shop.specs.declared.row.Row.{Row}
 use Rattle.flow_search.specs.internal.TwoLeast.{AreTwoLeast, time_to}
 use Rattle.flow_search.specs.internal.Frames.{IsChild}
-use Rattle.flow_search.specs.declared.two_least.TwoLeast.{TwoLeast}
+use Rattle.flow_search.specs.declared.two_least.LeastPairs.{LeastPairs}
 
 -- for each machine the two least lags of some jobs to it, from each earlier one
-abbrev pub AreLeastLags : Shop → List ℕ → List TwoLeast → Type 0
+abbrev pub AreLeastLags : Shop → List ℕ → List LeastPairs → Type 0
 AreLeastLags shop jobs lags =
-    (machine : ℕ) (other : TwoLeast) → 1 ≤ machine → machine ≤ shop.machines →
+    (machine : ℕ) (other : LeastPairs) → 1 ≤ machine → machine ≤ shop.machines →
     AreTwoLeast (time_to shop machine) (machine - 1) jobs (slice_index_or lags (machine - 1) other)
 
 -- a job that a node leaves with others, its row, and the two least lags of the jobs left to a machine
-pub record IsLagged (shop : Shop) (node : List ℕ) (left job machine : ℕ) (row : Row) (lags : TwoLeast) : Type 0 where
+pub record IsLagged (shop : Shop) (node : List ℕ) (left job machine : ℕ) (row : Row) (lags : LeastPairs) : Type 0 where
   pub limits : IsWithinLimits shop
   pub to : machine ≤ shop.machines
   pub some : length (jobs_left shop.jobs node) ≡ suc (suc left)

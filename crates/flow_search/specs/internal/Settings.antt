@@ -9,7 +9,7 @@ use Rattle.flow_search.specs.internal.Nodes.{IsAt, walked, children_walked, chil
 use Rattle.flow_search.specs.internal.Frames.{IsFrame}
 use Rattle.flow_search.specs.internal.Lags.{AreLeastLags}
 use Rattle.flow_search.specs.declared.frame.Frame.{Frame}
-use Rattle.flow_search.specs.declared.two_least.TwoLeast.{TwoLeast}
+use Rattle.flow_search.specs.declared.two_least.LeastPairs.{LeastPairs}
 use Rattle.flow_search.specs.declared.setting.Setting.{Setting}
 use Rattle.flow_search.specs.declared.state.SearchState.{SearchState}
 
@@ -34,7 +34,7 @@ abbrev pub HasFrame : Setting → SearchState → Frame → ℕ → Type 0
 HasFrame setting search frame count = IsFrame (shop_of setting) search.node.items count frame
 
 -- where the bound of the version has releases: the lags are the two least of the jobs of a set
-abbrev pub HasLags : Setting → List Bool → List TwoLeast → Type 0
+abbrev pub HasLags : Setting → List Bool → List LeastPairs → Type 0
 HasLags setting set lags = setting.version ≡ 2 → AreLeastLags (shop_of setting) (members set) lags
 
 -- the walk from the search's node, with so many jobs left

@@ -1,15 +1,11 @@
 -- The two least numbers of some jobs.
 use Rattle.std.specs.Prelude.{ℕ, ◌≡◌, ◌+◌, ◌-◌, ◌<◌, ◌≤◌, List, map, slice_index}
 use Rattle.flow_shop.specs.Shop.{Shop, time_between}
-use Rattle.flow_shop.specs.TwoLeast.{tails, least_below, second_below}
-use Rattle.flow_search.specs.declared.two_least.TwoLeast.{TwoLeast}
-
--- what stands for the least of no numbers: the greatest number of 32 bits
-abbrev pub least_of_none : ℕ
-least_of_none = 4294967295
+use Rattle.flow_shop.specs.TwoLeast.{tails, least_below, second_below, least_of_none}
+use Rattle.flow_search.specs.declared.two_least.LeastPairs.{LeastPairs}
 
 -- the two least of the numbers that some jobs have at the first places
-abbrev pub AreTwoLeast : (ℕ → ℕ → ℕ) → ℕ → List ℕ → TwoLeast → Type 0
+abbrev pub AreTwoLeast : (ℕ → ℕ → ℕ) → ℕ → List ℕ → LeastPairs → Type 0
 AreTwoLeast number count jobs two =
     (place : ℕ) → place < count →
     (slice_index two.least place ≡ least_below least_of_none (map (number place) jobs))

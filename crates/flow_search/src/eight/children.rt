@@ -10,7 +10,7 @@ use crate::eight::group::{COLUMNS, ColumnFrame, GONE, Group};
 use crate::eight::releases::test_releases;
 use crate::eight::vectors::{at_least, greater, others, sums, where_less, without_place};
 use crate::setting::Setting;
-use flow_shop::Instance;
+use flow_shop::{Instance, has_releases};
 
 /// Computes when each child leaves each machine, and how many machines there are before the first whose machine bound
 /// reaches a value.
@@ -58,7 +58,7 @@ pub fn test_children(setting: &Setting, group: &Group, frame: &mut ColumnFrame, 
         IsTested (shop_of setting.now) (pruning_bound setting.now) list group.now frame.new }
 {
     test_plain(setting.instance, group, frame, value);
-    if setting.version == 2 {
+    if has_releases(setting.version) {
         test_releases(setting.instance, group, frame);
     }
 }

@@ -3,7 +3,7 @@ use Rattle.flow_limits.specs.Limits.{greatest_completion}
 use Rattle.flow_shop.specs.Shop.{numbers}
 use Rattle.flow_shop.specs.Least.{greatest}
 use Rattle.flow_shop.specs.JobSet.{members}
-use Rattle.flow_bound.proofs.Running.{greatest-step}
+use Rattle.flow_shop.proofs.Ranges.{greatest-step}
 use Rattle.flow_bound.proofs.Releases.{start_from}
 use Rattle.flow_bound.proofs.release.release_of.Goals as goal
 

@@ -2,7 +2,7 @@ use Rattle.std.proofs.Common.{◌≡◌, ℕ, ◌+◌, ◌-◌, ◌≤◌, map, 
 use Rattle.flow_limits.specs.Limits.{greatest_completion}
 use Rattle.flow_shop.specs.Shop.{numbers}
 use Rattle.flow_shop.specs.Least.{greatest}
-use Rattle.flow_bound.proofs.Running.{greatest-step}
+use Rattle.flow_shop.proofs.Ranges.{greatest-step}
 use Rattle.flow_bound.proofs.Releases.{start_from, start-here}
 use Rattle.flow_bound.proofs.rest.release_from_lags.Goals as goal
 

@@ -2,7 +2,7 @@ use Rattle.std.proofs.Common.{◌≡◌, ◌+◌, ◌-◌, map, max, slice_index
 use Rattle.flow_shop.specs.Least.{greatest}
 use Rattle.flow_shop.specs.Shop.{numbers}
 use Rattle.flow_bound.specs.Totals.{total}
-use Rattle.flow_bound.proofs.Running.{greatest-step}
+use Rattle.flow_shop.proofs.Ranges.{greatest-step}
 use Rattle.flow_bound.proofs.taillard.greatest_total.Goals as goal
 
 pub loop-job-preserved : goal.loop-job-preserved

@@ -5,7 +5,8 @@ use Rattle.flow_shop.specs.Least.{greatest}
 use Rattle.flow_bound.specs.Totals.{total}
 use Rattle.flow_bound.specs.Taillard.{machine_load, taillard_bound}
 use Rattle.flow_shop.proofs.Fronts.{zeros}
-use Rattle.flow_bound.proofs.Running.{times-none, greatest-step}
+use Rattle.flow_shop.proofs.Ranges.{greatest-step}
+use Rattle.flow_bound.proofs.Running.{times-none}
 use Rattle.flow_bound.proofs.MachineLoads.{taillard-below}
 use Rattle.flow_bound.proofs.taillard.taillard_bound.Goals as goal
 

@@ -85,8 +85,8 @@ child c list left at (kid, there) =
     c.args.text.now.are_rows.limits here
     c.requires.machine.0 c.requires.machine.1 kid.0 kid.1 kid.2 (c.tails_of-two.ensures.tails list (suc (suc left)) was)
     (c.completion_of.ensures.value list here.times) there row.1 (
-      λ e. c.from-in-Some-2.ensures ∙ c.least_without-tail.ensures.0 e,
-      λ n. c.from-in-Some-2.ensures ∙ c.least_without-tail.ensures.1 n,
+      λ e. c.from-in-Some-2.ensures ∙ c.without-tail.ensures.0 e,
+      λ n. c.from-in-Some-2.ensures ∙ c.without-tail.ensures.1 n,
     ) in
     (is.0 ∙ ap (λ o. bound_at c.args.text.now.shop.now (grown list o) c.args.machine) (sym c.in-Some.is), is.1)
 

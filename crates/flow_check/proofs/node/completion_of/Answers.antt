@@ -2,8 +2,7 @@ use Rattle.std.proofs.Common.{◌≡◌, ◌+◌, ◌-◌, ◌≤◌, max, slice
 use Rattle.flow_shop.specs.Limits.{greatest_completion}
 use Rattle.flow_shop.specs.Shop.{time}
 use Rattle.flow_shop.proofs.Recurrence.{after}
-use Rattle.flow_shop.proofs.Fronts.{free_at, after-step, time-small}
-use Rattle.flow_check.proofs.NodeSteps.{child-completion}
+use Rattle.flow_shop.proofs.Fronts.{free_at, after-step, child-completion, time-small}
 use Rattle.flow_check.proofs.node.completion_of.Goals as goal
 
 pub loop-earlier-preserved : goal.loop-earlier-preserved

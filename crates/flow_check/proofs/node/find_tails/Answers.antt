@@ -17,9 +17,9 @@ returns-then-job-eq0 c list are =
     are.each c.jobs.last (c.jobs.invariant.place list are) in
     let none = children-none n list c.jobs.last (slice_index c.args.links.now c.jobs.last) next c.if-job-eq0.true in (
       sym (c.jobs.invariant.least list are
-          ∙ ap (λ js. least_below c.jobs.least (tails c.args.text.now.shop.now c.args.machine js)) none),
+          ∙ ap (λ js. least_below c.jobs.two.least (tails c.args.text.now.shop.now c.args.machine js)) none),
       sym (c.jobs.invariant.second list are
-          ∙ ap (λ js. second_below c.jobs.least c.jobs.second
+          ∙ ap (λ js. second_below c.jobs.two.least c.jobs.two.second
           (tails c.args.text.now.shop.now c.args.machine js)) none),
     )
 
@@ -34,25 +34,27 @@ jobs-preserved c =
     c.requires.machine.1 in
     let tail : ℕ = time_between c.args.text.now.shop.now job (c.args.machine
     + 1) c.args.text.now.shop.now.machines in
-    let e : c.min-least.result ≡ min c.jobs.least tail = c.min-least.ensures ∙ ap (min c.jobs.least) row.1 in
-    let g : c.min-second.result ≡ min c.jobs.second (max c.jobs.least tail) = c.min-second.ensures
-    ∙ ap (min c.jobs.second) (c.max.ensures ∙ ap (max c.jobs.least) row.1) in
+    let e : c.with-two.result.least ≡ min c.jobs.two.least tail =
+    c.with-two.ensures.least ∙ ap (min c.jobs.two.least) row.1 in
+    let g : c.with-two.result.second ≡ min c.jobs.two.second (max c.jobs.two.least tail) =
+    c.with-two.ensures.second ∙ ap (λ m. min c.jobs.two.second (max c.jobs.two.least m)) row.1 in
     record {
       place = λ list are. next-place n list c.jobs.last job (are.each c.jobs.last (c.jobs.invariant.place list are));
       least = λ list are.
           let next : IsNext n list c.jobs.last job = are.each c.jobs.last (c.jobs.invariant.place list are) in
           c.jobs.invariant.least list are
-          ∙ ap (λ js. least_below c.jobs.least (tails c.args.text.now.shop.now c.args.machine js))
+          ∙ ap (λ js. least_below c.jobs.two.least (tails c.args.text.now.shop.now c.args.machine js))
           (children-next n list c.jobs.last job next c.if-job-eq0.false)
           ∙ ap (λ m. least_below m (tails c.args.text.now.shop.now c.args.machine (children n list (job
           + 1)))) (sym e);
       second = λ list are.
           let next : IsNext n list c.jobs.last job = are.each c.jobs.last (c.jobs.invariant.place list are) in
           c.jobs.invariant.second list are
-          ∙ ap (λ js. second_below c.jobs.least c.jobs.second (tails c.args.text.now.shop.now c.args.machine js))
+          ∙ ap (λ js. second_below c.jobs.two.least c.jobs.two.second (tails c.args.text.now.shop.now c.args.machine
+          js))
           (children-next n list c.jobs.last job next c.if-job-eq0.false)
-          ∙ ap (λ m. second_below m (min c.jobs.second (max c.jobs.least tail))
+          ∙ ap (λ m. second_below m (min c.jobs.two.second (max c.jobs.two.least tail))
           (tails c.args.text.now.shop.now c.args.machine (children n list (job + 1)))) (sym e)
-          ∙ ap (λ m. second_below c.min-least.result m (tails c.args.text.now.shop.now c.args.machine
+          ∙ ap (λ m. second_below c.with-two.result.least m (tails c.args.text.now.shop.now c.args.machine
           (children n list (job + 1)))) (sym g);
     }

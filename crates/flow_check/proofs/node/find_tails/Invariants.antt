@@ -1,7 +1,6 @@
 use Rattle.std.proofs.Common.{◌≡◌, ℕ, ◌+◌, ◌-◌, List}
 use Rattle.flow_shop.specs.Sequences.{jobs_left}
-use Rattle.flow_shop.specs.TwoLeast.{tails, least_below, second_below}
-use Rattle.flow_check.specs.internal.Nodes.{no_least}
+use Rattle.flow_shop.specs.TwoLeast.{tails, least_below, second_below, least_of_none}
 use Rattle.flow_check.specs.internal.Links.{AreLinks, IsPlace, children}
 use Rattle.flow_check.proofs.node.find_tails.Given as goal
 
@@ -10,12 +9,12 @@ invariant-jobs l = record {
   place : (list : List ℕ) → AreLinks l.text.shop.now.jobs list l.links →
       IsPlace l.text.shop.now.jobs list l.last;
   least : (list : List ℕ) → AreLinks l.text.shop.now.jobs list l.links →
-      least_below no_least (tails l.text.shop.now l.machine (jobs_left l.text.shop.now.jobs list))
-      ≡ least_below l.least (tails l.text.shop.now l.machine (children l.text.shop.now.jobs list (l.last
+      least_below least_of_none (tails l.text.shop.now l.machine (jobs_left l.text.shop.now.jobs list))
+      ≡ least_below l.two.least (tails l.text.shop.now l.machine (children l.text.shop.now.jobs list (l.last
       + 1)));
   second : (list : List ℕ) → AreLinks l.text.shop.now.jobs list l.links →
-      second_below no_least no_least (tails l.text.shop.now l.machine (jobs_left l.text.shop.now.jobs list))
-      ≡ second_below l.least l.second (tails l.text.shop.now l.machine (children l.text.shop.now.jobs list
+      second_below least_of_none least_of_none (tails l.text.shop.now l.machine (jobs_left l.text.shop.now.jobs list))
+      ≡ second_below l.two.least l.two.second (tails l.text.shop.now l.machine (children l.text.shop.now.jobs list
       (l.last + 1)));
 }
 

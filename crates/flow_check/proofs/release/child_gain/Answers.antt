@@ -7,10 +7,11 @@ use Rattle.flow_shop.specs.Least.{greatest, least}
 use Rattle.flow_shop.specs.Sequences.{jobs_left}
 use Rattle.flow_shop.proofs.Admissible.{front_of-is}
 use Rattle.flow_shop.proofs.Recurrence.{after}
-use Rattle.flow_shop.proofs.Fronts.{free_at, after-step, time-small}
+use Rattle.flow_shop.proofs.Fronts.{free_at, after-step, child-completion, time-small}
+use Rattle.flow_shop.proofs.Ranges.{greatest-step}
 use Rattle.flow_check.specs.internal.Lags.{lags}
-use Rattle.flow_check.proofs.NodeSteps.{node-within, child-completion}
-use Rattle.flow_check.proofs.Releases.{greatest-more, child-lag, child-release}
+use Rattle.flow_check.proofs.NodeSteps.{node-within}
+use Rattle.flow_check.proofs.Releases.{child-lag, child-release}
 use Rattle.flow_check.proofs.release.child_gain.Goals as goal
 use Rattle.flow_check.proofs.release.child_gain.Goals.{After-from}
 
@@ -83,12 +84,12 @@ loop-from-preserved c =
           let most : c.max-release.result ≡ max c.loop-from.release (free + c.from-in-loop-from.result) =
           omega (arith, c.max-release.ensures) in
           let lag = child-lag shop list c.args.node.now left c.args.job c.loop-from.from c.args.machine c.lag-own.result
-          c.least_without-lag.result c.args.lags.now c.args.text.now.are_rows.limits is kid.0 kid.1 kid.2 are at.0 at.1
-          c.requires.machine.1 c.lag-own.ensures c.least_without-lag.ensures in
+          c.without.result c.args.lags.now c.args.text.now.are_rows.limits is kid.0 kid.1 kid.2 are at.0 at.1
+          c.requires.machine.1 c.lag-own.ensures c.without.ensures in
           let value : free + c.from-in-loop-from.result ≡ f c.loop-from.from =
           ap₂ (λ a b. a + b) at.2 (c.from-in-loop-from.ensures ∙ lag) in
           most ∙ ap₂ max (c.loop-from.invariant.release list left is are kid) value
-          ∙ sym (greatest-more f c.loop-from.from at.0);
+          ∙ sym (greatest-step f c.loop-from.from at.0);
     }
 
 pub returns : goal.returns

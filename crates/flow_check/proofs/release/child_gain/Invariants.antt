@@ -6,7 +6,7 @@ use Rattle.flow_shop.specs.Sequences.{jobs_left}
 use Rattle.flow_shop.proofs.Recurrence.{after}
 use Rattle.flow_shop.proofs.Fronts.{free_at}
 use Rattle.flow_check.specs.internal.Lags.{AreTwoLeastLagsTo, lags}
-use Rattle.flow_check.specs.internal.Nodes.{IsNode, IsChild}
+use Rattle.flow_check.specs.internal.Nodes.{IsListNode, IsChild}
 use Rattle.flow_check.proofs.release.child_gain.Given as goal
 
 abbrev pub invariant-loop-from : goal.invariant-loop-from
@@ -14,7 +14,7 @@ invariant-loop-from l = record {
   free : l.free ≡ after l.text.shop.now (free_at l.node.front) l.job (l.from - 1);
   small : l.free ≤ greatest_completion + (l.from - 1) * greatest_time;
   late : l.free ≤ l.release;
-  release : (list : List ℕ) (left : ℕ) → IsNode l.text.shop.now list l.node (suc (suc left)) →
+  release : (list : List ℕ) (left : ℕ) → IsListNode l.text.shop.now list l.node (suc (suc left)) →
       AreTwoLeastLagsTo l.text.shop.now list l.machine l.lags →
       IsChild l.text.shop.now.jobs list (Some l.job) →
       l.release ≡ greatest (map (λ from. after l.text.shop.now (free_at l.node.front) l.job from

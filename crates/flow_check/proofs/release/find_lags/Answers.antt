@@ -1,10 +1,9 @@
 use Rattle.std.proofs.Common.{◌≡◌, ℕ, ◌+◌, ◌-◌, ◌≤◌, slice_index, replicate, ap, ap₂, sym, ◌∙◌, arith}
 use Rattle.std.proofs.lemmas.List.{get_or-replicate}
 use Rattle.flow_shop.specs.Limits.{most_machines}
-use Rattle.flow_shop.specs.TwoLeast.{least_below, second_below}
+use Rattle.flow_shop.specs.TwoLeast.{least_below, second_below, least_of_none}
 use Rattle.flow_check.specs.internal.Lags.{lags}
 use Rattle.flow_check.specs.internal.Links.{IsNext, children}
-use Rattle.flow_check.specs.internal.Nodes.{no_least}
 use Rattle.flow_check.proofs.Links.{children-none, children-next, next-place, start-place}
 use Rattle.flow_check.proofs.release.find_lags.Goals as goal
 
@@ -12,8 +11,9 @@ pub jobs-init : goal.jobs-init
 jobs-init c =
     let most : c.args.text.now.shop.now.machines ≤ most_machines = c.args.text.now.are_rows.limits.machines in
     let none : (from : ℕ) → 1 ≤ from → from ≤ c.args.machine →
-    slice_index (replicate most_machines no_least) (from - 1) ≡ no_least =
-    λ from low up. get_or-replicate most_machines (from - 1) no_least 0 (omega (arith, low, up, most, c.requires.to)) in
+    slice_index (replicate most_machines least_of_none) (from - 1) ≡ least_of_none =
+    λ from low up. get_or-replicate most_machines (from - 1) least_of_none 0
+    (omega (arith, low, up, most, c.requires.to)) in
     record {
       place = λ list are. start-place c.args.text.now.shop.now.jobs list;
       least = λ list are from low up. ap (λ m. least_below m (lags c.args.text.now.shop.now from c.args.machine

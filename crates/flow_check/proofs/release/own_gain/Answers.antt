@@ -1,7 +1,8 @@
 use Rattle.std.proofs.Common.{◌≡◌, ℕ, suc, ◌+◌, ◌-◌, ◌≤◌, max, slice_index, ap, ap₂, sym, ◌∙◌, arith}
 use Rattle.flow_shop.specs.Limits.{greatest_completion}
+use Rattle.flow_shop.proofs.Ranges.{greatest-step}
 use Rattle.flow_check.proofs.NodeSteps.{node-within}
-use Rattle.flow_check.proofs.Releases.{greatest-more, own-late}
+use Rattle.flow_check.proofs.Releases.{own-late}
 use Rattle.flow_check.proofs.release.own_gain.Goals as goal
 
 pub overflow_add-node : goal.overflow_add-node
@@ -21,7 +22,7 @@ loop-from-preserved c =
     omega (arith, c.max-release.ensures) in
     let here : slice_index c.args.node.now.front (c.loop-from.from - 1) + c.from.result ≡ f c.loop-from.from =
     ap (λ v. slice_index c.args.node.now.front (c.loop-from.from - 1) + v) c.from.ensures in
-    most ∙ ap₂ max c.loop-from.invariant here ∙ sym (greatest-more f c.loop-from.from c.loop-from.auto.from)
+    most ∙ ap₂ max c.loop-from.invariant here ∙ sym (greatest-step f c.loop-from.from c.loop-from.auto.from)
 
 pub overflow_sub-result-2 : goal.overflow_sub-result-2
 overflow_sub-result-2 c =

@@ -3,7 +3,7 @@ use Rattle.std.proofs.lemmas.List.{get_or_read}
 use Rattle.flow_shop.specs.Directions.{first_with, last_with}
 use Rattle.flow_directions.specs.internal.Packs.{jobs_at}
 use Rattle.flow_nodes.proofs.ChosenNames.{chosen-short}
-use Rattle.flow_directions.proofs.WeightSteps.{fewest_at, weight-is, weight-more, job-fresh, child-branch}
+use Rattle.flow_directions.proofs.WeightSteps.{fewest_at, weight-is, weight-more, job-fresh, child-marked}
 use Rattle.flow_directions.proofs.ahead.weigh.Goals as goal
 
 pub children-init : goal.children-init
@@ -37,7 +37,7 @@ child-child-requires-clause-left g c =
       c.requires.at.1,
       is.is_node,
       job-fresh g.V.Lanes.list g.V.Lanes.CAP g.V.Lanes.WIDTH c.args.instance.now c.requires.at.0 c.requires.at.1
-          c.args.pack.now c.args.branch.now place c.index.result.now is inside named
+          c.args.pack.now c.args.marked.now place c.index.result.now is inside named
           (c.children.invariant.marked place c.in-Some.ensures.marked),
     )
 
@@ -78,8 +78,8 @@ returns-then-weight-most-clause-reaches g c number first last limit is below rea
     let named : job ≡ slice_index names place = get_or_read names place job inside c.index.ensures 0 in
     let first_job : jobs_at c.args.pack.now c.children.rest ≡ job ∷ jobs_at c.args.pack.now c.pop.new.self =
     c.in-Some.ensures.first names size ∙ ap (λ j. j ∷ jobs_at c.args.pack.now c.pop.new.self) (sym named) in
-    let child = child-branch g.V.Lanes.list g.V.Lanes.CAP g.V.Lanes.WIDTH shop first last c.args.pack.now
-    c.args.branch.now place job is inside named (c.children.invariant.marked place c.in-Some.ensures.marked) end
+    let child = child-marked g.V.Lanes.list g.V.Lanes.CAP g.V.Lanes.WIDTH shop first last c.args.pack.now
+    c.args.marked.now place job is inside named (c.children.invariant.marked place c.in-Some.ensures.marked) end
     c.child-child.result (c.child-child.ensures.node first last) (c.child-child.ensures.left first last) in
     omega (
       arith,
@@ -114,8 +114,8 @@ children-preserved g c =
       sum = λ number first last limit is below.
           let shop = c.args.instance.now in
           let end = c.args.opened.now.end in
-          let child = child-branch g.V.Lanes.list g.V.Lanes.CAP g.V.Lanes.WIDTH shop first last c.args.pack.now
-          c.args.branch.now place job is inside named (c.children.invariant.marked place c.in-Some.ensures.marked) end
+          let child = child-marked g.V.Lanes.list g.V.Lanes.CAP g.V.Lanes.WIDTH shop first last c.args.pack.now
+          c.args.marked.now place job is inside named (c.children.invariant.marked place c.in-Some.ensures.marked) end
           c.child-child.result (c.child-child.ensures.node first last) (c.child-child.ensures.left first last) in
           weight-more shop number end first last job (jobs_at c.args.pack.now c.children.rest)
           (jobs_at c.args.pack.now c.pop.new.self) c.children.weight c.fewest-weight.result first_job

@@ -1,4 +1,5 @@
-use Rattle.std.proofs.Common.{◌≡◌, ◌↔◌, ℕ, ◌+◌, ◌*◌, ◌/◌, ◌%◌, ◌<◌, nat_lt, ◌++◌, length, slice_index, slice_index_or, take, drop, ap, sym, ◌∙◌}
+use Rattle.std.proofs.Common.{◌≡◌, ◌↔◌, ℕ, ◌+◌, ◌*◌, ◌/◌, ◌%◌, ◌<◌, nat_lt, ◌++◌, length, slice_index, slice_index_or}
+use Rattle.std.proofs.Common.{take, drop, ap, sym, ◌∙◌}
 use Rattle.std.proofs.Common.{subst, arith, inl, inr}
 use Rattle.std.specs.List.{filter}
 use Rattle.std.proofs.lemmas.Bool.{cases_lt}
@@ -7,7 +8,7 @@ use Rattle.flow_shop.specs.Sequences.{has}
 use Rattle.flow_nodes.specs.Groups.{IsGroup, child_bound}
 use Rattle.flow_nodes.specs.Marks.{mark}
 use Rattle.flow_nodes.proofs.ChosenNames.{chosen-filter}
-use Rattle.flow_nodes.proofs.GroupSteps.{some-of}
+use Rattle.flow_shop.proofs.Lists.{some-of}
 use Rattle.flow_directions.proofs.JobsMarked.{group-name, marked-left}
 use Rattle.flow_directions.proofs.below.marks_below.Goals as goal
 
@@ -21,7 +22,7 @@ returns-clause-within g c place marked = elim (cases_lt (place / 16) (length c.a
 pub returns-clause-below : goal.returns-clause-below
 returns-clause-below g c shop number first last limit is =
     let bound : ℕ → ℕ = child_bound shop c.args.end first last in
-    let left = c.args.branch.now.left.words in
+    let left = c.args.marked.now.left.words in
     let names = c.args.pack.now.names.items in
     let groups = c.args.pack.now.groups.items in
     let slices = c.as_slice-groups.result.now in

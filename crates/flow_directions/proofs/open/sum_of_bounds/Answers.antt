@@ -22,7 +22,7 @@ sum_of_group-sum-requires-clause-at g c =
     let long : group < length c.args.pack.now.groups.items =
     omega (arith, c.loop-group-test.true, c.len-group-end.ensures, c.args.pack.now.groups.ok.0) in
     let facts = group-of g.V.Lanes.list g.V.Lanes.CAP g.V.Lanes.WIDTH c.args.instance.now at.0 at.1 c.args.pack.now
-    c.args.branch.now group (take (group * 16 + 16 - group * 16) (drop (group * 16) c.deref.result.now))
+    c.args.marked.now group (take (group * 16 + 16 - group * 16) (drop (group * 16) c.deref.result.now))
     c.index.result.now c.as_slice.result.now at.2 long
     (sixteen c.deref.result.now c.args.pack.now.names.items (group * 16) c.deref.ensures.value) c.index.ensures
     c.as_slice.ensures.value in
@@ -31,7 +31,7 @@ sum_of_group-sum-requires-clause-at g c =
 pub loop-group-preserved : goal.loop-group-preserved
 loop-group-preserved g c =
     let group = c.loop-group.group in
-    let words = c.args.branch.now.left.words in
+    let words = c.args.marked.now.left.words in
     let names = c.args.pack.now.names.items in
     let long : group < length c.args.pack.now.groups.items =
     omega (arith, c.loop-group-test.true, c.len-group-end.ensures, c.args.pack.now.groups.ok.0) in
@@ -43,7 +43,7 @@ loop-group-preserved g c =
         rest = λ first last is.
             let part = sixteen w.deref.result.now names (group * 16) w.deref.ensures.value in
             let facts = group-of g.V.Lanes.list g.V.Lanes.CAP g.V.Lanes.WIDTH c.args.instance.now first last
-            c.args.pack.now c.args.branch.now group
+            c.args.pack.now c.args.marked.now group
             (take (group * 16 + 16 - group * 16) (drop (group * 16) w.deref.result.now)) w.index.result.now
             w.as_slice.result.now is long part w.index.ensures w.as_slice.ensures.value in
             let sum = w.sum_of_group-sum.ensures.sum first last is.is_node facts.0 facts.1
@@ -77,7 +77,7 @@ loop-group-preserved g c =
 pub returns : goal.returns
 returns g c first last is =
     let group = c.loop-group.group in
-    let words = c.args.branch.now.left.words in
+    let words = c.args.marked.now.left.words in
     let names = c.args.pack.now.names.items in
     let end : drop (group * 16) names ≡ [] = drop_all (group * 16) names (omega (
       arith,

@@ -1,7 +1,7 @@
 use Rattle.std.proofs.Common.{◌≡◌, ℕ, ◌+◌, ◌*◌, ◌≤◌, List, sum_by, drop}
 use Rattle.flow_nodes.specs.Groups.{child_bound}
 use Rattle.flow_nodes.specs.Marks.{chosen}
-use Rattle.flow_directions.specs.internal.Packs.{IsBranch}
+use Rattle.flow_directions.specs.internal.Packs.{IsMarkedNode}
 use Rattle.flow_directions.proofs.open.sum_of_bounds.Given as goal
 
 -- what is left to add makes the whole sum
@@ -9,8 +9,8 @@ abbrev pub invariant-loop-group : goal.invariant-loop-group
 invariant-loop-group g l = record {
   small : l.sum ≤ l.group * (16 * 4294967295);
   rest : (first last : List ℕ) →
-      IsBranch g.V.Lanes.list g.V.Lanes.CAP g.V.Lanes.WIDTH l.instance first last l.pack l.branch →
+      IsMarkedNode g.V.Lanes.list g.V.Lanes.CAP g.V.Lanes.WIDTH l.instance first last l.pack l.marked →
       l.sum + sum_by (child_bound l.instance l.end first last)
-      (chosen (drop l.group l.branch.left.words) (drop (l.group * 16) l.pack.names.items))
-      ≡ sum_by (child_bound l.instance l.end first last) (chosen l.branch.left.words l.pack.names.items);
+      (chosen (drop l.group l.marked.left.words) (drop (l.group * 16) l.pack.names.items))
+      ≡ sum_by (child_bound l.instance l.end first last) (chosen l.marked.left.words l.pack.names.items);
 }

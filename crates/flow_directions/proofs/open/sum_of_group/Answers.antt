@@ -57,13 +57,13 @@ loop-lane-preserved g c =
               w.from-sum-else-bound-CAP.ensures,
               c.loop-lane.invariant.small,
               few,
-              w.bound_of_child.ensures at.0 at.1 at.2 (at.4 lane low bit),
+              w.child_bound.ensures at.0 at.1 at.2 (at.4 lane low bit),
             );
             rest = λ first last is group fresh. omega (
               arith,
               c.loop-lane.invariant.rest first last is group fresh,
               lane-picked (child_bound shop c.args.end first last) c.args.left lane names within bit,
-              w.bound_of_child.ensures first last is (fresh lane low bit),
+              w.child_bound.ensures first last is (fresh lane low bit),
               w.sum-is,
               w.from-sum-else-bound-CAP.ensures,
             );

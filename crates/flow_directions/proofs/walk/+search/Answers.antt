@@ -39,12 +39,12 @@ search-requires g t c κs within =
       c.fill.ensures.pack.room.names,
       c.fill.ensures.count,
     ) in
-    let from : jobs_at (slice_index_or here 0 first) c.args.branch.now.left
-    ≡ jobs_at (slice_index_or packs 0 first) c.args.branch.now.left =
-    ap (λ p. jobs_at p c.args.branch.now.left) (sym (split-first packs here deeper c.split_at_mut-here.ensures.value
+    let from : jobs_at (slice_index_or here 0 first) c.args.marked.now.left
+    ≡ jobs_at (slice_index_or packs 0 first) c.args.marked.now.left =
+    ap (λ p. jobs_at p c.args.marked.now.left) (sym (split-first packs here deeper c.split_at_mut-here.ensures.value
     c.split_at_mut-here.ensures.front_len first)) in
-    let packed = packed-at g.V.Lanes.list g.V.Lanes.CAP g.V.Lanes.WIDTH c.args.instance.now c.args.aim.number
-    c.args.left packs c.args.branch.now c.args.written.now.lists c.requires.at.0 c.requires.at.1 at first deeper new
+    let packed = packed-at g.V.Lanes.list g.V.Lanes.CAP g.V.Lanes.WIDTH c.args.instance.now c.args.terms.number
+    c.args.left packs c.args.marked.now c.args.written.now.lists c.requires.at.0 c.requires.at.1 at first deeper new
     c.first.result some c.fill.ensures.pack (c.first.ensures.begin new.names.items fits)
     (ap (λ jobs. take (length jobs) new.names.items) (sym from) ∙ c.fill.ensures.jobs ∙ from) in (
       omega (arith, c.decreases, c.split_at_mut-here.ensures.back_len, length-set deeper 0 new),
@@ -75,11 +75,11 @@ search-requires g t c κs within =
       ),
     )
 
-pub returns-then-len-aim-clause-ends : goal.returns-then-len-aim-clause-ends
-returns-then-len-aim-clause-ends g t c first last at =
-    ends-here c.args.instance.now c.args.aim.number c.args.aim.budget c.args.left first last
+pub returns-then-len-terms-clause-ends : goal.returns-then-len-terms-clause-ends
+returns-then-len-terms-clause-ends g t c first last at =
+    ends-here c.args.instance.now c.args.terms.number c.args.terms.budget c.args.left first last
     c.args.written.now.directions.items c.leave_node.new.self at.below at.count c.requires.some
-    (omega (arith, c.requires.within, c.if-len-aim.true, c.len-2.ensures, c.args.written.now.directions.ok.0))
+    (omega (arith, c.requires.within, c.if-len-terms.true, c.len-2.ensures, c.args.written.now.directions.ok.0))
     (ap (λ v. v.items) c.in_ok-leave_node.ensures.directions)
     (subst (HasLists c.args.instance.now.jobs first last) (sym c.in_ok-leave_node.ensures.lists) at.has_lists)
     (subst (λ old. IsNodeLeft first last old c.leave_node.new.self.rest.items) c.requires.rest
@@ -99,7 +99,7 @@ children-init g t c =
         arith,
         ap length pushed,
         length-append c.args.written.now.directions.items (c.sign_of.result ∷ []),
-        c.if-len-aim.false,
+        c.if-len-terms.false,
         c.len-2.ensures,
       );
       rest = c.requires.rest;
@@ -108,17 +108,17 @@ children-init g t c =
           let same : slice_index_or c.args.packs.now 0 none
           ≡ slice_index_or c.args.packs.now 0 c.index-packs-0.result =
           head-same c.args.packs.now none c.index-packs-0.result c.requires.few in
-          stands-first c.args.instance.now c.args.aim.number first last c.open-opened.result.end
+          stands-first c.args.instance.now c.args.terms.number first last c.open-opened.result.end
           c.args.written.now.directions.items c.push.new.self.items c.args.written.now.lists
           (jobs_at (slice_index_or c.args.packs.now 0 none) c.open-opened.result.below)
           (omega (arith, at.count, c.requires.some)) at.below
-          (c.open-opened.ensures.end c.args.aim.number first last c.requires.limit
-          (at.is_branch c.index-packs-0.result))
+          (c.open-opened.ensures.end c.args.terms.number first last c.requires.limit
+          (at.is_marked c.index-packs-0.result))
           (pushed ∙ ap (λ s. c.args.written.now.directions.items ++ s ∷ []) c.sign_of.ensures)
           at.has_lists
           (ap (λ p. jobs_at p c.open-opened.result.below) same
-          ∙ c.open-opened.ensures.below c.args.aim.number first last c.requires.limit
-          (at.is_branch c.index-packs-0.result));
+          ∙ c.open-opened.ensures.below c.args.terms.number first last c.requires.limit
+          (at.is_marked c.index-packs-0.result));
     }
 
 pub pop-requires : goal.pop-requires
@@ -140,7 +140,7 @@ index-job-requires g t c =
       arith,
       c.in-Some.ensures.within,
       c.children.invariant.groups pack,
-      (at.is_branch pack).is_pack.room.names,
+      (at.is_marked pack).is_pack.room.names,
       ap (λ p. length p.names.items) same,
       (slice_index_or c.children.packs 0 pack).names.ok.0,
     )
@@ -201,7 +201,7 @@ child-child-requires-clause-left g t c =
     (c.children.invariant.stands c.index-packs-0-in-Some.result c.requires.at.0 c.requires.at.1 c.requires.at.2) in (
       c.requires.at.0,
       c.requires.at.1,
-      (c.requires.at.2.is_branch pack).is_node,
+      (c.requires.at.2.is_marked pack).is_node,
       (job-open c.requires.at.2 pack next).left,
     )
 
@@ -213,9 +213,12 @@ search-requires-in-Some g t c κs within =
     c.in-Some.ensures.first c.index-job.ensures
     (c.children.invariant.stands c.index-packs-0-in-Some.result c.requires.at.0 c.requires.at.1 c.requires.at.2) in
     let child = child-at c.requires.at.2 pack next c.put.new.self c.child-child.result c.children.packs c.requires.few
-    c.children.invariant.packs (c.put.ensures c.args.instance.now.jobs c.requires.at.0 c.requires.at.1 next.stands.has_lists)
-    (c.child-child.ensures.node c.requires.at.0 c.requires.at.1 (c.requires.at.2.is_branch pack).is_node (job-open c.requires.at.2 pack next).left)
-    (λ names left within named. c.child-child.ensures.left c.requires.at.0 c.requires.at.1 names left (job-open c.requires.at.2 pack next).left
+    c.children.invariant.packs (c.put.ensures c.args.instance.now.jobs c.requires.at.0 c.requires.at.1
+    next.stands.has_lists)
+    (c.child-child.ensures.node c.requires.at.0 c.requires.at.1 (c.requires.at.2.is_marked pack).is_node
+    (job-open c.requires.at.2 pack next).left)
+    (λ names left within named. c.child-child.ensures.left c.requires.at.0 c.requires.at.1 names left
+    (job-open c.requires.at.2 pack next).left
     within named (c.children.invariant.marked c.in-Some.place c.in-Some.ensures.marked)) in (
       omega (arith, c.decreases, c.if-left-eq1.false, c.requires.some, c.children.invariant.packs.count),
       (
@@ -236,7 +239,11 @@ search-requires-in-Some g t c κs within =
                       c.children.invariant.packs.rooms,
                       (
                         omega (arith, c.children.invariant.packs.count, c.requires.few),
-                        ((first_with c.open-opened.result.end c.requires.at.0 c.index-job.result.now), (last_with c.open-opened.result.end c.requires.at.1 c.index-job.result.now), child),
+                        (
+                          (first_with c.open-opened.result.end c.requires.at.0 c.index-job.result.now),
+                          (last_with c.open-opened.result.end c.requires.at.1 c.index-job.result.now),
+                          child,
+                        ),
                       ),
                     ),
                   ),
@@ -262,12 +269,13 @@ returns-in-Err-Below-clause-ends g t c first last at =
     (c.children.invariant.stands c.index-packs-0-in-Some.result first last at) in
     let child = child-at at pack next c.put.new.self c.child-child.result c.children.packs c.requires.few
     c.children.invariant.packs (c.put.ensures c.args.instance.now.jobs first last next.stands.has_lists)
-    (c.child-child.ensures.node first last (at.is_branch pack).is_node (job-open at pack next).left)
+    (c.child-child.ensures.node first last (at.is_marked pack).is_node (job-open at pack next).left)
     (λ names left within named. c.child-child.ensures.left first last names left (job-open at pack next).left
     within named (c.children.invariant.marked c.in-Some.place c.in-Some.ensures.marked)) in
-    ends-below at pack next c.args.aim.budget c.search-in-Some.new.written c.in-Err-Below.field-0
+    ends-below at pack next c.args.terms.budget c.search-in-Some.new.written c.in-Err-Below.field-0
     c.in-Err-Below.field-0-is
-    (c.in-Err-Below.ensures.ends (first_with c.open-opened.result.end first c.index-job.result.now) (last_with c.open-opened.result.end last c.index-job.result.now) child)
+    (c.in-Err-Below.ensures.ends (first_with c.open-opened.result.end first c.index-job.result.now)
+    (last_with c.open-opened.result.end last c.index-job.result.now) child)
 
 pub take-requires : goal.take-requires
 take-requires g t c =
@@ -277,15 +285,19 @@ take-requires g t c =
     c.in-Some.ensures.first c.index-job.ensures
     (c.children.invariant.stands c.index-packs-0-in-Some.result c.requires.at.0 c.requires.at.1 c.requires.at.2) in
     let child = child-at c.requires.at.2 pack next c.put.new.self c.child-child.result c.children.packs c.requires.few
-    c.children.invariant.packs (c.put.ensures c.args.instance.now.jobs c.requires.at.0 c.requires.at.1 next.stands.has_lists)
-    (c.child-child.ensures.node c.requires.at.0 c.requires.at.1 (c.requires.at.2.is_branch pack).is_node (job-open c.requires.at.2 pack next).left)
-    (λ names left within named. c.child-child.ensures.left c.requires.at.0 c.requires.at.1 names left (job-open c.requires.at.2 pack next).left
+    c.children.invariant.packs (c.put.ensures c.args.instance.now.jobs c.requires.at.0 c.requires.at.1
+    next.stands.has_lists)
+    (c.child-child.ensures.node c.requires.at.0 c.requires.at.1 (c.requires.at.2.is_marked pack).is_node
+    (job-open c.requires.at.2 pack next).left)
+    (λ names left within named. c.child-child.ensures.left c.requires.at.0 c.requires.at.1 names left
+    (job-open c.requires.at.2 pack next).left
     within named (c.children.invariant.marked c.in-Some.place c.in-Some.ensures.marked)) in (
       c.args.instance.now.jobs,
       c.requires.at.0,
       c.requires.at.1,
       c.index-job.result.now,
-      (c.in-Ok.ensures.ends (first_with c.open-opened.result.end c.requires.at.0 c.index-job.result.now) (last_with c.open-opened.result.end c.requires.at.1 c.index-job.result.now) child).4,
+      (c.in-Ok.ensures.ends (first_with c.open-opened.result.end c.requires.at.0 c.index-job.result.now)
+          (last_with c.open-opened.result.end c.requires.at.1 c.index-job.result.now) child).4,
     )
 
 pub take-requires-in-Err-Over : goal.take-requires-in-Err-Over
@@ -296,13 +308,19 @@ take-requires-in-Err-Over g t c =
     c.in-Some.ensures.first c.index-job.ensures
     (c.children.invariant.stands c.index-packs-0-in-Some.result c.requires.at.0 c.requires.at.1 c.requires.at.2) in
     let child = child-at c.requires.at.2 pack next c.put.new.self c.child-child.result c.children.packs c.requires.few
-    c.children.invariant.packs (c.put.ensures c.args.instance.now.jobs c.requires.at.0 c.requires.at.1 next.stands.has_lists)
-    (c.child-child.ensures.node c.requires.at.0 c.requires.at.1 (c.requires.at.2.is_branch pack).is_node (job-open c.requires.at.2 pack next).left)
-    (λ names left within named. c.child-child.ensures.left c.requires.at.0 c.requires.at.1 names left (job-open c.requires.at.2 pack next).left
+    c.children.invariant.packs (c.put.ensures c.args.instance.now.jobs c.requires.at.0 c.requires.at.1
+    next.stands.has_lists)
+    (c.child-child.ensures.node c.requires.at.0 c.requires.at.1 (c.requires.at.2.is_marked pack).is_node
+    (job-open c.requires.at.2 pack next).left)
+    (λ names left within named. c.child-child.ensures.left c.requires.at.0 c.requires.at.1 names left
+    (job-open c.requires.at.2 pack next).left
     within named (c.children.invariant.marked c.in-Some.place c.in-Some.ensures.marked)) in
-    let lists = over-lists c.args.instance.now c.args.aim.number c.args.aim.budget (first_with c.open-opened.result.end c.requires.at.0 c.index-job.result.now)
-    (last_with c.open-opened.result.end c.requires.at.1 c.index-job.result.now) c.children.written.directions.items c.search-in-Some.new.written
-    c.in-Err-Over.field-0 c.in-Err-Over.field-0-is (c.in-Err-Over.ensures.ends (first_with c.open-opened.result.end c.requires.at.0 c.index-job.result.now)
+    let lists = over-lists c.args.instance.now c.args.terms.number c.args.terms.budget
+    (first_with c.open-opened.result.end c.requires.at.0 c.index-job.result.now)
+    (last_with c.open-opened.result.end c.requires.at.1 c.index-job.result.now) c.children.written.directions.items
+    c.search-in-Some.new.written
+    c.in-Err-Over.field-0 c.in-Err-Over.field-0-is
+    (c.in-Err-Over.ensures.ends (first_with c.open-opened.result.end c.requires.at.0 c.index-job.result.now)
     (last_with c.open-opened.result.end c.requires.at.1 c.index-job.result.now) child) in
     (c.args.instance.now.jobs, c.requires.at.0, c.requires.at.1, c.index-job.result.now, lists)
 
@@ -324,15 +342,26 @@ leave_children-requires g t c =
     c.in-Some.ensures.first c.index-job.ensures
     (c.children.invariant.stands c.index-packs-0-in-Some.result c.requires.at.0 c.requires.at.1 c.requires.at.2) in
     let child = child-at c.requires.at.2 pack next c.put.new.self c.child-child.result c.children.packs c.requires.few
-    c.children.invariant.packs (c.put.ensures c.args.instance.now.jobs c.requires.at.0 c.requires.at.1 next.stands.has_lists)
-    (c.child-child.ensures.node c.requires.at.0 c.requires.at.1 (c.requires.at.2.is_branch pack).is_node (job-open c.requires.at.2 pack next).left)
-    (λ names left within named. c.child-child.ensures.left c.requires.at.0 c.requires.at.1 names left (job-open c.requires.at.2 pack next).left
+    c.children.invariant.packs (c.put.ensures c.args.instance.now.jobs c.requires.at.0 c.requires.at.1
+    next.stands.has_lists)
+    (c.child-child.ensures.node c.requires.at.0 c.requires.at.1 (c.requires.at.2.is_marked pack).is_node
+    (job-open c.requires.at.2 pack next).left)
+    (λ names left within named. c.child-child.ensures.left c.requires.at.0 c.requires.at.1 names left
+    (job-open c.requires.at.2 pack next).left
     within named (c.children.invariant.marked c.in-Some.place c.in-Some.ensures.marked)) in
-    let lists = over-lists c.args.instance.now c.args.aim.number c.args.aim.budget (first_with c.open-opened.result.end c.requires.at.0 c.index-job.result.now)
-    (last_with c.open-opened.result.end c.requires.at.1 c.index-job.result.now) c.children.written.directions.items c.search-in-Some.new.written
-    c.in-Err-Over.field-0 c.in-Err-Over.field-0-is (c.in-Err-Over.ensures.ends (first_with c.open-opened.result.end c.requires.at.0 c.index-job.result.now)
-    (last_with c.open-opened.result.end c.requires.at.1 c.index-job.result.now) child) in
-    (c.args.instance.now.jobs, c.requires.at.0, c.requires.at.1, c.take-in-Err-Over.ensures c.args.instance.now.jobs c.requires.at.0 c.requires.at.1 c.index-job.result.now lists)
+    let lists = over-lists c.args.instance.now c.args.terms.number c.args.terms.budget
+    (first_with c.open-opened.result.end c.requires.at.0 c.index-job.result.now)
+    (last_with c.open-opened.result.end c.requires.at.1 c.index-job.result.now) c.children.written.directions.items
+    c.search-in-Some.new.written
+    c.in-Err-Over.field-0 c.in-Err-Over.field-0-is
+    (c.in-Err-Over.ensures.ends (first_with c.open-opened.result.end c.requires.at.0 c.index-job.result.now)
+    (last_with c.open-opened.result.end c.requires.at.1 c.index-job.result.now) child) in (
+      c.args.instance.now.jobs,
+      c.requires.at.0,
+      c.requires.at.1,
+      c.take-in-Err-Over.ensures c.args.instance.now.jobs
+          c.requires.at.0 c.requires.at.1 c.index-job.result.now lists,
+    )
 
 pub returns-in_err-leave_children-in-Err-Over-clause-packs :
     goal.returns-in_err-leave_children-in-Err-Over-clause-packs
@@ -354,12 +383,15 @@ returns-in-Err-Over-clause-ends g t c first last at =
     (c.children.invariant.stands c.index-packs-0-in-Some.result first last at) in
     let child = child-at at pack next c.put.new.self c.child-child.result c.children.packs c.requires.few
     c.children.invariant.packs (c.put.ensures c.args.instance.now.jobs first last next.stands.has_lists)
-    (c.child-child.ensures.node first last (at.is_branch pack).is_node (job-open at pack next).left)
+    (c.child-child.ensures.node first last (at.is_marked pack).is_node (job-open at pack next).left)
     (λ names left within named. c.child-child.ensures.left first last names left (job-open at pack next).left
     within named (c.children.invariant.marked c.in-Some.place c.in-Some.ensures.marked)) in
-    let lists = over-lists c.args.instance.now c.args.aim.number c.args.aim.budget (first_with c.open-opened.result.end first c.index-job.result.now)
-    (last_with c.open-opened.result.end last c.index-job.result.now) c.children.written.directions.items c.search-in-Some.new.written
-    c.in-Err-Over.field-0 c.in-Err-Over.field-0-is (c.in-Err-Over.ensures.ends (first_with c.open-opened.result.end first c.index-job.result.now)
+    let lists = over-lists c.args.instance.now c.args.terms.number c.args.terms.budget
+    (first_with c.open-opened.result.end first c.index-job.result.now)
+    (last_with c.open-opened.result.end last c.index-job.result.now) c.children.written.directions.items
+    c.search-in-Some.new.written
+    c.in-Err-Over.field-0 c.in-Err-Over.field-0-is
+    (c.in-Err-Over.ensures.ends (first_with c.open-opened.result.end first c.index-job.result.now)
     (last_with c.open-opened.result.end last c.index-job.result.now) child) in
     let back = c.take-in-Err-Over.ensures c.args.instance.now.jobs first last c.index-job.result.now lists in
     let named : c.in_ok-jobs-in-Err-Over.jobs.items
@@ -369,9 +401,10 @@ returns-in-Err-Over-clause-ends g t c first last at =
     (c.search-in-Some.ensures.packs.same c.index-packs-0-in-Err-Over.result
     ∙ c.children.invariant.packs.same c.index-packs-0-in-Err-Over.result
     ∙ head-same c.args.packs.now c.index-packs-0-in-Err-Over.result pack c.requires.few) in
-    ends-over at pack next c.args.aim.budget c.search-in-Some.new.written c.leave_children.new.self
+    ends-over at pack next c.args.terms.budget c.search-in-Some.new.written c.leave_children.new.self
     c.in-Err-Over.field-0 c.in-Err-Over.field-0-is
-    (c.in-Err-Over.ensures.ends (first_with c.open-opened.result.end first c.index-job.result.now) (last_with c.open-opened.result.end last c.index-job.result.now) child)
+    (c.in-Err-Over.ensures.ends (first_with c.open-opened.result.end first c.index-job.result.now)
+    (last_with c.open-opened.result.end last c.index-job.result.now) child)
     (ap (λ v. v.items) c.in_ok-leave_children-in-Err-Over.ensures.directions)
     (subst (HasLists c.args.instance.now.jobs first last) (sym c.in_ok-leave_children-in-Err-Over.ensures.lists) back)
     (subst (λ jobs. AreChildrenLeft first last c.open-opened.result.end jobs c.search-in-Some.new.written.rest.items
@@ -399,11 +432,15 @@ children-preserved g t c =
     c.in-Some.ensures.first c.index-job.ensures
     (c.children.invariant.stands c.index-packs-0-in-Some.result c.requires.at.0 c.requires.at.1 c.requires.at.2) in
     let child = child-at c.requires.at.2 pack next c.put.new.self c.child-child.result c.children.packs c.requires.few
-    c.children.invariant.packs (c.put.ensures c.args.instance.now.jobs c.requires.at.0 c.requires.at.1 next.stands.has_lists)
-    (c.child-child.ensures.node c.requires.at.0 c.requires.at.1 (c.requires.at.2.is_branch pack).is_node (job-open c.requires.at.2 pack next).left)
-    (λ names left within named. c.child-child.ensures.left c.requires.at.0 c.requires.at.1 names left (job-open c.requires.at.2 pack next).left
+    c.children.invariant.packs (c.put.ensures c.args.instance.now.jobs c.requires.at.0 c.requires.at.1
+    next.stands.has_lists)
+    (c.child-child.ensures.node c.requires.at.0 c.requires.at.1 (c.requires.at.2.is_marked pack).is_node
+    (job-open c.requires.at.2 pack next).left)
+    (λ names left within named. c.child-child.ensures.left c.requires.at.0 c.requires.at.1 names left
+    (job-open c.requires.at.2 pack next).left
     within named (c.children.invariant.marked c.in-Some.place c.in-Some.ensures.marked)) in
-    let ends = c.in-Ok.ensures.ends (first_with c.open-opened.result.end c.requires.at.0 c.index-job.result.now) (last_with c.open-opened.result.end c.requires.at.1 c.index-job.result.now) child in
+    let ends = c.in-Ok.ensures.ends (first_with c.open-opened.result.end c.requires.at.0 c.index-job.result.now)
+    (last_with c.open-opened.result.end c.requires.at.1 c.index-job.result.now) child in
     record {
       packs = packs-keep c.args.instance.now c.args.packs.now c.children.packs c.search-in-Some.new.packs
           c.children.invariant.packs c.search-in-Some.ensures.packs;
@@ -414,19 +451,21 @@ children-preserved g t c =
       stands = λ none first last at.
           let pack : Pack g.row.V.Denot = c.index-packs-0-in-Some.result in
           let next = next-here at c.index-packs-0-in-Some.result c.children.packs c.len-groups.result
-          c.children.invariant.packs (c.children.invariant.groups c.index-packs-0-in-Some.result) c.in-Some.ensures.within
+          c.children.invariant.packs (c.children.invariant.groups c.index-packs-0-in-Some.result)
+          c.in-Some.ensures.within
           c.in-Some.ensures.first c.index-job.ensures
           (c.children.invariant.stands c.index-packs-0-in-Some.result first last at) in
           let child = child-at at pack next c.put.new.self c.child-child.result c.children.packs c.requires.few
           c.children.invariant.packs (c.put.ensures c.args.instance.now.jobs first last next.stands.has_lists)
-          (c.child-child.ensures.node first last (at.is_branch pack).is_node (job-open at pack next).left)
+          (c.child-child.ensures.node first last (at.is_marked pack).is_node (job-open at pack next).left)
           (λ names left within named. c.child-child.ensures.left first last names left (job-open at pack next).left
           within named (c.children.invariant.marked c.in-Some.place c.in-Some.ensures.marked)) in
-          let ends = c.in-Ok.ensures.ends (first_with c.open-opened.result.end first c.index-job.result.now) (last_with c.open-opened.result.end last c.index-job.result.now) child in
-          subst (λ p. Stands c.args.instance.now c.args.aim.number c.open-opened.result.end first last
+          let ends = c.in-Ok.ensures.ends (first_with c.open-opened.result.end first c.index-job.result.now)
+          (last_with c.open-opened.result.end last c.index-job.result.now) child in
+          subst (λ p. Stands c.args.instance.now c.args.terms.number c.open-opened.result.end first last
           c.args.written.now.directions.items c.search-in-Some.new.written.directions.items c.take.new.self
           (jobs_at p c.pop.new.self)) (head-same c.args.packs.now pack none c.requires.few)
-          (stands-next c.args.instance.now c.args.aim.number first last c.open-opened.result.end
+          (stands-next c.args.instance.now c.args.terms.number first last c.open-opened.result.end
           c.args.written.now.directions.items c.children.written.directions.items c.children.written.lists
           c.index-job.result.now (jobs_at (slice_index_or c.args.packs.now 0 pack) c.pop.new.self)
           (stands-job at pack next) c.search-in-Some.new.written.directions.items c.take.new.self
@@ -442,9 +481,9 @@ returns-clause-ends g t c first last at =
     let pack : Pack g.row.V.Denot = c.index-packs-0.result in
     let here : Pack g.row.V.Denot = slice_index_or c.args.packs.now 0 pack in
     let size : length here.names.items ≡ c.len-groups.result * 16 =
-    omega (arith, (at.is_branch pack).is_pack.room.names, c.children.invariant.groups pack) in
+    omega (arith, (at.is_marked pack).is_pack.room.names, c.children.invariant.groups pack) in
     let stands = c.children.invariant.stands pack first last at in
-    let done = stands-done c.args.instance.now c.args.aim.number first last c.open-opened.result.end
+    let done = stands-done c.args.instance.now c.args.terms.number first last c.open-opened.result.end
     c.args.written.now.directions.items c.children.written.directions.items c.children.written.lists
     (jobs_at here c.children.below) stands (c.in_default.ensures.none here.names.items size) in
     (done.0, done.1, c.children.invariant.within, c.children.invariant.rest, stands.has_lists)

@@ -14,13 +14,13 @@ abbrev pub invariant-children : goal.invariant-children
 invariant-children g l = record {
   packs : KeepsPacks l.instance l.fn.packs l.packs;
   groups : (none : Pack g.row.V.Denot) → l.groups ≡ length (slice_index_or l.fn.packs 0 none).groups.items;
-  within : length l.written.directions.items ≤ l.aim.budget;
+  within : length l.written.directions.items ≤ l.terms.budget;
   rest : l.written.rest.items ≡ [];
-  marked : (place : ℕ) → mark l.below.words place ≡ 1 → mark l.branch.left.words place ≡ 1;
+  marked : (place : ℕ) → mark l.below.words place ≡ 1 → mark l.marked.left.words place ≡ 1;
   stands : (none : Pack g.row.V.Denot) (first last : List ℕ) →
-      IsAt g.V.Lanes.list g.V.Lanes.CAP g.V.Lanes.WIDTH l.instance l.aim.number first last l.left l.fn.written.lists
-      l.branch l.fn.packs →
-      Stands l.instance l.aim.number l.opened.end first last l.fn.written.directions.items l.written.directions.items
+      IsAt g.V.Lanes.list g.V.Lanes.CAP g.V.Lanes.WIDTH l.instance l.terms.number first last l.left l.fn.written.lists
+      l.marked l.fn.packs →
+      Stands l.instance l.terms.number l.opened.end first last l.fn.written.directions.items l.written.directions.items
       l.written.lists (jobs_at (slice_index_or l.fn.packs 0 none) l.below);
 }
 

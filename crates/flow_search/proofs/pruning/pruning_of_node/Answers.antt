@@ -23,16 +23,18 @@ pruning_of_node_plain-requires-clause-within c =
     within-front c.args.setting.now.instance.now c.requires.at.0 c.args.front.now c.args.set.now (suc c.requires.at.1)
     c.requires.at.2
 
-pub returns-then-setting-eq2 : goal.returns-then-setting-eq2
-returns-then-setting-eq2 c node left at =
+pub returns-then-has_releases : goal.returns-then-has_releases
+returns-then-has_releases c node left at =
     c.pruning_of_node_released.ensures
     ∙ find-released c.args.setting.now.instance.now node c.args.front.now c.args.set.now (suc left) c.args.value at
     ∙ sym (ap (λ bound. find (λ machine. nat_le c.args.value (bound c.args.setting.now.instance.now node machine))
-    (numbers 1 c.args.setting.now.instance.now.machines)) (bound-two c.args.setting.now.version c.if-setting-eq2.true))
+    (numbers 1 c.args.setting.now.instance.now.machines)) (bound-two c.args.setting.now.version c.has_releases.result c.has_releases.ensures
+    c.if-has_releases.true))
 
-pub returns-else-setting-eq2 : goal.returns-else-setting-eq2
-returns-else-setting-eq2 c node left at =
+pub returns-else-has_releases : goal.returns-else-has_releases
+returns-else-has_releases c node left at =
     c.pruning_of_node_plain.ensures (members c.args.set.now) c.requires.loads
     ∙ find-is c.args.setting.now.instance.now node c.args.front.now c.args.set.now (suc left) c.args.value at
     ∙ sym (ap (λ bound. find (λ machine. nat_le c.args.value (bound c.args.setting.now.instance.now node machine))
-    (numbers 1 c.args.setting.now.instance.now.machines)) (bound-one c.args.setting.now.version c.if-setting-eq2.false))
+    (numbers 1 c.args.setting.now.instance.now.machines)) (bound-one c.args.setting.now.version c.has_releases.result c.has_releases.ensures
+    c.if-has_releases.false))

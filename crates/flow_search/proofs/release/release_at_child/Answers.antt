@@ -1,9 +1,10 @@
 use Rattle.std.proofs.Common.{◌≡◌, ℕ, ◌+◌, ◌-◌, ◌*◌, ◌<◌, ◌≤◌, max, List, [], ◌∷◌, ◌++◌, map, slice_index, ap, sym, ◌∙◌}
-use Rattle.std.proofs.Common.{arith}
+use Rattle.std.proofs.Common.{subst, arith}
 use Rattle.flow_limits.specs.Limits.{most_machines, greatest_time}
 use Rattle.flow_shop.specs.Shop.{Shop, numbers}
 use Rattle.flow_shop.specs.Least.{least, greatest}
 use Rattle.flow_shop.specs.Sequences.{jobs_left}
+use Rattle.flow_shop.specs.TwoLeast.{IsLeastWithout}
 use Rattle.flow_shop.specs.Bound.{release}
 use Rattle.flow_search.specs.internal.TwoLeast.{time_to}
 use Rattle.flow_search.specs.internal.Lags.{IsLagged}
@@ -49,7 +50,10 @@ least-is c shop node left job is =
     child-need shop node left job c.args.machine c.loop-place.place c.saturating_sub-own.result
     c.without-least.result c.args.row.now c.args.lags.now is c.requires.from
     (omega (arith, c.loop-place-test.true)) c.saturating_sub-own.ensures
-    (c.without-least.ensures.least, c.without-least.ensures.other)
+    (subst (λ n. IsLeastWithout c.saturating_sub-own.result n
+    (slice_index c.args.lags.now.second c.loop-place.place) c.without-least.result) c.at.ensures.least
+    (subst (λ n. IsLeastWithout c.saturating_sub-own.result c.at.result.least n c.without-least.result)
+    c.at.ensures.second c.without-least.ensures))
 
 pub overflow_add-free : goal.overflow_add-free
 overflow_add-free c =

@@ -18,7 +18,8 @@ use Rattle.flow_search.proofs.Nodes.{left-count, within-front}
 use Rattle.flow_search.proofs.Resume.{walking-child, walking-whole, walking-over, walking-entered}
 use Rattle.flow_search.proofs.NextChild.{walk-some}
 use Rattle.flow_search.proofs.Resume.{walking-down, walking-up, walking-done}
-use Rattle.flow_search.proofs.NextChild.{moved, reverse-push}
+use Rattle.flow_search.proofs.NextChild.{moved}
+use Rattle.flow_shop.proofs.Lists.{reverse-push}
 use Rattle.flow_search.proofs.subtree.walk_children.Goals as goal
 use Rattle.flow_search.proofs.subtree.walk_children.Goals.{After-first_of, In-Some, In-Some-pop, In_ok-visit}
 use Rattle.flow_search.proofs.subtree.walk_children.Goals.{In_ok-enter, After-leave, Then-branch}

@@ -2,13 +2,13 @@ use Rattle.std.proofs.Common.{◌≡◌, ℕ, ◌-◌, ◌<◌, ◌≤◌, lengt
 use Rattle.flow_limits.specs.Limits.{most_machines}
 use Rattle.flow_shop.specs.JobSet.{members}
 use Rattle.flow_search.specs.internal.TwoLeast.{AreTwoLeast, time_to}
-use Rattle.flow_search.specs.declared.two_least.TwoLeast.{TwoLeast}
+use Rattle.flow_search.specs.declared.two_least.LeastPairs.{LeastPairs}
 use Rattle.flow_search.proofs.two_least.renew_lags.Given as goal
 
 -- the lags to the machines so far
 abbrev pub invariant-loop-machine : goal.invariant-loop-machine
 invariant-loop-machine l = record {
   size : length l.lags ≡ most_machines;
-  done : (k : ℕ) (other : TwoLeast) → 1 ≤ k → k < l.machine →
+  done : (k : ℕ) (other : LeastPairs) → 1 ≤ k → k < l.machine →
       AreTwoLeast (time_to l.setting.instance.now k) (k - 1) (members l.set) (slice_index_or l.lags (k - 1) other);
 }

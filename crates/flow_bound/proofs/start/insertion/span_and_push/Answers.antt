@@ -8,7 +8,7 @@ use Rattle.flow_shop.specs.Least.{greatest}
 use Rattle.flow_shop.proofs.Recurrence.{after}
 use Rattle.flow_shop.proofs.Fronts.{free_at, after-step, done-more, front-push, time-small}
 use Rattle.flow_bound.proofs.FrontsAndTails.{between-is}
-use Rattle.flow_bound.proofs.Running.{greatest-step}
+use Rattle.flow_shop.proofs.Ranges.{greatest-step}
 use Rattle.flow_bound.proofs.start.insertion.span_and_push.Goals as goal
 
 pub loop-machine-preserved : goal.loop-machine-preserved

@@ -4,7 +4,9 @@ use Rattle.std.proofs.lemmas.List.{take_more}
 use Rattle.flow_shop.specs.Paths.{span}
 use Rattle.flow_shop.specs.Sequences.{has, AreJobs, IsSequence}
 use Rattle.flow_bound.specs.Neh.{IsByTotal, inserted, all_inserted}
-use Rattle.flow_bound.proofs.Places.{inserted-is, all_inserted-push, jobs-insert, jobs-none, before-lacks, has-more}
+use Rattle.flow_shop.proofs.SequenceLemmas.{no-jobs}
+use Rattle.flow_bound.proofs.Places.{inserted-is, all_inserted-push, jobs-insert, before-lacks, has-more}
+use Rattle.flow_shop.proofs.SequenceLemmas.{no-jobs}
 use Rattle.flow_bound.proofs.Places.{span-none}
 use Rattle.flow_bound.proofs.start.neh.neh.Goals as goal
 
@@ -18,7 +20,7 @@ loop-job-init c =
       count = c.in_ok-jobs.ensures.len;
       tails = omega (arith, c.as_slice-job-items.ensures.len, c.len.ensures, c.in_ok-tails.ensures.len);
       spans = omega (arith, c.as_slice-job-items.ensures.len, c.len-2.ensures, c.in_ok-spans.ensures.len);
-      each = subst (AreJobs shop.jobs) (sym none) (jobs-none shop.jobs);
+      each = subst (AreJobs shop.jobs) (sym none) (no-jobs shop.jobs);
       same = λ job. ap (λ xs. has xs job) none;
     }
 

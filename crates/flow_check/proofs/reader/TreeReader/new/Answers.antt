@@ -1,6 +1,6 @@
 use Rattle.std.proofs.Common.{◌≡◌, suc, ◌-◌, [], sym, subst, ◌∙◌, arith}
 use Rattle.flow_check.specs.internal.Links.{AreLinks}
-use Rattle.flow_check.specs.internal.Nodes.{IsNode}
+use Rattle.flow_check.specs.internal.Nodes.{IsListNode}
 use Rattle.flow_check.proofs.Readers.{none-kept}
 use Rattle.flow_check.proofs.reader.TreeReader.new.Goals as goal
 
@@ -12,9 +12,9 @@ returns c =
     let count : shop.jobs ≡ suc child_left = omega (arith, value, c.jobs-jobs.ensures.limits) in
     record {
       at = record {
-        is_node = subst (λ node. IsNode shop [] node (suc child_left))
+        is_node = subst (λ node. IsListNode shop [] node (suc child_left))
             (sym (c.in_ok-frames.ensures.each child_left (omega (arith, value, count))))
-            (subst (IsNode shop [] c.root.result) count c.root.ensures);
+            (subst (IsListNode shop [] c.root.result) count c.root.ensures);
         are_links = subst (λ jobs. AreLinks jobs [] c.in_ok-links.links.items) value c.in_ok-links.ensures;
       };
       room = c.in_ok-frames.ensures.size ∙ value;

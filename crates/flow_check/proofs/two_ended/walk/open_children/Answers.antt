@@ -15,10 +15,10 @@ returns g c shop first last groups is left =
     let below = c.mark_below.new.below.words in
     record {
       all = λ job low high fresh under.
-          (job-tells list cap g.V.Lanes.WIDTH shop c.args.number c.args.end first last c.args.groups.now below job groups
-          low high fresh
+          (job-tells list cap g.V.Lanes.WIDTH shop c.args.number c.args.end first last c.args.groups.now below job
+          groups low high fresh
           (λ jobs none within are out. c.mark_below.ensures.exact shop c.args.number first last jobs (job - 1) none
-          c.min-limit.ensures is within are (left.all job low high fresh) out)).1 under;
+          c.limit_of-limit.ensures is within are (left.all job low high fresh) out)).1 under;
       only = λ job low inside marked.
           let within : (job - 1) / 16 < length c.args.groups.now = omega (arith, inside, groups.count) in
           let was = c.mark_below.ensures.within (job - 1) within marked in
@@ -28,6 +28,6 @@ returns g c shop first last groups is left =
             (job-tells list cap g.V.Lanes.WIDTH shop c.args.number c.args.end first last c.args.groups.now below job
                 groups low there.0 there.1
                 (λ jobs none same are out. c.mark_below.ensures.exact shop c.args.number first last jobs (job - 1) none
-                c.min-limit.ensures is same are was out)).0 marked,
+                c.limit_of-limit.ensures is same are was out)).0 marked,
           );
     }

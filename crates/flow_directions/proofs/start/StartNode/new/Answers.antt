@@ -5,7 +5,8 @@ use Rattle.flow_shop.specs.Sequences.{has}
 use Rattle.flow_nodes.specs.Nodes.{IsNode}
 use Rattle.flow_directions.specs.internal.Lists.{HasLists}
 use Rattle.flow_directions.proofs.FoundSteps.{no-jobs-fault}
-use Rattle.flow_directions.proofs.StartLists.{jobs-first, next-at, next-back, drop-back, count-both, both-put}
+use Rattle.flow_directions.proofs.StartLists.{jobs-first, next-at, next-back, count-both, both-put}
+use Rattle.flow_shop.proofs.Lists.{drop-at}
 use Rattle.flow_directions.proofs.StartLists.{first-not-put, last-not-put}
 use Rattle.flow_directions.proofs.start.StartNode.new.Goals as goal
 use Rattle.flow_directions.proofs.start.StartNode.new.Goals.{then-not-insert_all-via-then-not-insert_all}
@@ -163,7 +164,7 @@ loop-place-preserved c =
     let low : 1 ≤ place = omega arith in
     let next = next-back shop.jobs first last place low here.within here.are_jobs in
     let more : slice_index last (place - 1) ∷ drop place last ≡ drop (place - 1) last =
-    sym (drop-back last place low here.within) in
+    sym (drop-at last place low here.within) in
     record {
       are_jobs = here.are_jobs;
       holds = here.holds;

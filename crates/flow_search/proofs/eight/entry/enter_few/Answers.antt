@@ -4,7 +4,8 @@ use Rattle.flow_limits.specs.Limits.{most_machines}
 use Rattle.flow_shop.specs.Shop.{Shop, time_between}
 use Rattle.flow_shop.proofs.Fronts.{front-within}
 use Rattle.flow_search.specs.declared.eight.group.MachineRow.{MachineRow}
-use Rattle.flow_search.proofs.ColumnsEntered.{jobs-of, done-next, time_between-first, entered}
+use Rattle.flow_search.proofs.ColumnsEntered.{jobs-of, done-next, entered}
+use Rattle.flow_shop.proofs.Recurrence.{time_between-first}
 use Rattle.flow_search.proofs.eight.entry.enter_few.Goals as goal
 
 pub times_of-time-requires-clause-jobs : goal.times_of-time-requires-clause-jobs

@@ -5,15 +5,12 @@ use Rattle.flow_limits.specs.Limits.{most_machines, greatest_time, greatest_comp
 use Rattle.flow_shop.specs.Shop.{time}
 use Rattle.flow_shop.specs.Bound.{bound_at}
 use Rattle.flow_shop.proofs.Recurrence.{after}
-use Rattle.flow_shop.proofs.Fronts.{free_at, after-step, time-small}
+use Rattle.flow_shop.proofs.Fronts.{free_at, after-step, time-small, child-completion}
 use Rattle.flow_search.specs.internal.Frames.{IsFrame, IsChild}
-use Rattle.flow_search.proofs.Children.{child-completion, child-bound, frame-within}
+use Rattle.flow_search.proofs.Children.{child-bound, frame-within}
 use Rattle.flow_search.proofs.Nodes.{find-here, find-skip, find-past}
-use Rattle.flow_shop.proofs.TwoLeastSteps.{Without}
 use Rattle.flow_search.proofs.frame.Frame.pruning_of_child_plain.Goals as goal
 use Rattle.flow_search.proofs.frame.Frame.pruning_of_child_plain.Goals.{After-from, After-from-in-loop-machine}
-use Rattle.flow_search.proofs.frame.Frame.pruning_of_child_plain.Goals.{then-row-place}
-use Rattle.flow_search.proofs.frame.Frame.pruning_of_child_plain.Goals.{else-row-place}
 
 -- when the child's job starts, at most
 start-small : (c : After-from) →
@@ -60,17 +57,8 @@ bounded c node left is kid =
       tails =
           [];
     })).tails (k - 1) in
-    let picked : Without tail (slice_index frame.loads.tails (k - 1)) (slice_index frame.second
-    (k - 1)) c.if-row-place.tail = elim c.if-row-place.branch [
-      | then-row-place w ↦ (λ e. w.tail-is, λ n. absurd (n (w.if-row-place.true ∙ c.tail-least.ensures)))
-      | else-row-place w ↦ (
-        λ e. absurd (w.if-row-place.false (e ∙ sym c.tail-least.ensures)),
-        λ n. w.tail-is
-            ∙ c.tail-least.ensures,
-      )
-    ] in
-    let bound = child-bound shop node left job k c.max-start.result t tail c.if-row-place.tail frame
-    c.args.setting.now.are_rows.limits is kid low high total refl row.1 picked in (
+    let bound = child-bound shop node left job k c.max-start.result t tail c.tail_without-tail.result frame
+    c.args.setting.now.are_rows.limits is kid low high total refl row.1 c.tail_without-tail.ensures in (
       omega (arith, bound.0, c.sum.ensures, c.from.ensures, c.from-in-loop-machine.ensures),
       omega (arith, bound.1, c.from-in-loop-machine.ensures),
     )

@@ -10,17 +10,15 @@ use Rattle.flow_shop.specs.Bound.{bound_at, released_bound_at, front_of}
 use Rattle.flow_shop.specs.declared.row.Row.{Row}
 use Rattle.flow_shop.proofs.Admissible.{front_of-is, released_bound_is_stronger}
 use Rattle.flow_shop.proofs.Recurrence.{after}
-use Rattle.flow_shop.proofs.Fronts.{free_at, after-step, time-small}
-use Rattle.flow_shop.proofs.TwoLeastSteps.{Without}
+use Rattle.flow_shop.proofs.Fronts.{free_at, after-step, time-small, child-completion}
 use Rattle.flow_search.specs.internal.Frames.{IsFrame, IsChild}
 use Rattle.flow_search.specs.internal.Lags.{AreLeastLags, IsLagged}
-use Rattle.flow_search.specs.declared.two_least.TwoLeast.{TwoLeast}
-use Rattle.flow_search.proofs.Children.{child-completion, child-bound, child-released, frame-within}
+use Rattle.flow_search.specs.declared.two_least.LeastPairs.{LeastPairs}
+use Rattle.flow_search.proofs.Children.{child-bound, child-released, frame-within}
 use Rattle.flow_search.proofs.ColumnsPassed.{done-more}
 use Rattle.flow_search.proofs.Nodes.{find-here, find-skip, find-past}
 use Rattle.flow_search.proofs.frame.Frame.pruning_of_child_released.Goals as goal
 use Rattle.flow_search.proofs.frame.Frame.pruning_of_child_released.Goals.{After-max-start, After-from-time}
-use Rattle.flow_search.proofs.frame.Frame.pruning_of_child_released.Goals.{After-without-tail}
 use Rattle.flow_search.proofs.frame.Frame.pruning_of_child_released.Goals.{After-from-in-loop-machine}
 use Rattle.flow_search.proofs.frame.Frame.pruning_of_child_released.Goals.{After-release_at_child}
 
@@ -83,16 +81,6 @@ leaves-is c node left is =
     (c.max-start.result + c.from-time.result) low c.loop-machine.invariant.is refl there sum
     ∙ child-completion shop node front c.args.job k begins.1 is.times
 
--- the least tail of the other jobs
-picked : (c : After-without-tail) →
-    Without (slice_index (slice_index_or c.args.setting.now.rows.now (c.args.job - 1) none).tails
-    (c.loop-machine.machine - 1)) (slice_index c.args.self.now.loads.tails (c.loop-machine.machine - 1))
-    (slice_index c.args.self.now.second (c.loop-machine.machine - 1)) c.without-tail.result
-picked c = (
-  λ e. c.without-tail.ensures.least (e ∙ sym c.tail.ensures),
-  λ n. c.without-tail.ensures.other (λ e. n (e ∙ c.tail.ensures)) ∙ c.tail.ensures,
-)
-
 -- the child's machine bound
 bounded : (c : After-from-in-loop-machine) (node : List ℕ) (left : ℕ) →
     IsFrame c.args.setting.now.instance.now node (suc (suc left)) c.args.self.now →
@@ -110,9 +98,9 @@ bounded c node left is kid =
     let total = leaves-is (goal.at.After-from-in-loop-machine c).After-from-time node left is in
     let there : c.from-time.result ≡ time shop job k = c.from-time.ensures ∙ row.0 in
     let tail : ℕ = slice_index (slice_index_or c.args.setting.now.rows.now (job - 1) none).tails (k - 1) in
-    let bound = child-bound shop node left job k c.max-start.result c.from-time.result tail c.without-tail.result
+    let bound = child-bound shop node left job k c.max-start.result c.from-time.result tail c.tail_without-tail.result
     c.args.self.now c.args.setting.now.are_rows.limits is kid low begins.1 total there row.1
-    (picked (goal.at.After-from-in-loop-machine c).After-without-tail) in (
+    c.tail_without-tail.ensures in (
       omega (arith, bound.0, c.sum.ensures, c.from.ensures, c.from-in-loop-machine.ensures),
       omega (arith, bound.1, c.from-in-loop-machine.ensures),
     )
@@ -153,7 +141,7 @@ lagged : (c : After-from-time) (node : List ℕ) (left : ℕ) →
     IsChild c.args.setting.now.instance.now.jobs node c.args.job →
     AreLeastLags c.args.setting.now.instance.now (jobs_left c.args.setting.now.instance.now.jobs node)
     c.args.lags.now →
-    (other : TwoLeast) → IsLagged c.args.setting.now.instance.now node left c.args.job c.loop-machine.machine
+    (other : LeastPairs) → IsLagged c.args.setting.now.instance.now node left c.args.job c.loop-machine.machine
     (slice_index_or c.args.setting.now.rows.now (c.args.job - 1) none)
     (slice_index_or c.args.lags.now (c.loop-machine.machine - 1) other)
 lagged c node left is kid lags other =
@@ -200,8 +188,8 @@ released c node left is kid lags =
     omega (arith, c.release_at_child.ensures.least, here) in
     let tail : ℕ = slice_index (slice_index_or c.args.setting.now.rows.now (job - 1) none).tails (k - 1) in
     let bound = child-released shop node left job k c.release_at_child.result c.from-time.result tail
-    c.without-tail.result c.args.self.now c.args.setting.now.are_rows.limits is kid low begins.1 late least there row.1
-    (picked (goal.at.After-release_at_child c).After-without-tail) in (
+    c.tail_without-tail.result c.args.self.now c.args.setting.now.are_rows.limits is kid low begins.1 late least there row.1
+    c.tail_without-tail.ensures in (
       omega (arith, bound, c.sum.ensures, c.from.ensures, c.from-in-loop-machine.ensures),
       least,
     )

@@ -1,13 +1,12 @@
 use Rattle.std.proofs.Common.{◌≡◌, ◌<◌, length, ap, ◌∙◌, arith}
 use Rattle.std.proofs.lemmas.List.{get_or_read}
-use Rattle.flow_shop.specs.Directions.{first_with, last_with}
 use Rattle.flow_nodes.specs.Groups.{child_bound}
 use Rattle.flow_improve.specs.internal.Beams.{first_of, job_at, last_of}
 use Rattle.flow_improve.proofs.EntrySteps.{is-left}
 use Rattle.flow_improve.proofs.two_ended.bounds.ChildBounds.at.Goals as goal
 
-pub put-requires-clause-left : goal.put-requires-clause-left
-put-requires-clause-left c =
+pub child_bound-requires-clause-left : goal.child_bound-requires-clause-left
+child_bound-requires-clause-left c =
     let entry = c.args.entry.now in
     let inside : c.args.place < length entry.jobs.items =
     omega (arith, c.requires.before, c.requires.entry.within, c.requires.entry.jobs.whole) in
@@ -20,20 +19,6 @@ put-requires-clause-left c =
           c.requires.before read,
     )
 
-pub bound-requires : goal.bound-requires
-bound-requires c =
-    let entry = c.args.entry.now in
-    let job = c.index-job.result.now in
-    let inside : c.args.place < length entry.jobs.items =
-    omega (arith, c.requires.before, c.requires.entry.within, c.requires.entry.jobs.whole) in
-    let read : job ≡ job_at entry c.args.place =
-    get_or_read entry.jobs.items c.args.place job inside c.index-job.ensures 0 in (
-      first_with c.args.end (first_of entry) job,
-      last_with c.args.end (last_of entry) job,
-      c.put.ensures (first_of entry) (last_of entry) c.requires.entry.node
-          (is-left c.args.instance.now entry c.args.place job c.requires.entry c.requires.from c.requires.before read),
-    )
-
 pub returns : goal.returns
 returns c =
     let shop = c.args.instance.now in
@@ -43,7 +28,6 @@ returns c =
     omega (arith, c.requires.before, c.requires.entry.within, c.requires.entry.jobs.whole) in
     let read : job ≡ job_at entry c.args.place =
     get_or_read entry.jobs.items c.args.place job inside c.index-job.ensures 0 in
-    c.bound.ensures (first_with c.args.end (first_of entry) job) (last_with c.args.end (last_of entry) job)
-    (c.put.ensures (first_of entry) (last_of entry) c.requires.entry.node
-    (is-left shop entry c.args.place job c.requires.entry c.requires.from c.requires.before read))
+    c.child_bound.ensures (first_of entry) (last_of entry) c.requires.entry.node
+    (is-left shop entry c.args.place job c.requires.entry c.requires.from c.requires.before read)
     ∙ ap (child_bound shop c.args.end (first_of entry) (last_of entry)) read
