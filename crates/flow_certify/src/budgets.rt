@@ -59,23 +59,23 @@ impl Fund {
     }
 
     /// A large budget: a tenth of the greatest one.
-    pub(crate) fn large(&self) -> u64 {
+    pub(crate) fn large(self) -> u64 {
         self.most / 10
     }
 
     /// The first budget with which the proved number is raised.
-    pub(crate) fn first_raise(&self) -> u64 {
+    pub(crate) fn first_raise(self) -> u64 {
         SMALL[0].min(self.large())
     }
 
     /// The second one: a thirtieth of the greatest.
-    pub(crate) fn second_raise(&self) -> u64 {
+    pub(crate) fn second_raise(self) -> u64 {
         self.most / 30
     }
 
     /// How many directions a search with a budget may write: no more than the greatest budget, and than are left.
-    pub(crate) fn granted(&self, budget: u64) -> u64
-        ensures { result ≡ min (min budget self.now.most) self.now.left }
+    pub(crate) fn granted(self, budget: u64) -> u64
+        ensures { result ≡ min (min budget self.most) self.left }
     {
         budget.min(self.most).min(self.left)
     }
