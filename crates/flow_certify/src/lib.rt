@@ -1,12 +1,12 @@
 //! Bounds of the least makespan: a sequence that has the upper one, and directions that prove the lower one.
 #![tactic(auto)]
 
+mod budgets;
 mod certified;
-mod fund;
 mod most;
 mod search;
 mod searches;
-mod task;
+mod shared;
 
 pub use certified::Certified;
 pub use most::MostDirections;

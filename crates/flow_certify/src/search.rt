@@ -1,4 +1,4 @@
-//! From a start to bounds: which sequences and numbers are searched, and with which budgets.
+//! From a start to bounds: which sequences and numbers are searched, in which order.
 
 ghost use Rattle.std.specs.Prelude.{◌≡◌, ◌≤◌, min, [], length, IfOk};
 ghost use Rattle.flow_shop.specs.Paths.{span};
@@ -8,10 +8,11 @@ ghost use Rattle.flow_shop.specs.Ends.{end_bound};
 ghost use Rattle.flow_certify.specs.Signs.{most_signs};
 ghost use Rattle.flow_certify.specs.internal.Searches.{AreLater, AreSearches};
 
+use crate::budgets::{MIDDLE, SMALL};
 use crate::certified::Certified;
 use crate::most::MostDirections;
 use crate::searches::Searches;
-use crate::task::Task;
+use crate::shared::Shared;
 use flow_bound::taillard_bound;
 use flow_directions::{News, Prover};
 use flow_improve::{Effort, Reached, beam, beam_below, rounds_of_both};
@@ -19,7 +20,7 @@ use flow_shop::{Instance, Sequence};
 use std::alloc::{AllocError, Global};
 
 /// The widest beam after which the searches have small budgets, before the whole beam.
-const NARROW: u32 = 16;
+const NARROW_WIDTH: u32 = 16;
 
 /// The greatest width of a beam that is aimed at a number.
 const AIMED: u32 = 65_536;
@@ -27,67 +28,67 @@ const AIMED: u32 = 65_536;
 /// How many times the steps of the beam a beam may take that is aimed at a number.
 const AIMED_SHARE: u64 = 4;
 
-/// The budgets of the searches from the start, and from the best of a narrow beam.
-const SMALL: [u64; 2] = [10_000, 100_000];
-
-/// The budgets of the searches from the best of the whole beam.
-const MIDDLE: [u64; 3] = [10_000, 100_000, 1_000_000];
-
 /// Searches from the start, and from the best of a narrow beam, with small budgets; and then further. Where no better
 /// sequence exists, the greatest budget is used at once.
 fn prove_best<P: Prover>(
-    task: &Task<P>,
+    shared: &Shared<P>,
     start: &Sequence,
     effort: &Effort,
     searches: &mut Searches,
 ) -> Result<(), AllocError>
-    requires ready { P.is_ready task.now.prover.now }
-    requires start { length start.now ≡ task.now.instance.now.jobs }
-    requires searches { AreSearches task.now.instance.now searches.old }
-    ensures { AreLater task.now.instance.now searches.old searches.new }
+    requires ready { P.is_ready shared.now.prover.now }
+    requires start { length start.now ≡ shared.now.instance.now.jobs }
+    requires searches { AreSearches shared.now.instance.now searches.old }
+    ensures { AreLater shared.now.instance.now searches.old searches.new }
 {
-    searches.begin(task, 1);
-    let whole = searches.known.upper == taillard_bound(task.instance);
-    if searches.try_budgets(task, &SMALL, whole)? {
+    searches.begin(shared, 1);
+    let whole = searches.known.upper == taillard_bound(shared.instance);
+    if searches.try_budgets(shared, &SMALL, whole)? {
         return Ok(());
     }
-    searches.begin(task, 2);
-    let width = effort.width().min(NARROW);
-    let narrow = beam(task.alloc, task.instance, start, width, effort.beam_work())?;
-    searches.take(task.alloc, &narrow)?;
-    if searches.try_budgets(task, &SMALL, narrow.whole)? {
+    searches.begin(shared, 2);
+    let width = effort.width().min(NARROW_WIDTH);
+    let narrow = beam(
+        shared.alloc,
+        shared.instance,
+        start,
+        width,
+        effort.beam_work(),
+    )?;
+    searches.take(shared.alloc, &narrow)?;
+    if searches.try_budgets(shared, &SMALL, narrow.whole)? {
         return Ok(());
     }
-    searches.begin(task, 3);
-    let beamed = widened(task.alloc, task.instance, start, narrow, effort)?;
-    prove_on(task, start, effort, &beamed, searches)
+    searches.begin(shared, 3);
+    let beamed = widened(shared.alloc, shared.instance, start, narrow, effort)?;
+    prove_on(shared, start, effort, &beamed, searches)
 }
 
 /// The same from the best of the whole beam, and of rounds, with greater budgets.
 fn prove_on<P: Prover>(
-    task: &Task<P>,
+    shared: &Shared<P>,
     start: &Sequence,
     effort: &Effort,
     beamed: &Reached,
     searches: &mut Searches,
 ) -> Result<(), AllocError>
-    requires ready { P.is_ready task.now.prover.now }
-    requires start { length start.now ≡ task.now.instance.now.jobs }
-    requires sequence { IsSequence task.now.instance.now.jobs beamed.now.sequence }
-    requires value { beamed.now.value ≡ span task.now.instance.now beamed.now.sequence }
-    requires searches { AreSearches task.now.instance.now searches.old }
-    ensures { AreLater task.now.instance.now searches.old searches.new }
+    requires ready { P.is_ready shared.now.prover.now }
+    requires start { length start.now ≡ shared.now.instance.now.jobs }
+    requires sequence { IsSequence shared.now.instance.now.jobs beamed.now.sequence }
+    requires value { beamed.now.value ≡ span shared.now.instance.now beamed.now.sequence }
+    requires searches { AreSearches shared.now.instance.now searches.old }
+    ensures { AreLater shared.now.instance.now searches.old searches.new }
 {
-    searches.take(task.alloc, beamed)?;
-    if searches.try_budgets(task, &MIDDLE, beamed.whole)? {
+    searches.take(shared.alloc, beamed)?;
+    if searches.try_budgets(shared, &MIDDLE, beamed.whole)? {
         return Ok(());
     }
-    searches.begin(task, 4);
-    let best = searches.best(task.alloc)?;
-    let best = rounds_of_both(task.alloc, task.instance, start, &best, effort)?;
-    searches.take(task.alloc, &best)?;
-    searches.prove_with(task, &MIDDLE)?;
-    searches.prove_upper(task, searches.most / 10)
+    searches.begin(shared, 4);
+    let best = searches.best(shared.alloc)?;
+    let best = rounds_of_both(shared.alloc, shared.instance, start, &best, effort)?;
+    searches.take(shared.alloc, &best)?;
+    searches.prove_with(shared, &MIDDLE)?;
+    searches.prove_upper(shared, searches.fund.large())
 }
 
 /// What the whole beam reaches: what the narrow one did, where it is no wider.
@@ -104,7 +105,7 @@ fn widened(
     ensures sequence { IfOk result (λ reached. IsSequence instance.now.jobs reached.sequence) }
     ensures value { IfOk result (λ reached. reached.value ≡ span instance.now reached.sequence) }
 {
-    if effort.width() <= NARROW {
+    if effort.width() <= NARROW_WIDTH {
         return Ok(narrow);
     }
     beam(alloc, instance, start, effort.width(), effort.beam_work())
@@ -112,13 +113,13 @@ fn widened(
 
 /// Looks for a sequence that has the proved number as its makespan, by a beam that is aimed at the next number.
 fn aim<P: Prover>(
-    task: &Task<P>,
+    shared: &Shared<P>,
     effort: &Effort,
     searches: &mut Searches,
 ) -> Result<(), AllocError>
-    requires ready { P.is_ready task.now.prover.now }
-    requires searches { AreSearches task.now.instance.now searches.old }
-    ensures { AreLater task.now.instance.now searches.old searches.new }
+    requires ready { P.is_ready shared.now.prover.now }
+    requires searches { AreSearches shared.now.instance.now searches.old }
+    ensures { AreLater shared.now.instance.now searches.old searches.new }
 {
     if searches.is_proved() {
         return Ok(());
@@ -127,26 +128,26 @@ fn aim<P: Prover>(
     let width = effort.width().saturating_mul(8).min(AIMED);
     let work = effort.beam_work().saturating_mul(AIMED_SHARE);
     let aimed = beam_below(
-        task.alloc,
-        task.instance,
+        shared.alloc,
+        shared.instance,
         &searches.known.sequence,
         number,
         width,
         work,
     )?;
-    searches.take(task.alloc, &aimed)
+    searches.take(shared.alloc, &aimed)
 }
 
 /// Looks for better sequences by narrower beams, each aimed half of the way between the proved number, or the greatest
 /// one that such a beam came to no sequence below, and the best makespan.
 fn halve<P: Prover>(
-    task: &Task<P>,
+    shared: &Shared<P>,
     effort: &Effort,
     searches: &mut Searches,
 ) -> Result<(), AllocError>
-    requires ready { P.is_ready task.now.prover.now }
-    requires searches { AreSearches task.now.instance.now searches.old }
-    ensures { AreLater task.now.instance.now searches.old searches.new }
+    requires ready { P.is_ready shared.now.prover.now }
+    requires searches { AreSearches shared.now.instance.now searches.old }
+    ensures { AreLater shared.now.instance.now searches.old searches.new }
 {
     let width = effort.width() / 4;
     let work = effort.beam_work() / 2;
@@ -155,8 +156,8 @@ fn halve<P: Prover>(
     'halved: while top.saturating_sub(missed) > 1 {
         let number = missed + (top - missed) / 2;
         let aimed = beam_below(
-            task.alloc,
-            task.instance,
+            shared.alloc,
+            shared.instance,
             &searches.known.sequence,
             number,
             width,
@@ -164,7 +165,7 @@ fn halve<P: Prover>(
         )?;
         if aimed.value < number {
             top = aimed.value;
-            searches.take(task.alloc, &aimed)?;
+            searches.take(shared.alloc, &aimed)?;
         } else {
             missed = number;
         }
@@ -175,32 +176,31 @@ fn halve<P: Prover>(
 /// Raises the proved number with greater and greater budgets, looks for a sequence that has it as its makespan, and for
 /// better ones, and searches below the makespan of the best sequence with the greatest budget.
 fn prove_more<P: Prover>(
-    task: &Task<P>,
+    shared: &Shared<P>,
     effort: &Effort,
     searches: &mut Searches,
 ) -> Result<(), AllocError>
-    requires ready { P.is_ready task.now.prover.now }
-    requires searches { AreSearches task.now.instance.now searches.old }
-    ensures { AreLater task.now.instance.now searches.old searches.new }
+    requires ready { P.is_ready shared.now.prover.now }
+    requires searches { AreSearches shared.now.instance.now searches.old }
+    ensures { AreLater shared.now.instance.now searches.old searches.new }
 {
-    let most = searches.most;
     searches.fund.release();
-    searches.begin(task, 5);
-    searches.raise(task, SMALL[0].min(most / 10))?;
-    searches.raise(task, most / 30)?;
-    searches.begin(task, 6);
-    aim(task, effort, searches)?;
-    searches.begin(task, 7);
-    halve(task, effort, searches)?;
-    searches.prove_upper(task, most)?;
-    searches.begin(task, 8);
+    searches.begin(shared, 5);
+    searches.raise(shared, searches.fund.first_raise())?;
+    searches.raise(shared, searches.fund.second_raise())?;
+    searches.begin(shared, 6);
+    aim(shared, effort, searches)?;
+    searches.begin(shared, 7);
+    halve(shared, effort, searches)?;
+    searches.prove_upper(shared, searches.fund.most)?;
+    searches.begin(shared, 8);
     let proved = searches.known.lower;
-    searches.raise(task, most / 10)?;
+    searches.raise(shared, searches.fund.large())?;
     if searches.known.lower == proved {
         return Ok(());
     }
-    aim(task, effort, searches)?;
-    searches.prove_upper(task, most)
+    aim(shared, effort, searches)?;
+    searches.prove_upper(shared, searches.fund.most)
 }
 
 /// Bounds of the least makespan, a sequence that has the upper one, and directions that prove the lower one. The prover
@@ -223,17 +223,17 @@ pub fn certify<P: Prover>(
     ensures floor { IfOk result (λ found. end_bound instance.now [] [] ≤ found.lower) }
     ensures few { IfOk result (λ found. length found.directions.items ≤ min most most_signs) }
 {
-    let task = Task {
+    let shared = Shared {
         alloc,
         instance,
         prover,
     };
     let mut searches = Searches::new(alloc, instance, start, most.count())?;
-    prove_best(&task, start, effort, &mut searches)?;
+    prove_best(&shared, start, effort, &mut searches)?;
     if !searches.is_proved() {
-        prove_more(&task, effort, &mut searches)?;
+        prove_more(&shared, effort, &mut searches)?;
     }
-    searches.tell(&task);
+    searches.tell(&shared);
     prover.tell(News::Ended);
     let Searches { known, .. } = searches;
     Ok(known)

@@ -9,9 +9,9 @@ ghost use Rattle.flow_shop.specs.Sequences.{IsSequence};
 ghost use Rattle.flow_certify.specs.Signs.{most_signs};
 ghost use Rattle.flow_certify.specs.internal.Searches.{AreLater, AreSearches, IsSearched};
 
+use crate::budgets::Fund;
 use crate::certified::Certified;
-use crate::fund::Fund;
-use crate::task::Task;
+use crate::shared::Shared;
 use flow_directions::{Found, News, Prover};
 use flow_improve::Reached;
 use flow_nodes::Node;
@@ -22,8 +22,7 @@ use std::alloc::{AllocError, Global};
 #[derive(Drop)]
 pub(crate) struct Searches {
     pub(crate) known: Certified,
-    /// The most directions of one search.
-    pub(crate) most: u64,
+    /// How many directions searches may write.
     pub(crate) fund: Fund,
     /// The greatest budget with which the search below the makespan of the sequence was over.
     over: Option<u64>,
@@ -50,10 +49,9 @@ impl Searches {
         ensures searches { IfOk result (AreSearches instance.now) }
         ensures upper { IfOk result (λ searches. searches.known.upper ≡ span instance.now start.now) }
         ensures floor { IfOk result (λ searches. end_bound instance.now [] [] ≤ searches.known.lower) }
-        ensures most { IfOk result (λ searches. searches.most ≤ min directions most_signs) }
+        ensures most { IfOk result (λ searches. searches.fund.most ≤ min directions most_signs) }
     {
         let upper = makespan(instance, start);
-        let fund = Fund::new(instance, upper, directions);
         Ok(Searches {
             known: Certified {
                 lower: root_bound(instance),
@@ -61,24 +59,23 @@ impl Searches {
                 sequence: Sequence::of_known(alloc, start.jobs())?,
                 directions: Vec::new(alloc),
             },
-            most: fund.most(directions),
-            fund,
+            fund: Fund::new(instance, upper, directions),
             over: None,
         })
     }
 
     /// Tells the prover which bounds are known.
-    pub(crate) fn tell<P: Prover>(&self, task: &Task<P>) {
-        task.prover.tell(News::Bounds {
+    pub(crate) fn tell<P: Prover>(&self, shared: &Shared<P>) {
+        shared.prover.tell(News::Bounds {
             lower: self.known.lower,
             upper: self.known.upper,
         });
     }
 
     /// Tells the prover that a step begins, and which bounds are known.
-    pub(crate) fn begin<P: Prover>(&self, task: &Task<P>, step: u32) {
-        task.prover.tell(News::Step(step));
-        self.tell(task);
+    pub(crate) fn begin<P: Prover>(&self, shared: &Shared<P>, step: u32) {
+        shared.prover.tell(News::Step(step));
+        self.tell(shared);
     }
 
     /// Whether the makespan of the sequence is proved.
@@ -129,7 +126,7 @@ impl Searches {
 
     /// Takes directions that prove a number.
     fn hold(&mut self, number: u64, directions: Vec<u8>)
-        requires few { length directions.items ≤ self.old.most }
+        requires few { length directions.items ≤ self.old.fund.most }
         requires no_less { self.old.known.lower ≤ number }
         ensures later { (shop : Shop) → AreSearches shop self.old → Proves shop number directions.items →
             AreLater shop self.old self.new }
@@ -144,7 +141,7 @@ impl Searches {
     /// Notes that the search below a number was over with a budget.
     fn note_over(&mut self, number: u64, budget: u64)
         ensures known { self.new.known ≡ self.old.known }
-        ensures most { self.new.most ≡ self.old.most }
+        ensures most { self.new.fund.most ≡ self.old.fund.most }
     {
         self.fund.spend(budget);
         if number == self.known.upper {
@@ -160,25 +157,25 @@ impl Searches {
     /// Searches below a number with a budget, and keeps what it finds. Returns whether the search is over.
     fn search<P: Prover>(
         &mut self,
-        task: &Task<P>,
+        shared: &Shared<P>,
         number: u64,
         budget: u64,
     ) -> Result<bool, AllocError>
-        requires ready { P.is_ready task.now.prover.now }
-        requires searches { AreSearches task.now.instance.now self.old }
+        requires ready { P.is_ready shared.now.prover.now }
+        requires searches { AreSearches shared.now.instance.now self.old }
         requires from { self.old.known.lower ≤ number }
         requires to { number ≤ self.old.known.upper }
-        ensures later { AreLater task.now.instance.now self.old self.new }
+        ensures later { AreLater shared.now.instance.now self.old self.new }
         ensures searched { IfOk result (IsSearched number self.old self.new) }
     {
-        let budget = budget.min(self.most).min(self.fund.left);
+        let budget = self.fund.granted(budget);
         if self.is_over(number, budget) {
             return Ok(true);
         }
-        self.tell(task);
-        match task
+        self.tell(shared);
+        match shared
             .prover
-            .prove(task.alloc, task.instance, number, budget)?
+            .prove(shared.alloc, shared.instance, number, budget)?
         {
             Found::Proved(directions) => {
                 self.hold(number, directions);
@@ -204,16 +201,16 @@ impl Searches {
     /// until the makespan is proved or a search is over.
     pub(crate) fn prove_upper<P: Prover>(
         &mut self,
-        task: &Task<P>,
+        shared: &Shared<P>,
         budget: u64,
     ) -> Result<(), AllocError>
-        requires ready { P.is_ready task.now.prover.now }
-        requires searches { AreSearches task.now.instance.now self.old }
-        ensures { AreLater task.now.instance.now self.old self.new }
+        requires ready { P.is_ready shared.now.prover.now }
+        requires searches { AreSearches shared.now.instance.now self.old }
+        ensures { AreLater shared.now.instance.now self.old self.new }
     {
         'better: while !self.is_proved() {
             let upper = self.known.upper;
-            if self.search(task, upper, budget)? {
+            if self.search(shared, upper, budget)? {
                 break;
             }
         }
@@ -223,15 +220,15 @@ impl Searches {
     /// The same with each of some budgets, the least first.
     pub(crate) fn prove_with<P: Prover>(
         &mut self,
-        task: &Task<P>,
+        shared: &Shared<P>,
         budgets: &[u64],
     ) -> Result<(), AllocError>
-        requires ready { P.is_ready task.now.prover.now }
-        requires searches { AreSearches task.now.instance.now self.old }
-        ensures { AreLater task.now.instance.now self.old self.new }
+        requires ready { P.is_ready shared.now.prover.now }
+        requires searches { AreSearches shared.now.instance.now self.old }
+        ensures { AreLater shared.now.instance.now self.old self.new }
     {
         'budgets: for budget in budgets {
-            self.prove_upper(task, *budget)?;
+            self.prove_upper(shared, *budget)?;
         }
         Ok(())
     }
@@ -240,38 +237,42 @@ impl Searches {
     /// so, or the makespan is proved.
     pub(crate) fn try_budgets<P: Prover>(
         &mut self,
-        task: &Task<P>,
+        shared: &Shared<P>,
         budgets: &[u64],
         whole: bool,
     ) -> Result<bool, AllocError>
-        requires ready { P.is_ready task.now.prover.now }
-        requires searches { AreSearches task.now.instance.now self.old }
-        ensures later { AreLater task.now.instance.now self.old self.new }
+        requires ready { P.is_ready shared.now.prover.now }
+        requires searches { AreSearches shared.now.instance.now self.old }
+        ensures later { AreLater shared.now.instance.now self.old self.new }
         ensures ended { IfOk result (λ ended.
             IsTrue ended ↔ (IsTrue whole ⊎ (self.new.known.upper ≤ self.new.known.lower))) }
     {
         if whole {
             self.fund.release();
-            let most = self.most;
-            self.prove_upper(task, most)?;
+            let most = self.fund.most;
+            self.prove_upper(shared, most)?;
             return Ok(true);
         }
-        self.prove_with(task, budgets)?;
+        self.prove_with(shared, budgets)?;
         Ok(self.is_proved())
     }
 
     /// Raises the proved number with a budget: by 1, 2, 4 and so on, but by no more than half of the way to the least
     /// number whose search was over.
-    pub(crate) fn raise<P: Prover>(&mut self, task: &Task<P>, budget: u64) -> Result<(), AllocError>
-        requires ready { P.is_ready task.now.prover.now }
-        requires searches { AreSearches task.now.instance.now self.old }
-        ensures { AreLater task.now.instance.now self.old self.new }
+    pub(crate) fn raise<P: Prover>(
+        &mut self,
+        shared: &Shared<P>,
+        budget: u64,
+    ) -> Result<(), AllocError>
+        requires ready { P.is_ready shared.now.prover.now }
+        requires searches { AreSearches shared.now.instance.now self.old }
+        ensures { AreLater shared.now.instance.now self.old self.new }
     {
         let mut step = 1u64;
         let mut top = self.known.upper.saturating_add(1);
         'raised: while top.saturating_sub(self.known.lower) > 1 {
             let number = self.known.lower + step.min((top - self.known.lower) / 2);
-            if self.search(task, number, budget)? {
+            if self.search(shared, number, budget)? {
                 top = number;
             } else {
                 step = step.saturating_mul(2);

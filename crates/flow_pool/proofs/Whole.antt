@@ -9,6 +9,7 @@ use Rattle.std.proofs.lemmas.Simd.{map-map}
 use Rattle.std.proofs.lemmas.List.Elements.{All-same}
 use Rattle.std.proofs.lemmas.List.FromFn.{fill_by_all, length-map-range_with_len, get_or-map-range_with_len}
 use Rattle.std.proofs.lemmas.List.FromFn.{length-range_with_len, get_or-range_with_len}
+use Rattle.flow_shop.proofs.Lists.{some-of}
 use Rattle.flow_search.specs.declared.outcome.Outcome.{Outcome}
 use Rattle.flow_search.specs.Plans.{Planned}
 use Rattle.flow_search.specs.Outcomes.{IsLawful, AreLawful, IsDone}
@@ -47,10 +48,6 @@ by_worker-at {X} {Y} f g xs k e i d l =
     sym (get_or-map f xs i d (f d) l)
     ∙ (ap (λ ys. get_or ys i (f d)) e ∙ get_or-map-range_with_len g 0 k i i (f d) (omega arith) (omega arith))
 
-some_item : {X : Type 0} (xs : List X) → 0 < length xs → X
-some_item [] l = absurd (omega arith)
-some_item (x ∷ xs) l = x
-
 -- and the other way round
 by_worker-from_at : {X Y : Type 0} (f : X → Y) (g : ℕ → Y) (xs : List X) (k : ℕ) (e : Y) → length xs ≡ k →
     ((i : ℕ) (d : X) → i < length xs → f (get_or xs i d) ≡ g i) → map f xs ≡ by_worker k g
@@ -58,7 +55,7 @@ by_worker-from_at {X} {Y} f g xs k e long at =
     let left : length (map f xs) ≡ length xs = rw length-map refl in
     fill_by_all g (map f xs) k e (left ∙ long) (λ i l.
     let within : i < length xs = omega arith in
-    let d = some_item xs (omega arith) in
+    let d = some-of xs (omega arith) in
     get_or-map f xs i d e within ∙ at i d within)
 
 -- a worker's turns have as many answers as its share has prefixes
@@ -111,7 +108,7 @@ answered-in_order plan before hubs ends answers has served same_tasks same_answe
     let n = length answers in
     let numbers = answered-by_worker plan before hubs ends answers has served same_tasks in
     let long = by_worker-length (λ (e : WorkerEnds). answered (worker_answers e)) (share k n) ends k numbers in
-    let d = some_item ends (omega arith) in
+    let d = some-of ends (omega arith) in
     same_from_dealt (λ (a : Answer). a.number) k 0 answers (range_with_len 0 n) some (sym
     (length-range_with_len 0 n)) (λ worker l.
     let within : worker < length ends = omega arith in
@@ -128,7 +125,7 @@ All-IsLawfulAnswer plan before hubs ends answers has served same some =
     let k = plan.options.workers in
     let got : map worker_answers ends ≡ by_worker k (λ worker. dealt k worker answers) = same ∙ has.received in
     let long = by_worker-length worker_answers (λ worker. dealt k worker answers) ends k got in
-    let d = some_item ends (omega arith) in
+    let d = some-of ends (omega arith) in
     All-from_dealt (IsLawfulAnswer plan) k 0 answers some (λ worker l.
     let within : worker < length ends = omega arith in
     All-same (IsLawfulAnswer plan) _ _ (sym (by_worker-at worker_answers
@@ -162,7 +159,7 @@ pub AreLawful-outcomes : (plan : Planned) (answers : List Answer) (outcomes : Li
 AreLawful-outcomes plan answers outcomes few numbers lawful same i d l =
     let as_many : length (map (λ (a : Answer). a.outcome) answers) ≡ length answers = rw length-map refl in
     let within : i < length answers = omega (arith, ap length same) in
-    let da = some_item answers (omega arith) in
+    let da = some-of answers (omega arith) in
     let a = get_or answers i da in
     let number : a.number ≡ i = number-at answers numbers i da within in
     let outcome : get_or outcomes i d ≡ a.outcome = ap (λ os. get_or os i d) same

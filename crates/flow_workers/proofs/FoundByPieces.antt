@@ -2,10 +2,10 @@
 use Rattle.std.proofs.Common.{◌≡◌, ℕ, ◌+◌, ◌≤◌, List, [], ◌∷◌, ◌++◌, length, Some, None, ap, sym, ◌∙◌, arith}
 use Rattle.std.proofs.Common.{append-nil, length-append}
 use Rattle.std.specs.Global.{Vec}
-use Rattle.std.proofs.lemmas.List.Elements.{All-nil}
 use Rattle.flow_shop.specs.Shop.{Shop}
-use Rattle.flow_shop.specs.Sequences.{AreJobs, IsSequence}
+use Rattle.flow_shop.specs.Sequences.{IsSequence}
 use Rattle.flow_shop.specs.Paths.{span}
+use Rattle.flow_shop.proofs.SequenceLemmas.{no-jobs}
 use Rattle.flow_directions.specs.Search.{visits, first_below, directions_of, IsFound}
 use Rattle.flow_directions.specs.declared.found.Found.{Found}
 use Rattle.flow_directions.specs.declared.found.Found.TheVariants.{Proved, Below, Over}
@@ -14,10 +14,6 @@ use Rattle.flow_workers.specs.internal.Pieces.{behind, met, pieces_met}
 use Rattle.flow_workers.specs.internal.Found.{ReachedWithin}
 use Rattle.flow_workers.specs.declared.piece.Piece.{Piece}
 use Rattle.flow_workers.specs.declared.piece.Piece.TheVariants.{Reached}
-
--- no jobs are distinct jobs
-pub no-jobs : (n : ℕ) → AreJobs n []
-no-jobs n = record { range = All-nil (λ job. (1 ≤ job) × (job ≤ n)); distinct = tt }
 
 module _ (shop : Shop) (number budget : ℕ) (text : Vec ℕ) (pieces : List Piece) where
   -- where no piece is left

@@ -12,7 +12,7 @@ use Rattle.flow_shop.specs.declared.end.End.{End}
 use Rattle.flow_shop.specs.Directions.{first_with, last_with}
 use Rattle.std.specs.Global.{Vec}
 use Rattle.std.specs.List.{flat_map, remove}
-use Rattle.flow_workers.specs.internal.Units.{IsNodeOf}
+use Rattle.flow_workers.specs.internal.Taken.{IsNodeOf}
 use Rattle.flow_directions.specs.declared.found.Part.{Part}
 use Rattle.flow_directions.proofs.VisitSteps.{none-or-reached, signs-append, first_reached-append}
 use Rattle.flow_directions.proofs.VisitSteps.{signs-append-reached, first_reached-append-reached}
@@ -23,7 +23,7 @@ use Rattle.flow_workers.specs.declared.piece.Piece.TheVariants.{Done, Left, Reac
 use Rattle.flow_workers.specs.declared.piece.Dealt.{Dealt}
 use Rattle.flow_workers.specs.declared.piece.Dealt.TheVariants.{Searched}
 use Rattle.flow_workers.specs.declared.piece.Reply.{Reply}
-use Rattle.flow_workers.specs.internal.Answers.{HasPlace, StandsFor}
+use Rattle.flow_workers.specs.internal.Replies.{HasPlace, StandsFor}
 use Rattle.flow_workers.proofs.Behind.{pair, behind-nil, behind-assoc}
 
 -- what two lists of visits meet
@@ -125,32 +125,32 @@ module _ (shop : Shop) (number : ℕ) where
       ∙ ap (behind (dealt_met shop number x))
       (all-same xs ys (omega (arith, same)) (λ k d within. each (suc k) d (omega (arith, within))))
 
-  -- an answer in the place of its piece
-  pub answer-put : (first now : List Dealt) (answer : Reply) (one : Dealt) → one ≡ Searched answer.pieces →
-      length now ≡ length first → HasPlace first answer → StandsFor shop number first answer →
+  -- a reply in the place of its piece
+  pub reply-put : (first now : List Dealt) (reply : Reply) (one : Dealt) → one ≡ Searched reply.pieces →
+      length now ≡ length first → HasPlace first reply → StandsFor shop number first reply →
       ((k : ℕ) (d : Dealt) → k < length first → dealt_met shop number (slice_index_or now k d)
       ≡ dealt_met shop number (slice_index_or first k d)) →
       (k : ℕ) (d : Dealt) → k < length first →
-      dealt_met shop number (slice_index_or (slice_set now answer.place one) k d)
+      dealt_met shop number (slice_index_or (slice_set now reply.place one) k d)
       ≡ dealt_met shop number (slice_index_or first k d)
-  answer-put first now answer one is same place stands each k d within = elim (cases_lt k answer.place) [
+  reply-put first now reply one is same place stands each k d within = elim (cases_lt k reply.place) [
     | inl before ↦ apart (omega arith)
-    | inr not_before ↦ elim (cases_lt answer.place k) [
+    | inr not_before ↦ elim (cases_lt reply.place k) [
       | inl after ↦ apart (omega arith)
       | inr not_after ↦
-          let at : k ≡ answer.place = omega arith in
-          ap (λ i. dealt_met shop number (slice_index_or (slice_set now answer.place one) i d)) at
-          ∙ ap (dealt_met shop number) (get_or-set_same now answer.place one d (omega (arith, same, place)))
+          let at : k ≡ reply.place = omega arith in
+          ap (λ i. dealt_met shop number (slice_index_or (slice_set now reply.place one) i d)) at
+          ∙ ap (dealt_met shop number) (get_or-set_same now reply.place one d (omega (arith, same, place)))
           ∙ ap (dealt_met shop number) is ∙ stands d
           ∙ sym (ap (λ i. dealt_met shop number (slice_index_or first i d)) at)
     ]
   ]
     where
-      apart : k ≢ answer.place →
-          dealt_met shop number (slice_index_or (slice_set now answer.place one) k d)
+      apart : k ≢ reply.place →
+          dealt_met shop number (slice_index_or (slice_set now reply.place one) k d)
           ≡ dealt_met shop number (slice_index_or first k d)
       apart other =
-          ap (dealt_met shop number) (get_or-set_other now answer.place k one d other) ∙ each k d within
+          ap (dealt_met shop number) (get_or-set_other now reply.place k one d other) ∙ each k d within
 
   -- parts that are left
   pub parts-met : (parts : List Part) →
@@ -197,23 +197,23 @@ module _ (shop : Shop) (number : ℕ) where
       (Some jobs) (sym is.1) is.0.0
 
   -- a part that is the node of some lists
-  unit-visits : (first last : List ℕ) (part : Part) → IsNodeOf first last part →
+  node-visits : (first last : List ℕ) (part : Part) → IsNodeOf first last part →
       part_visits shop number part ≡ visits shop number first last
-  unit-visits first last (Node begin end) is =
+  node-visits first last (Node begin end) is =
       ap (λ xs. visits shop number xs end.items) is.0 ∙ ap (λ xs. visits shop number first xs) is.1
-  unit-visits first last (Children begin end side jobs) is = absurd is
+  node-visits first last (Children begin end side jobs) is = absurd is
 
   -- the first child of a part, and then the others
-  pub children-met : (end : End) (begin behind_list named others : Vec ℕ) (job : ℕ) (unit : Part) (rest : List Piece) →
-      IsNodeOf (first_with end begin.items job) (last_with end behind_list.items job) unit →
+  pub children-met : (end : End) (begin behind_list named others : Vec ℕ) (job : ℕ) (child : Part) (rest : List Piece) →
+      IsNodeOf (first_with end begin.items job) (last_with end behind_list.items job) child →
       named.items ≡ job ∷ others.items →
-      behind (met (part_visits shop number unit))
+      behind (met (part_visits shop number child))
       (pieces_met shop number (Left (Children begin behind_list end others) ∷ rest))
       ≡ pieces_met shop number (Left (Children begin behind_list end named) ∷ rest)
-  children-met end begin behind_list named others job unit rest is named_is =
+  children-met end begin behind_list named others job child rest is named_is =
       let f : ℕ → List Visit = child_visits shop number end begin.items behind_list.items in
       ap (λ v. behind (met v) (behind (met (flat_map f others.items)) (pieces_met shop number rest)))
-      (unit-visits (first_with end begin.items job) (last_with end behind_list.items job) unit is)
+      (node-visits (first_with end begin.items job) (last_with end behind_list.items job) child is)
       ∙ sym (behind-assoc (met (f job)) (met (flat_map f others.items)) (pieces_met shop number rest))
       ∙ ap (λ m. behind m (pieces_met shop number rest)) (sym (met-append (f job) (flat_map f others.items)))
       ∙ sym (ap (λ xs. behind (met (flat_map f xs)) (pieces_met shop number rest)) named_is)

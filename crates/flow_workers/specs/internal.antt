@@ -1,5 +1,5 @@
 pub mod Pieces
-pub mod Answers
-pub mod Units
+pub mod Replies
+pub mod Taken
 pub mod Found
 pub mod Paces

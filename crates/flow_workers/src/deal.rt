@@ -3,7 +3,7 @@
 ghost use Rattle.std.specs.Prelude.{◌≡◌, ◌++◌, [], Option, Some, None, IfOk};
 ghost use Rattle.flow_shop.specs.Directions.{first_with, last_with};
 ghost use Rattle.flow_workers.specs.internal.Pieces.{behind, dealt_met, all_met, piece_met, pieces_met};
-ghost use Rattle.flow_workers.specs.internal.Units.{IsNodeOf, unit_met};
+ghost use Rattle.flow_workers.specs.internal.Taken.{IsNodeOf, taken_met};
 
 use crate::pace::Pace;
 use crate::piece::{Dealt, Piece};
@@ -29,10 +29,10 @@ fn child(alloc: Global, first: &[u16], last: &[u16], end: End, job: u16) -> Resu
     })
 }
 
-/// Takes the first piece off, or the first child of it.
-fn take_unit(alloc: Global, pieces: &mut VecDeque<Piece>) -> Result<Option<Piece>, AllocError>
-    ensures { (shop : _) (number : _) → IfOk result (λ unit.
-        behind (unit_met shop number unit) (pieces_met shop number pieces.new.items)
+/// Takes the first piece off. Where it is children of a node, takes the first of them, and leaves the others.
+fn take_first(alloc: Global, pieces: &mut VecDeque<Piece>) -> Result<Option<Piece>, AllocError>
+    ensures { (shop : _) (number : _) → IfOk result (λ taken.
+        behind (taken_met shop number taken) (pieces_met shop number pieces.new.items)
         ≡ pieces_met shop number pieces.old.items) }
 {
     let Some(piece) = pieces.pop_front() else {
@@ -54,14 +54,14 @@ fn take_unit(alloc: Global, pieces: &mut VecDeque<Piece>) -> Result<Option<Piece
     }
     let mut jobs = jobs;
     let job = jobs.remove(0);
-    let unit = child(alloc, first.as_slice(), last.as_slice(), end, job)?;
+    let node = child(alloc, first.as_slice(), last.as_slice(), end, job)?;
     pieces.push_front(Piece::Left(Part::Children {
         first,
         last,
         end,
         jobs,
     }))?;
-    Ok(Some(Piece::Left(unit)))
+    Ok(Some(Piece::Left(node)))
 }
 
 /// Takes the first pieces off, as far as the pace goes: it counts the nodes, and the directions that are known to come
@@ -78,18 +78,18 @@ pub(crate) fn deal(
     let mut dealt = Vec::new(alloc);
     let mut nodes: usize = 0;
     let mut known: u64 = 0;
-    'units: for _ in 0..usize::MAX {
+    'taken: for _ in 0..usize::MAX {
         if nodes >= pace.nodes || known >= pace.whole {
             break;
         }
-        let Some(unit) = take_unit(alloc, pieces)? else {
+        let Some(piece) = take_first(alloc, pieces)? else {
             break;
         };
-        match &unit {
+        match &piece {
             Piece::Done(directions) => known = known.saturating_add(directions.len() as u64),
             _ => nodes = nodes.saturating_add(1),
         }
-        dealt.push(Dealt::Open(unit))?;
+        dealt.push(Dealt::Open(piece))?;
     }
     Ok(dealt)
 }

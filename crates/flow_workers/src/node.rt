@@ -1,6 +1,6 @@
 //! The search of one node.
 
-ghost use Rattle.std.specs.Prelude.{◌≡◌, ◌≤◌, ◌⊎◌, [], ◌∷◌, All, map, IfOk};
+ghost use Rattle.std.specs.Prelude.{◌≡◌, ◌≤◌, ◌⊎◌, true, [], ◌∷◌, All, length, map, IfOk};
 ghost use Rattle.flow_directions.specs.Search.{visits};
 ghost use Rattle.flow_workers.specs.internal.Pieces.{IsSearched, has_reached, met, pieces_met, written};
 ghost use Rattle.flow_workers.specs.declared.piece.Piece.TheVariants.{Left};
@@ -11,9 +11,9 @@ use flow_shop::Instance;
 use std::alloc::{AllocError, Global};
 use std::collections::VecDeque;
 
-/// What is searched: an instance, for sequences below a number.
+/// What is sought: the sequences of an instance below a number.
 #[derive(Clone, Copy)]
-pub(crate) struct Aim<'a> {
+pub(crate) struct Sought<'a> {
     pub(crate) alloc: Global,
     pub(crate) instance: &'a Instance,
     pub(crate) number: u64,
@@ -21,7 +21,7 @@ pub(crate) struct Aim<'a> {
 
 /// What the search of a node came to.
 #[derive(Drop)]
-pub(crate) struct Searched {
+pub(crate) struct NodeSearch {
     /// What stands for the node.
     pub(crate) pieces: VecDeque<Piece>,
     /// How many directions were written.
@@ -43,7 +43,7 @@ fn pieces_of(alloc: Global, parts: Vec<Part>) -> Result<VecDeque<Piece>, AllocEr
 }
 
 /// A piece that was searched, with the parts that are left behind it.
-fn with_left(alloc: Global, piece: Piece, parts: Vec<Part>) -> Result<Searched, AllocError>
+fn with_left(alloc: Global, piece: Piece, parts: Vec<Part>) -> Result<NodeSearch, AllocError>
     ensures pieces { IfOk result (λ found. found.pieces.items ≡ piece ∷ map Left parts.items) }
     ensures written { IfOk result (λ found. found.written ≡ written found.pieces.items) }
     ensures reached { IfOk result (λ found. found.reached ≡ has_reached found.pieces.items) }
@@ -52,30 +52,39 @@ fn with_left(alloc: Global, piece: Piece, parts: Vec<Part>) -> Result<Searched, 
     let reached = piece.has_reached();
     let mut pieces = pieces_of(alloc, parts)?;
     pieces.push_front(piece)?;
-    Ok(Searched {
+    Ok(NodeSearch {
         pieces,
         written,
         reached,
     })
 }
 
-/// Searches the node of two lists with a budget of directions, until they are written or nothing is left.
+/// Searches the node of two lists, until as many directions are written as the budget, or nothing of the node is left
+/// to be searched. Where a sequence below the number is reached, no piece is kept behind it.
 pub(crate) fn search_node(
-    aim: &Aim,
+    sought: &Sought,
     first: &[u16],
     last: &[u16],
     budget: u64,
-) -> Result<Searched, AllocError>
-    ensures met { IfOk result (λ found. pieces_met aim.now.instance.now aim.now.number found.pieces.items
-        ≡ met (visits aim.now.instance.now aim.now.number first.now last.now)) }
+) -> Result<NodeSearch, AllocError>
+    ensures met { IfOk result (λ found. pieces_met sought.now.instance.now sought.now.number found.pieces.items
+        ≡ met (visits sought.now.instance.now sought.now.number first.now last.now)) }
     ensures written { IfOk result (λ found. found.written ≡ written found.pieces.items) }
     ensures reached { IfOk result (λ found. found.reached ≡ has_reached found.pieces.items) }
     ensures within { IfOk result (λ found. found.written ≤ budget) }
     ensures goes_on { IfOk result (λ found. (found.written ≡ budget) ⊎ All IsSearched found.pieces.items) }
+    ensures alone { IfOk result (λ found. found.reached ≡ true → length found.pieces.items ≡ 1) }
 {
-    let none = Vec::new(aim.alloc);
-    match advance(aim.alloc, aim.instance, first, last, aim.number, budget) {
-        Ok(Advanced::Proved(directions)) => with_left(aim.alloc, Piece::Done(directions), none),
+    let none = Vec::new(sought.alloc);
+    match advance(
+        sought.alloc,
+        sought.instance,
+        first,
+        last,
+        sought.number,
+        budget,
+    ) {
+        Ok(Advanced::Proved(directions)) => with_left(sought.alloc, Piece::Done(directions), none),
         Ok(
             Advanced::Below {
                 sequence,
@@ -87,10 +96,10 @@ pub(crate) fn search_node(
                 sequence,
                 directions,
             };
-            with_left(aim.alloc, piece, none)
+            with_left(sought.alloc, piece, none)
         }
         Ok(Advanced::Rest { directions, parts }) => {
-            with_left(aim.alloc, Piece::Done(directions), parts)
+            with_left(sought.alloc, Piece::Done(directions), parts)
         }
         // The lists of a part are those of a node, so a fault is that memory ran out.
         Err(_) => Err(AllocError),

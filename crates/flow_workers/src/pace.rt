@@ -1,7 +1,8 @@
 //! How much is searched in a round.
 
-ghost use Rattle.std.specs.Prelude.{◌≡◌, ◌≤◌, ◌<◌, ◌*◌};
-ghost use Rattle.flow_workers.specs.internal.Paces.{GoesOn, left_of, bytes_of_piece, most_bytes};
+ghost use Rattle.std.specs.Prelude.{◌≡◌, ◌≤◌, ◌<◌, ◌*◌, max};
+ghost use Rattle.flow_workers.specs.internal.Paces.{GoesOn, IsShared, left_of, bytes_of_piece, most_bytes};
+ghost use Rattle.flow_workers.specs.internal.Paces.{first_alone, nodes_of};
 
 /// One worker searches alone until the directions so far, times the jobs, are at least this: threads would cost more
 /// than they save.
@@ -44,7 +45,10 @@ impl Pace {
         ensures goes_on { GoesOn result }
         ensures left { result.left ≡ left_of budget written }
         ensures within { result.whole ≤ result.left }
+        ensures early { written < first_alone jobs → (result.workers ≡ 1) × (result.nodes ≡ 1) }
         ensures few { most_bytes < pieces * bytes_of_piece jobs → (result.workers ≡ 1) × (result.nodes ≡ 1) }
+        ensures workers { IsShared jobs pieces written → result.workers ≡ max workers 1 }
+        ensures nodes { IsShared jobs pieces written → result.nodes ≡ nodes_of result.workers result.whole }
     {
         let left = budget.saturating_sub(written).saturating_add(1);
         let first = (ALONE / u64::from(jobs.max(1))).max(LEAST_OF_NODE);

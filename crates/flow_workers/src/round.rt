@@ -4,11 +4,11 @@
 ghost use Rattle.std.specs.Prelude.{◌≡◌, ◌<◌, All, length, IfOk, IfSome};
 ghost use denote.Param.Send.{IsSync};
 ghost use Rattle.flow_workers.specs.internal.Pieces.{all_met, pieces_met};
-ghost use Rattle.flow_workers.specs.internal.Answers.{HasPlace, StandsFor};
+ghost use Rattle.flow_workers.specs.internal.Replies.{HasPlace, StandsFor};
 ghost use Rattle.flow_workers.specs.declared.piece.Dealt.TheVariants.{Searched};
 
 use crate::deal::{deal, put_back};
-use crate::node::{Aim, search_node};
+use crate::node::{Sought, search_node};
 use crate::pace::Pace;
 use crate::piece::{Dealt, Piece, Reply};
 use flow_directions::Part;
@@ -21,7 +21,7 @@ use std::thread::Threads;
 /// What all workers of a round share.
 #[derive(Drop)]
 struct Round<'a> {
-    aim: &'a Aim<'a>,
+    sought: &'a Sought<'a>,
     dealt: &'a [Dealt],
     pace: Pace,
     /// The place of the piece that is taken next.
@@ -56,90 +56,90 @@ impl<'a> Round<'a> {
 
     /// Takes one piece after the other, and searches those that are nodes.
     fn work(&self) -> Result<Vec<Reply>, AllocError>
-        ensures places { IfOk result (λ answers. All (HasPlace self.now.dealt.now) answers.items) }
-        ensures stand { IfOk result (λ answers. All
-            (StandsFor self.now.aim.now.instance.now self.now.aim.now.number self.now.dealt.now) answers.items) }
+        ensures places { IfOk result (λ replies. All (HasPlace self.now.dealt.now) replies.items) }
+        ensures stand { IfOk result (λ replies. All
+            (StandsFor self.now.sought.now.instance.now self.now.sought.now.number self.now.dealt.now) replies.items) }
     {
-        let mut answers = Vec::new(self.aim.alloc);
+        let mut replies = Vec::new(self.sought.alloc);
         'taken: for _ in 0..self.dealt.len() {
             let Some(place) = self.take() else {
                 break;
             };
             if let Dealt::Open(Piece::Left(Part::Node { first, last })) = &self.dealt[place] {
                 let grant = self.pace.grant(self.written.load(Ordering::SeqCst));
-                let found = search_node(self.aim, first.as_slice(), last.as_slice(), grant)?;
+                let found = search_node(self.sought, first.as_slice(), last.as_slice(), grant)?;
                 self.count(found.written, found.reached);
-                answers.push(Reply {
+                replies.push(Reply {
                     place,
                     pieces: found.pieces,
                 })?;
             }
         }
-        Ok(answers)
+        Ok(replies)
     }
 }
 
 /// What all workers find for pieces that were dealt.
 fn search_dealt<R: Threads + Sync>(
     rt: &R,
-    aim: &Aim,
+    sought: &Sought,
     dealt: &[Dealt],
     pace: Pace,
 ) -> Result<Vec<Reply>, AllocError>
-    ensures places { IfOk result (λ answers. All (HasPlace dealt.now) answers.items) }
-    ensures stand { IfOk result (λ answers. All
-        (StandsFor aim.now.instance.now aim.now.number dealt.now) answers.items) }
+    ensures places { IfOk result (λ replies. All (HasPlace dealt.now) replies.items) }
+    ensures stand { IfOk result (λ replies. All
+        (StandsFor sought.now.instance.now sought.now.number dealt.now) replies.items) }
 {
     let round = Round {
-        aim,
+        sought,
         dealt,
         pace,
         next: AtomicUsize::new(0),
         written: AtomicU64::new(0),
     };
     let workers = pace.workers.min(dealt.len());
-    let mut lists = thread::map_indices(rt, aim.alloc, workers, &|_| round.work())?;
-    let mut answers = Vec::new(aim.alloc);
+    let mut lists = thread::map_indices(rt, sought.alloc, workers, &|_| round.work())?;
+    let mut replies = Vec::new(sought.alloc);
     'lists: while let Some(list) = lists.pop() {
         let mut list = list?;
-        answers.append(&mut list)?;
+        replies.append(&mut list)?;
     }
-    Ok(answers)
+    Ok(replies)
 }
 
 /// Puts what was found in the place of a piece.
-fn put_answer(one: &mut Dealt, pieces: VecDeque<Piece>)
+fn put_reply(one: &mut Dealt, pieces: VecDeque<Piece>)
     ensures { one.new ≡ Searched pieces }
 {
     *one = Dealt::Searched(pieces);
 }
 
-/// Puts each answer in the place of its piece.
-fn put_answers(dealt: &mut [Dealt], answers: Vec<Reply>)
-    requires { All (HasPlace dealt.old) answers.items }
+/// Puts each reply in the place of its piece.
+fn put_replies(dealt: &mut [Dealt], replies: Vec<Reply>)
+    requires { All (HasPlace dealt.old) replies.items }
     ensures len { length dealt.new ≡ length dealt.old }
-    ensures met { (shop : _) (number : _) → All (StandsFor shop number dealt.old) answers.items →
+    ensures met { (shop : _) (number : _) → All (StandsFor shop number dealt.old) replies.items →
         all_met shop number dealt.new ≡ all_met shop number dealt.old }
 {
-    let mut answers = answers;
-    'answers: while let Some(answer) = answers.pop() {
-        put_answer(&mut dealt[answer.place], answer.pieces);
+    let mut replies = replies;
+    'replies: while let Some(reply) = replies.pop() {
+        put_reply(&mut dealt[reply.place], reply.pieces);
     }
 }
 
 /// Searches the first pieces at a pace. What the pieces stand for stays the same.
 pub(crate) fn search_round<R: Threads + Sync>(
     rt: &R,
-    aim: &Aim,
+    sought: &Sought,
     pieces: &mut VecDeque<Piece>,
     pace: Pace,
 ) -> Result<(), AllocError>
-    ensures { IfOk result (λ _. pieces_met aim.now.instance.now aim.now.number pieces.new.items
-        ≡ pieces_met aim.now.instance.now aim.now.number pieces.old.items) }
+    ensures { IfOk result (λ _. pieces_met sought.now.instance.now sought.now.number pieces.new.items
+        ≡ pieces_met sought.now.instance.now sought.now.number pieces.old.items) }
 {
-    let mut dealt = deal(aim.alloc, pieces, &pace)?;
-    let answers = search_dealt(rt, aim, dealt.as_slice(), pace)?;
-    put_answers(dealt.as_mut_slice(), answers);
+    let mut dealt = deal(sought.alloc, pieces, &pace)?;
+    let replies = search_dealt(rt, sought, dealt.as_slice(), pace)?;
+    put_replies(dealt.as_mut_slice(), replies);
     put_back(pieces, dealt)?;
     Ok(())
 }

@@ -8,7 +8,7 @@ ghost use Rattle.flow_directions.specs.Search.{IsFound, Shows};
 ghost use Rattle.flow_workers.specs.internal.Pieces.{IsSettled, behind, pieces_met};
 ghost use Rattle.flow_workers.specs.internal.Found.{ReachedWithin};
 
-use crate::node::Aim;
+use crate::node::Sought;
 use crate::pace::Pace;
 use crate::piece::Piece;
 use crate::round::search_round;
@@ -67,7 +67,7 @@ pub fn prove_by<R: Threads + Sync, W: Watch>(
     ensures found { IfOk result (λ found. IsFound instance.now number budget [] [] found) }
     ensures shown { IfOk result (λ found. Shows instance.now number [] [] found) }
 {
-    let aim = Aim {
+    let sought = Sought {
         alloc,
         instance,
         number,
@@ -106,7 +106,7 @@ pub fn prove_by<R: Threads + Sync, W: Watch>(
             written,
             budget,
         );
-        search_round(workers.rt, &aim, &mut pieces, pace)?;
+        search_round(workers.rt, &sought, &mut pieces, pace)?;
     }
     Err(AllocError)
 }

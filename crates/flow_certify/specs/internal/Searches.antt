@@ -16,12 +16,12 @@ pub record IsCertified (shop : Shop) (most : ℕ) (known : Certified) : Type 0 w
 
 -- what searches found holds for the shop: the makespan of their sequence, and the number that their directions prove
 abbrev pub AreSearches : Shop → Searches → Type 0
-AreSearches shop searches = IsCertified shop searches.most searches.known
+AreSearches shop searches = IsCertified shop searches.fund.most searches.known
 
 -- after a step what searches found still holds, their sequence is no worse, and no smaller number is proved
 pub record AreLater (shop : Shop) (before after : Searches) : Type 0 where
   pub searches : AreSearches shop after
-  pub most : after.most ≡ before.most
+  pub most : after.fund.most ≡ before.fund.most
   pub upper : after.known.upper ≤ before.known.upper
   pub lower : before.known.lower ≤ after.known.lower
 

@@ -1,5 +1,5 @@
 -- How much is searched in a round.
-use Rattle.std.specs.Prelude.{ℕ, ◌+◌, ◌-◌, ◌*◌, ◌^◌, ◌≤◌, min}
+use Rattle.std.specs.Prelude.{ℕ, ◌+◌, ◌-◌, ◌*◌, ◌/◌, ◌^◌, ◌≤◌, min, max}
 use Rattle.flow_workers.specs.declared.pace.Pace.{Pace}
 
 -- a round of this pace may deal at least one node, and give it at least one direction
@@ -17,3 +17,15 @@ bytes_of_piece jobs = 150 + 2 * jobs
 -- the most bytes of pieces with which many nodes are dealt in a round
 abbrev pub most_bytes : ℕ
 most_bytes = 100000000
+
+-- until there are so many directions, one worker searches one node alone, where there are so many jobs
+abbrev pub first_alone : ℕ → ℕ
+first_alone jobs = max (240000 / max jobs 1) 500
+
+-- all workers share a round: there are as many directions, and no more bytes of pieces than `most_bytes`
+abbrev pub IsShared : ℕ → ℕ → ℕ → Type 0
+IsShared jobs pieces written = (first_alone jobs ≤ written) × (pieces * bytes_of_piece jobs ≤ most_bytes)
+
+-- how many nodes are dealt to so many workers, in a round of so many directions
+abbrev pub nodes_of : ℕ → ℕ → ℕ
+nodes_of workers whole = min (whole / 100 + workers * 8) (2 ^ 64 - 1)

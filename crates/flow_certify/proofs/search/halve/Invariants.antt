@@ -3,7 +3,7 @@ use Rattle.flow_certify.specs.internal.Searches.{AreLater}
 use Rattle.flow_certify.proofs.search.halve.Given as goal
 
 abbrev pub invariant-halved : goal.invariant-halved
-invariant-halved g l = AreLater l.task.instance.now l.initial.searches l.searches
+invariant-halved g l = AreLater l.shared.instance.now l.initial.searches l.searches
 
 -- each beam is aimed between them, and moves one of them to or past its number
 abbrev pub decreases-halved : goal.decreases-halved

@@ -2,7 +2,8 @@ use Rattle.std.proofs.Common.{[], length, refl, ap, rules, arith, ◌∙◌}
 use Rattle.flow_pool.specs.declared.lane_ends.HubEnds.{HubEnds}
 use Rattle.flow_pool.specs.Deal.{dealt}
 use Rattle.flow_pool.specs.internal.HubSteps.{asked}
-use Rattle.flow_pool.proofs.Asked.{map-by_worker, dealt-nil, asked-none, pushed_at-asked}
+use Rattle.flow_pool.proofs.Asked.{map-by_worker, asked-none, pushed_at-asked}
+use Rattle.flow_pool.proofs.Undeal.{dealt_from-nil}
 use Rattle.flow_pool.proofs.hub.send_prefixes.Goals as goal
 
 pub asking-init : goal.asking-init
@@ -15,7 +16,7 @@ asking-init g c =
           (asked-none k);
       taken = record {
         dealt = rw c.requires.empty (map-by_worker (λ (h : HubEnds). h.answers.received) (λ worker. dealt k worker [])
-            hubs (λ i d l. (c.requires.fresh i d l).1) (dealt-nil k));
+            hubs (λ i d l. (c.requires.fresh i d l).1) (λ worker. dealt_from-nil k worker 0));
         few = omega (arith, c.args.answers.now.ok.0, ap length c.requires.empty);
         room = search rules;
       };

@@ -4,7 +4,7 @@ use Rattle.flow_workers.specs.internal.Pieces.{behind, all_met, pieces_met}
 use Rattle.flow_workers.proofs.deal.deal.Given as goal
 
 -- what was dealt so far, and the pieces that are left
-abbrev pub invariant-units : goal.invariant-units
-invariant-units l = (shop : Shop) (number : ℕ) →
+abbrev pub invariant-taken : goal.invariant-taken
+invariant-taken l = (shop : Shop) (number : ℕ) →
     behind (all_met shop number l.dealt.items) (pieces_met shop number l.pieces.items)
     ≡ pieces_met shop number l.fn.pieces.items

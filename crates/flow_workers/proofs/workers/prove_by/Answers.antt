@@ -1,7 +1,8 @@
 use Rattle.std.proofs.Common.{rules, ◌≡◌, ◌+◌, ◌∷◌, [], ap, ◌∙◌, arith}
+use Rattle.flow_shop.proofs.SequenceLemmas.{no-jobs}
 use Rattle.flow_directions.specs.declared.found.Found.TheVariants.{Proved}
 use Rattle.flow_directions.proofs.FoundSteps.{found-shows}
-use Rattle.flow_workers.proofs.FoundByPieces.{no-jobs, none-left, is-reached, found-reached}
+use Rattle.flow_workers.proofs.FoundByPieces.{none-left, is-reached, found-reached}
 use Rattle.flow_workers.proofs.workers.prove_by.Goals as goal
 
 pub returns-in-None-clause-shown : goal.returns-in-None-clause-shown

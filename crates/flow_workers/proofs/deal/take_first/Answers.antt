@@ -2,10 +2,10 @@ use Rattle.std.proofs.Common.{◌∷◌, ap, sym, ◌∙◌, subst, arith}
 use Rattle.flow_shop.specs.Directions.{first_with, last_with}
 use Rattle.flow_directions.specs.Search.{part_visits}
 use Rattle.flow_workers.specs.internal.Pieces.{behind, met, pieces_met}
-use Rattle.flow_workers.specs.internal.Units.{IsNodeOf}
+use Rattle.flow_workers.specs.internal.Taken.{IsNodeOf}
 use Rattle.flow_workers.specs.declared.piece.Piece.TheVariants.{Left}
 use Rattle.flow_workers.proofs.PieceSteps.{children-met, first-and-others}
-use Rattle.flow_workers.proofs.deal.take_unit.Goals as goal
+use Rattle.flow_workers.proofs.deal.take_first.Goals as goal
 
 pub returns : goal.returns
 returns c shop number =
@@ -16,14 +16,14 @@ returns c shop number =
     let jobs = c.in-Left-Children.jobs in
     let others = c.remove-job.new.self in
     let job = c.remove-job.result in
-    let unit = c.in_ok-unit.unit in
-    let node = subst (λ xs. IsNodeOf (first_with end xs job) (last_with end last.items job) unit)
+    let node = c.in_ok-node.node in
+    let is = subst (λ xs. IsNodeOf (first_with end xs job) (last_with end last.items job) node)
     c.as_slice.ensures.value
-    (subst (λ xs. IsNodeOf (first_with end c.as_slice.result.now job) (last_with end xs job) unit)
-    c.as_slice-2.ensures.value c.in_ok-unit.ensures) in
-    ap (λ xs. behind (met (part_visits shop number unit)) (pieces_met shop number xs))
+    (subst (λ xs. IsNodeOf (first_with end c.as_slice.result.now job) (last_with end xs job) node)
+    c.as_slice-2.ensures.value c.in_ok-node.ensures) in
+    ap (λ xs. behind (met (part_visits shop number node)) (pieces_met shop number xs))
     c.in_ok-push_front.ensures.items
-    ∙ children-met shop number end first last jobs others job unit rest node
+    ∙ children-met shop number end first last jobs others job node rest is
     (first-and-others jobs.items others.items job (omega (arith, c.remove-job.ensures.len)) c.remove-job.ensures.value
     c.remove-job.ensures.items)
     ∙ sym (ap (pieces_met shop number) c.in-Some.ensures.items

@@ -5,12 +5,12 @@ use Rattle.flow_workers.specs.declared.piece.Reply.{Reply}
 use Rattle.flow_workers.specs.declared.piece.Dealt.{Dealt}
 use Rattle.flow_workers.specs.internal.Pieces.{dealt_met, pieces_met}
 
--- an answer is to a piece that was dealt
+-- a reply is to a piece that was dealt
 abbrev pub HasPlace : List Dealt → Reply → Type 0
-HasPlace dealt answer = answer.place < length dealt
+HasPlace dealt reply = reply.place < length dealt
 
 -- what was found stands for the piece at its place
 abbrev pub StandsFor : Shop → ℕ → List Dealt → Reply → Type 0
-StandsFor shop number dealt answer =
-    (d : Dealt) → pieces_met shop number answer.pieces.items
-    ≡ dealt_met shop number (slice_index_or dealt answer.place d)
+StandsFor shop number dealt reply =
+    (d : Dealt) → pieces_met shop number reply.pieces.items
+    ≡ dealt_met shop number (slice_index_or dealt reply.place d)

@@ -5,7 +5,7 @@ use std::alloc::Global;
 
 /// An instance, and who searches it for directions.
 #[derive(Clone, Copy)]
-pub(crate) struct Task<'a, P> {
+pub(crate) struct Shared<'a, P> {
     pub(crate) alloc: Global,
     pub(crate) instance: &'a Instance,
     pub(crate) prover: &'a P,

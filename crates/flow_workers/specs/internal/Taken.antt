@@ -1,4 +1,4 @@
--- Single pieces that are taken off.
+-- Pieces that are taken off.
 use Rattle.std.specs.Prelude.{ℕ, ◌≡◌, List, [], Option, Some, None}
 use Rattle.flow_shop.specs.Shop.{Shop}
 use Rattle.flow_directions.specs.declared.found.Part.{Part}
@@ -11,7 +11,7 @@ abbrev pub IsNodeOf : List ℕ → List ℕ → Part → Type 0
 IsNodeOf first last (Node begin end) = (begin.items ≡ first) × (end.items ≡ last)
 IsNodeOf first last (Children begin behind end jobs) = ⊥
 
--- what a piece stands for, where there is one
-abbrev pub unit_met : Shop → ℕ → Option Piece → Met
-unit_met shop number None = ([], None)
-unit_met shop number (Some piece) = piece_met shop number piece
+-- what a piece that is taken off stands for, where there is one
+abbrev pub taken_met : Shop → ℕ → Option Piece → Met
+taken_met shop number None = ([], None)
+taken_met shop number (Some piece) = piece_met shop number piece

@@ -1,0 +1,100 @@
+//! The budgets of the searches for a certificate: how many directions each may write, and all of them together.
+
+ghost use Rattle.std.specs.Prelude.{◌≡◌, ◌≤◌, min};
+ghost use Rattle.flow_certify.specs.Signs.{most_signs};
+
+use flow_nodes::fits_narrow_lanes;
+use flow_shop::Instance;
+
+/// The budgets of the searches from the start, and from the best of a narrow beam.
+pub(crate) const SMALL: [u64; 2] = [10_000, 100_000];
+
+/// The budgets of the searches from the best of the whole beam, and from the best of rounds.
+pub(crate) const MIDDLE: [u64; 3] = [10_000, 100_000, 1_000_000];
+
+/// The most directions that fit, with the other lines of a two-ended certificate, into the text that `check` reads.
+const MOST_SIGNS: u64 = 999_990_000;
+
+/// All searches together may write this many times the caller's limit of directions, divided by what a direction costs.
+const SHARE: u64 = 850;
+
+/// The part of a direction's cost that does not depend on the shop; each job adds 1 for each machine. Where 16 bits are
+/// too few for the makespan of the start, a direction costs twice as much.
+const FIXED: u64 = 450;
+
+/// How many directions the searches may write. There are fewer where each of them costs more.
+#[derive(Clone, Copy)]
+pub(crate) struct Fund {
+    /// The greatest budget of one search.
+    pub(crate) most: u64,
+    /// How many directions the next searches may write.
+    left: u64,
+    /// How many are kept for the last searches.
+    kept: u64,
+    /// What a search costs beside its directions, as so many of them. On the first way down, where most children are
+    /// below the number, looking ahead takes longer the more jobs are left.
+    entry: u64,
+}
+
+impl Fund {
+    /// What searches may write, where the caller's limit is `directions`, and `makespan` is that of the start. One
+    /// search may write as many as the limit, but no more than `check` reads, and than four fifths of what all may.
+    pub(crate) fn new(instance: &Instance, makespan: u64, directions: u32) -> Fund
+        ensures { result.most ≤ min directions most_signs }
+    {
+        let jobs = u64::from(instance.jobs());
+        let narrow = jobs * u64::from(instance.machines()) + FIXED;
+        let cost = if fits_narrow_lanes(makespan) {
+            narrow
+        } else {
+            narrow * 2
+        };
+        let all = u64::from(directions) * SHARE / cost;
+        Fund {
+            most: u64::from(directions).min(MOST_SIGNS).min(all - all / 5),
+            left: all - all / 2,
+            kept: all / 2,
+            entry: jobs * jobs / 3,
+        }
+    }
+
+    /// A large budget: a tenth of the greatest one.
+    pub(crate) fn large(self) -> u64 {
+        self.most / 10
+    }
+
+    /// The first budget with which the proved number is raised.
+    pub(crate) fn first_raise(self) -> u64 {
+        SMALL[0].min(self.large())
+    }
+
+    /// The second one: a thirtieth of the greatest.
+    pub(crate) fn second_raise(self) -> u64 {
+        self.most / 30
+    }
+
+    /// How many directions a search with a budget may write: no more than the greatest budget, and than are left.
+    pub(crate) fn granted(self, budget: u64) -> u64
+        ensures { result ≡ min (min budget self.most) self.left }
+    {
+        budget.min(self.most).min(self.left)
+    }
+
+    /// Takes off what a search cost that wrote so many directions.
+    pub(crate) fn spend(&mut self, directions: u64)
+        ensures { self.new.most ≡ self.old.most }
+    {
+        if directions > 0 {
+            let cost = directions.saturating_add(self.entry);
+            self.left = self.left.saturating_sub(cost);
+        }
+    }
+
+    /// Gives what is kept to the next searches.
+    pub(crate) fn release(&mut self)
+        ensures { self.new.most ≡ self.old.most }
+    {
+        self.left = self.left.saturating_add(self.kept);
+        self.kept = 0;
+    }
+}

@@ -1,7 +1,0 @@
-use Rattle.flow_workers.proofs.PieceSteps.{all-same}
-use Rattle.flow_workers.proofs.round.put_answers.Goals as goal
-
-pub returns-clause-met : goal.returns-clause-met
-returns-clause-met c shop number stand =
-    all-same shop number c.args.dealt.now c.answers.dealt c.answers.invariant.0
-    (c.answers.invariant.2 shop number stand).1

@@ -1,0 +1,18 @@
+use Rattle.std.proofs.Common.{◌≡◌, ℕ, ◌<◌, All, length, slice_index_or}
+use Rattle.flow_shop.specs.Shop.{Shop}
+use Rattle.flow_workers.specs.internal.Replies.{HasPlace, StandsFor}
+use Rattle.flow_workers.specs.internal.Pieces.{dealt_met}
+use Rattle.flow_workers.specs.declared.piece.Dealt.{Dealt}
+use Rattle.flow_workers.proofs.round.put_replies.Given as goal
+
+-- each piece stands for the same as at first
+abbrev pub invariant-replies : goal.invariant-replies
+invariant-replies l =
+    (length l.dealt ≡ length l.fn.dealt) × All (HasPlace l.fn.dealt) l.replies.items
+    × ((shop : Shop) (number : ℕ) → All (StandsFor shop number l.fn.dealt) l.fn.replies.items →
+    All (StandsFor shop number l.fn.dealt) l.replies.items
+    × ((k : ℕ) (d : Dealt) → k < length l.fn.dealt →
+    dealt_met shop number (slice_index_or l.dealt k d) ≡ dealt_met shop number (slice_index_or l.fn.dealt k d)))
+
+abbrev pub decreases-replies : goal.decreases-replies
+decreases-replies l = length l.replies.items
