@@ -16,8 +16,7 @@ ghost use Rattle.flow_commands.specs.internal.Reading.{SecondCame, SecondStops, 
 
 use crate::block::{PickedBlock, block_at};
 use crate::fault::CommandFault;
-use flow_core::{MAX_CERTIFICATE, MAX_TEXT, ReadFault, Source, read_all};
-use flow_text::read_by_begin;
+use flow_core::{MAX_CERTIFICATE, MAX_TEXT, ReadFault, Source, read_all, read_by_begin};
 use std::alloc::Global;
 
 /// What a file is read as: it says how many bytes the file may have.

@@ -24,6 +24,6 @@ pub use flow_shop::{
 pub use flow_text::{
     Block, Claim, MemorySink, MemorySource, Pick, PickFault, ReadFault, Refused, Sink, Source,
     Start, StartFault, StdSink, StdSource, TextFault, WriteFault, block_text, each_index_is_judged,
-    each_start_is_judged, pick_block, put_all, read_all, read_blocks, read_start,
+    each_start_is_judged, pick_block, put_all, read_all, read_blocks, read_by_begin, read_start,
     texts_have_no_fault,
 };

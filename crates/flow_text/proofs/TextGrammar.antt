@@ -1,7 +1,7 @@
 -- What the walk over the lines accepts is in the grammar.
 use Rattle.std.proofs.Common.{◌≡◌, ◌∙◌, ap, subst, ◌<◌, ◌≤◌, ◌+◌, ◌*◌, ℕ, Bool, true, false, not, cond, eqb, nat_lt}
 use Rattle.std.proofs.Common.{List, Ok, Err, ◌++◌, ◌∷◌, [], length, flat_map}
-use Rattle.std.proofs.Common.{arith, refl, sym, append_assoc, append-nil, inl, inr, ◌⊎◌, ◌&&◌}
+use Rattle.std.proofs.Common.{arith, refl, sym, append_assoc, append-nil, inl, inr, ◌⊎◌}
 use Rattle.std.specs.List.{list_all, AllByRecursion}
 use Rattle.std.proofs.lemmas.List.Folds.{list_all-append}
 use Rattle.std.proofs.lemmas.Bool.Decides.{nat_tests}
@@ -10,6 +10,7 @@ use Rattle.flow_text.specs.Lines.{is_number_line}
 use Rattle.flow_text.specs.declared.text.block.Block.{Block}
 use Rattle.flow_text.specs.TextFaults.{is_head}
 use Rattle.flow_limits.specs.Limits.{greatest_time}
+use Rattle.flow_shop.proofs.Bools.{both-true}
 use Rattle.std.proofs.lemmas.List.Elements.{All-from_recursion}
 use Rattle.flow_text.specs.internal.TextWalk.{◌>>=◌, walk}
 use Rattle.flow_text.specs.internal.TextState.{SizesFit, Keeps, State, Sizes, sizes_of, start}
@@ -132,15 +133,10 @@ sizes-fit (a ∷ b ∷ c ∷ d ∷ e ∷ []) h s w = record {
 }
 sizes-fit (a ∷ b ∷ c ∷ d ∷ e ∷ f ∷ ns) h s w = absurd (omega arith)
 
-pub and_true : (p q : Bool) → (p && q) ≡ true → (p ≡ true) × (q ≡ true)
-and_true true true e = (refl, refl)
-and_true true false e = cc
-and_true false q e = cc
-
 all-times : (ts : List ℕ) → list_all is_time ts ≡ true → AllByRecursion (λ t. t ≤ greatest_time) ts
 all-times [] h = tt
 all-times (t ∷ ts) h =
-    let both = and_true (is_time t) (list_all is_time ts) h in
+    let both = both-true (is_time t) (list_all is_time ts) h in
     let first : is_time t ≡ true = both.0 in
     (grind (arith, nat_tests), all-times ts both.1)
 

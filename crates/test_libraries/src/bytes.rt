@@ -5,7 +5,7 @@ ghost use Rattle.std.specs.Prelude.{◌≡◌, None, false};
 use crate::instances::TWO_MACHINES_TEXT;
 use flow_core::{
     MemorySink, MemorySource, ReadFault, Refused, Sink, Source, StdSink, StdSource, WriteFault,
-    put_all, read_all,
+    put_all, read_all, read_by_begin,
 };
 use std::alloc::{AllocError, Global};
 use std::io::{self, ErrorKind, Read, Write};
@@ -49,26 +49,43 @@ fn reads<S: Source>(
     }
 }
 
-/// The limit, how many of the bytes a source gives before it refuses, and what is read of five bytes in pieces of two.
-type Listed = (usize, Option<usize>, Result<&'static [u8], ReadFault>);
+/// With which bytes there may be more, the limit without them, the limit with them, how many of the bytes a source gives
+/// before it refuses, and what is read of five bytes in pieces of two.
+type Listed = (
+    &'static [u8],
+    usize,
+    usize,
+    Option<usize>,
+    Result<&'static [u8], ReadFault>,
+);
 
-static READ: [Listed; 3] = [
-    (5, None, Ok(b"abcde")),
-    (4, None, Err(ReadFault::TooLong)),
-    (5, Some(3), Err(ReadFault::Device)),
+static READ: [Listed; 6] = [
+    (b"", 5, 5, None, Ok(b"abcde")),
+    (b"", 4, 4, None, Err(ReadFault::TooLong)),
+    (b"", 5, 5, Some(3), Err(ReadFault::Device)),
+    (b"abc", 3, 5, None, Ok(b"abcde")),
+    (b"abd", 3, 5, None, Err(ReadFault::TooLong)),
+    (b"abc", 2, 4, None, Err(ReadFault::TooLong)),
 ];
 
-/// Whether five bytes are read so.
+/// Whether five bytes are read so, by `read_all` too where both limits are one.
 fn reads_five(alloc: Global, row: &Listed) -> bool {
-    let (limit, most, answer) = *row;
+    let (begin, limit, long, most, answer) = *row;
     let mut source = MemorySource::new(b"abcde", 2, most);
-    !source.failed()
-        && reads(alloc, &mut source, limit, answer)
+    let was_failed = source.failed();
+    let found = match read_by_begin(alloc, &mut source, begin, limit, long.max(limit)) {
+        Ok(bytes) => answer == Ok(bytes.as_slice()),
+        Err(fault) => answer == Err(fault),
+    };
+    let mut other = MemorySource::new(b"abcde", 2, most);
+    !was_failed
+        && found
         && source.failed() == most.is_some()
+        && (limit != long || reads(alloc, &mut other, limit, answer))
 }
 
 #[test]
-fn read_all_reads_to_the_end_or_names_its_fault(rt: HostRuntime) {
+fn bytes_are_read_to_the_end_or_up_to_the_limit(rt: HostRuntime) {
     for (number, row) in READ.iter().enumerate() {
         assert!(rt; reads_five(rt.alloc(), row), "row {number}");
     }
