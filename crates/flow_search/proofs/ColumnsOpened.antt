@@ -7,13 +7,13 @@ use Rattle.std.proofs.lemmas.List.{get_or-set_other, get_or-set_same}
 use Rattle.flow_shop.specs.Shop.{Shop, time}
 use Rattle.flow_shop.specs.Paths.{completion}
 use Rattle.flow_shop.specs.Sequences.{has, jobs_left}
+use Rattle.flow_shop.specs.Bound.{Bound}
 use Rattle.flow_shop.proofs.JobsLeft.{bool_cases}
 use Rattle.flow_search.specs.declared.eight.group.TheConstants.{GONE}
 use Rattle.flow_search.specs.declared.eight.group.MachineRow.{MachineRow}
 use Rattle.flow_search.specs.declared.eight.group.Group.{Group}
 use Rattle.flow_search.specs.declared.eight.group.ColumnFrame.{ColumnFrame}
 use Rattle.flow_search.specs.internal.Columns.{IsColumnLeft, IsFrameOf, IsOpened, IsTested, job_of, child, columns_of}
-use Rattle.flow_search.specs.Search.{Bound}
 use Rattle.flow_search.proofs.Increasing.{without-one, places-gone, size-filter}
 use Rattle.flow_shop.proofs.Taken.{left-sum, left-count, has-other, has-more, has-same}
 

@@ -10,7 +10,7 @@ use Rattle.flow_shop.specs.Shop.{Shop, time, time_between, IsWithinLimits}
 use Rattle.flow_shop.specs.Least.{least}
 use Rattle.flow_shop.specs.Paths.{completion}
 use Rattle.flow_shop.specs.Sequences.{has, jobs_left}
-use Rattle.flow_shop.specs.Bound.{bound_at}
+use Rattle.flow_shop.specs.Bound.{Bound, bound_at}
 use Rattle.flow_shop.proofs.Recurrence.{completion-push, completion-after}
 use Rattle.flow_shop.proofs.Fronts.{front-within, time-small}
 use Rattle.flow_shop.proofs.Admissible.{front_of-is}
@@ -19,7 +19,6 @@ use Rattle.flow_search.specs.declared.eight.group.TheConstants.{GONE}
 use Rattle.flow_search.specs.declared.eight.group.MachineRow.{MachineRow}
 use Rattle.flow_search.specs.declared.eight.group.Group.{Group}
 use Rattle.flow_search.specs.declared.eight.group.ColumnFrame.{ColumnFrame}
-use Rattle.flow_search.specs.Search.{Bound}
 use Rattle.flow_search.specs.internal.Columns.{IsLeastOfOthers}
 use Rattle.flow_search.specs.internal.Columns.{IsColumnLeft, IsFrameOf, IsUnprunedCount, IsSmallRow, job_of, child}
 use Rattle.flow_shop.proofs.Taken.{left-sum, has-other}

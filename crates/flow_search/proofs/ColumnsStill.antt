@@ -2,7 +2,7 @@
 use Rattle.std.proofs.Common.{◌≡◌, ℕ, ◌+◌, ◌<◌, ◌≤◌, List, ap, inl, inr, arith}
 use Rattle.std.proofs.lemmas.Bool.{cases_lt}
 use Rattle.flow_shop.specs.Shop.{Shop}
-use Rattle.flow_search.specs.Search.{Bound}
+use Rattle.flow_shop.specs.Bound.{Bound}
 use Rattle.flow_search.specs.internal.Columns.{IsUnprunedCount}
 use Rattle.flow_search.proofs.ColumnsPassed.{IsPassed}
 

@@ -6,8 +6,7 @@ use Rattle.std.specs.List.{find}
 use Rattle.std.proofs.lemmas.Bool.{eq-eqb, lt-ltb, or_left}
 use Rattle.flow_shop.specs.Shop.{Shop, numbers}
 use Rattle.flow_shop.specs.Sequences.{has, jobs_left}
-use Rattle.flow_shop.specs.Bound.{letter}
-use Rattle.flow_search.specs.Search.{Bound}
+use Rattle.flow_shop.specs.Bound.{Bound, letter}
 use Rattle.flow_search.specs.internal.Walk.{Incumbent, walk, walk_each}
 use Rattle.flow_search.specs.internal.Nodes.{Wrote, Entered, Gave, Walked, walked, children_walked, incumbent_of}
 use Rattle.flow_search.specs.internal.Columns.{IsFrameOf, IsColumnLeft, IsUnprunedCount, IsTested, job_of, child}

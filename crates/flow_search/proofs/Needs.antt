@@ -78,19 +78,18 @@ least-to shop machine place jobs limits to low some =
 
 -- the least time that the jobs which a child leaves need from a machine to before another
 pub child-need : (shop : Shop) (node : List ℕ) (left job machine place own value : ℕ) (row : Row) (lows : LeastPairs) →
-    IsLagged shop node left job machine row lows → 1 ≤ machine → place < machine - 1 →
-    own ≡ (slice_index row.times place + slice_index row.tails place)
-    - (slice_index row.times (machine - 1) + slice_index row.tails (machine - 1)) →
+    IsLagged shop node left job machine row lows → place < machine - 1 →
+    own ≡ time_to shop machine place job →
     IsLeastWithout own (slice_index lows.least place) (slice_index lows.second place) value →
     (value ≡ least (map (time_to shop machine place) (jobs_left shop.jobs (node ++ job ∷ []))))
     × (value ≤ most_machines * greatest_time)
-child-need shop node left job machine place own value row lows is from low own_is picked =
+child-need shop node left job machine place own value row lows is low own_is picked =
     let f : ℕ → ℕ = time_to shop machine place in
     let two = is.lags_are place low in
     let count = left-count shop.jobs node job is.kid.from is.kid.to is.kid.fresh in
     let value_is = child-least f shop.jobs node job own (slice_index lows.least place)
     (slice_index lows.second place) value is.kid
-    (own_is ∙ row-time-to shop job machine place row is.row_is from is.to low) two.0 two.1 picked in
+    own_is two.0 two.1 picked in
     let cap = least-below-cap least_of_none (most_machines * greatest_time) f (jobs_left shop.jobs (node ++ job ∷ []))
     (omega (arith, is.some, count)) (λ j. time_to-small shop machine place j is.limits is.to low) (omega arith) in
     (value_is ∙ cap.0, omega (arith, value_is, cap.0, cap.1))

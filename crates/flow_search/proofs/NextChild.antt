@@ -8,7 +8,7 @@ use Rattle.flow_shop.specs.Shop.{Shop, numbers}
 use Rattle.flow_shop.specs.Front.{IsFrontOf}
 use Rattle.flow_shop.specs.JobSet.{contains, members}
 use Rattle.flow_shop.specs.Sequences.{has, jobs_left}
-use Rattle.flow_search.specs.Search.{Bound}
+use Rattle.flow_shop.specs.Bound.{Bound}
 use Rattle.flow_shop.proofs.JobsLeft.{bool_cases}
 use Rattle.flow_shop.proofs.Taken.{left_from}
 use Rattle.flow_bound.specs.Loads.{AreLoadsOf}

@@ -14,14 +14,13 @@ use Rattle.flow_shop.specs.Least.{least, greatest}
 use Rattle.flow_shop.specs.Front.{IsFrontOf, IsWithinFront}
 use Rattle.flow_shop.specs.JobSet.{contains, members}
 use Rattle.flow_shop.specs.Sequences.{has, jobs_left}
-use Rattle.flow_shop.specs.Bound.{letter, machine_bound, released_bound, release, bound_at, released_bound_at}
+use Rattle.flow_shop.specs.Bound.{Bound, letter, machine_bound, released_bound, release, bound_at, released_bound_at}
 use Rattle.flow_shop.specs.Bound.{bound_of, front_of}
 use Rattle.flow_limits.specs.Limits.{most_jobs, most_machines}
 use Rattle.flow_shop.proofs.JobsLeft.{filter-same, kept, kept-more, kept-has, sum_by-ones}
 use Rattle.flow_shop.proofs.Fronts.{front-within}
 use Rattle.flow_shop.proofs.JobSetLemmas.{members-is}
 use Rattle.flow_shop.proofs.Admissible.{front_of-is}
-use Rattle.flow_search.specs.Search.{Bound}
 use Rattle.flow_search.specs.internal.Nodes.{IsAt, Wrote, Walked, walked, children_walked, incumbent_of}
 use Rattle.flow_search.specs.declared.state.SearchState.{SearchState}
 use Rattle.flow_search.proofs.Walk.{Fresh, fresh-push, range-all, answer_of, has-at}

@@ -11,10 +11,10 @@ use Rattle.flow_shop.specs.Shop.{Shop}
 use Rattle.flow_shop.specs.Front.{IsFrontOf}
 use Rattle.flow_shop.specs.JobSet.{contains}
 use Rattle.flow_shop.specs.Sequences.{has, AreJobs, AreDistinct, IsSequence, cut}
-use Rattle.flow_shop.specs.Bound.{bound_of}
+use Rattle.flow_shop.specs.Bound.{Bound, IsAdmissible, bound_of}
 use Rattle.flow_shop.proofs.Admissible.{bound_is_admissible, released_bound_is_admissible}
-use Rattle.flow_search.specs.Search.{Bound, Found, tree, best}
-use Rattle.flow_search.specs.internal.Walk.{walk, IsAdmissible}
+use Rattle.flow_search.specs.Search.{Found, tree, best}
+use Rattle.flow_search.specs.internal.Walk.{walk}
 use Rattle.flow_search.specs.Plans.{Planned, prefixes_of, prefix_of, best_of, tree_of}
 use Rattle.flow_search.specs.internal.Stored.{IsStored}
 use Rattle.flow_search.specs.internal.Nodes.{IsAt, Entered, Walked, walked, found_if, incumbent_of}

@@ -11,8 +11,7 @@ use Rattle.flow_shop.specs.Shop.{Shop, numbers}
 use Rattle.flow_shop.specs.Front.{IsFrontOf}
 use Rattle.flow_shop.specs.JobSet.{contains, members}
 use Rattle.flow_shop.specs.Sequences.{has, jobs_left, AreJobs}
-use Rattle.flow_shop.specs.Bound.{letter, front_of}
-use Rattle.flow_search.specs.Search.{Bound}
+use Rattle.flow_shop.specs.Bound.{Bound, letter, front_of}
 use Rattle.flow_shop.proofs.Admissible.{front_of-is}
 use Rattle.flow_bound.specs.Loads.{AreLoadsOf}
 use Rattle.flow_search.specs.internal.Walk.{Walk, Incumbent, walk, walk_each}

@@ -8,11 +8,11 @@ use Rattle.std.proofs.lemmas.Bool.{cases_Bool, cases_lt, leb-true, le-leb, lt-lt
 use Rattle.std.proofs.lemmas.List.{length-map}
 use Rattle.flow_shop.specs.Shop.{Shop}
 use Rattle.flow_shop.specs.Sequences.{jobs_left}
-use Rattle.flow_shop.specs.Bound.{letter, bound_at, released_bound_at}
+use Rattle.flow_shop.specs.Bound.{Bound, IsStronger, letter, bound_at, released_bound_at}
 use Rattle.flow_shop.proofs.Admissible.{released_bound_is_stronger}
-use Rattle.flow_search.specs.Search.{Bound, in_force, tree_at, tree, pruning_machine}
+use Rattle.flow_search.specs.Search.{in_force, tree_at, tree, pruning_machine}
 use Rattle.flow_search.specs.Plans.{prefix_of, prefixes_of}
-use Rattle.flow_search.specs.VersionLaws.{IsStronger, StrongerBoundsShortenTrees, SecondVersionShortensTrees}
+use Rattle.flow_search.specs.VersionLaws.{StrongerBoundsShortenTrees, SecondVersionShortensTrees}
 use Rattle.flow_search.specs.VersionLaws.{SecondVersionKeepsBudget}
 
 -- where none of some numbers passes a test, none passes a stricter one

@@ -15,7 +15,7 @@ use Rattle.flow_shop.specs.Sequences.{IsSequence, IsLeastMakespan}
 use Rattle.flow_search.specs.Search.{Found, tree, best}
 use Rattle.flow_search.specs.Plans.{Planned, IsPlan, prefixes_of, prefix_of, tree_of, best_of, trees_of, verdict_of}
 use Rattle.flow_search.specs.Outcomes.{IsLawful, AreLawful, IsDone, found_of, first_over_budget}
-use Rattle.flow_search.specs.Verdicts.{IsVerdict, IsLeast, first_refusal}
+use Rattle.flow_search.specs.Verdicts.{IsVerdict, IsLeast, refusal, first_refusal}
 use Rattle.flow_search.specs.internal.Tally.{IsTally, undercuts}
 use Rattle.flow_search.specs.declared.outcome.Best.{Best}
 use Rattle.flow_search.specs.declared.outcome.Outcome.{Outcome}
@@ -280,6 +280,21 @@ refusals plan outcomes few lawful =
     refusal-from plan 0 (length (prefixes_of plan) - length outcomes) outcomes (omega (arith, few)) (λ i other h.
     let same : i ≡ 0 + i = omega arith in
     subst (λ k. IsLawful plan k (slice_index_or outcomes i other)) same (lawful i other h)) tt
+
+-- a lawful outcome with the fault that its tree is longer than the budget
+pub refused-over : (plan : Planned) (number k : ℕ) (o : Outcome) → IsLawful plan number o →
+    refusal number o ≡ Some (OverBudget k) → (plan.options.budget < length (tree_of plan number)) × (number ≡ k)
+refused-over plan number k (Done best text) here e = absurd (cc)
+refused-over plan number k outcome.OverBudget here e = let same : number ≡ k = cc in (here, same)
+refused-over plan number k NoMemory here e = absurd (cc)
+refused-over plan number k NoPrefix here e = absurd here
+
+-- an outcome that refuses nothing is done
+pub refuses-nothing : (number : ℕ) (o : Outcome) → refusal number o ≡ None → IsDone o
+refuses-nothing number (Done best text) e = tt
+refuses-nothing number outcome.OverBudget e = absurd (cc)
+refuses-nothing number NoMemory e = absurd (cc)
+refuses-nothing number NoPrefix e = absurd (cc)
 
 -- outcomes that refuse nothing are all done
 pub done-at : (number : ℕ) (outcomes : List Outcome) (i : ℕ) (other : Outcome) → first_refusal number outcomes ≡ None →

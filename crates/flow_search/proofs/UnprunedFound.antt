@@ -4,7 +4,7 @@ use Rattle.std.proofs.Common.{Some, None, find, refl, ap, sym, ◌∙◌, inl, i
 use Rattle.std.specs.List.{range_with_len}
 use Rattle.std.proofs.lemmas.Bool.{cases_lt, le-leb, lt-leb, lt-ltb, le-ltb}
 use Rattle.flow_shop.specs.Shop.{Shop, numbers}
-use Rattle.flow_search.specs.Search.{Bound}
+use Rattle.flow_shop.specs.Bound.{Bound}
 use Rattle.flow_search.specs.internal.Columns.{IsUnprunedCount}
 
 -- the first number of a range that passes

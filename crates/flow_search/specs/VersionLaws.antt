@@ -1,15 +1,11 @@
 -- Laws of the versions: a stronger bound has no longer trees, so a budget that suffices in version 1 does in version 2.
 use Rattle.std.specs.Prelude.{ℕ, ◌≡◌, ◌≤◌, List, length, None}
 use Rattle.flow_shop.specs.Shop.{Shop}
+use Rattle.flow_shop.specs.Bound.{Bound, IsStronger}
 use Rattle.flow_search.specs.Choices.{in_version}
-use Rattle.flow_search.specs.Search.{Bound, tree}
+use Rattle.flow_search.specs.Search.{tree}
 use Rattle.flow_search.specs.Plans.{Planned, tree_of}
 use Rattle.flow_search.specs.Outcomes.{first_over_budget}
-
--- a bound is at least another on each machine of each list
-abbrev pub IsStronger : Bound → Bound → Type 0
-IsStronger bound other =
-    (shop : Shop) (jobs : List ℕ) (machine : ℕ) → 1 ≤ machine → other shop jobs machine ≤ bound shop jobs machine
 
 -- the trees of a stronger bound are never longer (law: stronger_bounds_shorten_trees)
 abbrev pub StrongerBoundsShortenTrees : Type 0

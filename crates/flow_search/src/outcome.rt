@@ -13,7 +13,7 @@ use crate::plan::Plan;
 use crate::setting::Setting;
 use crate::state::SearchState;
 use crate::subtree::explore;
-use flow_shop::{Front, Instance, Sequence, front_push};
+use flow_shop::{Front, Sequence, front_push};
 use std::alloc::{AllocError, Global};
 
 /// The best sequence that extends a prefix. Its makespan is below that of the start.
@@ -78,31 +78,15 @@ fn search_prefix(alloc: Global, plan: &Plan, number: u32) -> Result<SearchState,
     Ok(search)
 }
 
-/// The sequence of jobs that are known to be a sequence.
-pub fn sequence_of(alloc: Global, instance: &Instance, jobs: &[u16]) -> Result<Sequence, AllocError>
-    requires { IsSequence instance.now.jobs jobs.now }
-    ensures { IfOk result (λ sequence. sequence ≡ jobs.now) }
-{
-    match Sequence::new(alloc, instance, jobs) {
-        Ok(sequence) => Ok(sequence),
-        // The jobs are a sequence, so memory ran out.
-        Err(_) => Err(AllocError),
-    }
-}
-
 /// The best that a search found.
-fn best_found(
-    alloc: Global,
-    instance: &Instance,
-    search: &SearchState,
-) -> Result<Option<Best>, AllocError>
-    requires { search.now.improved ≡ true → IsSequence instance.now.jobs search.now.best.items }
+fn best_found(alloc: Global, search: &SearchState) -> Result<Option<Best>, AllocError>
+    requires { search.now.improved ≡ true → IsSequence (length search.now.best.items) search.now.best.items }
     ensures { IfOk result (λ best. option_map found_of best ≡ found_if search.now) }
 {
     if !search.improved {
         return Ok(None);
     }
-    let sequence = sequence_of(alloc, instance, &search.best)?;
+    let sequence = Sequence::of_known(alloc, search.best.as_slice())?;
     Ok(Some(Best {
         value: search.value,
         sequence,
@@ -119,7 +103,7 @@ pub fn answer(alloc: Global, plan: &Plan, number: u32) -> Outcome
         Err(SearchFault::OverBudget) => return Outcome::OverBudget,
         Err(SearchFault::Memory) => return Outcome::NoMemory,
     };
-    match best_found(alloc, plan.instance(), &search) {
+    match best_found(alloc, &search) {
         Ok(best) => Outcome::Done {
             best,
             tree: search.tree,

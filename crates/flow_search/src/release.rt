@@ -8,13 +8,13 @@ ghost use Rattle.flow_shop.specs.JobSet.{members};
 ghost use Rattle.flow_shop.specs.Bound.{release, released_bound};
 ghost use Rattle.flow_shop.specs.Sequences.{jobs_left};
 ghost use Rattle.flow_bound.specs.Loads.{AreLoadsOf};
-ghost use Rattle.flow_search.specs.internal.Walk.{first_reaching};
+ghost use Rattle.flow_search.specs.Search.{first_reaching};
 ghost use Rattle.flow_shop.specs.JobSet.{IsSetOf};
 ghost use Rattle.flow_search.specs.internal.Lags.{IsLagged};
 ghost use Rattle.flow_search.specs.internal.Settings.{shop_of};
 
 use crate::setting::Setting;
-use crate::two_least::{LeastPairs, least_lags};
+use crate::two_least::{LeastPairs, lag, least_lags};
 use flow_bound::{Loads, release_from_lags};
 use flow_limits::MAX_MACHINES;
 use flow_shop::{Front, JobSet, Row};
@@ -66,11 +66,9 @@ pub fn release_at_child(
         result ≡ release shop front (jobs_left shop.jobs (node ++ job ∷ [])) machine }
 {
     let last = machine as usize - 1;
-    let needs = row.times[last] + row.tails[last];
     let mut made = free[last];
     for place in 0..last {
-        let own = (row.times[place] + row.tails[place]).saturating_sub(needs);
-        let least = lags.at(place).without(own);
+        let least = lags.at(place).without(lag(row, place, machine));
         made = made.max(free[place] + least);
     }
     made

@@ -7,9 +7,10 @@ ghost use Rattle.flow_search.specs.Verdicts.{IsVerdict, IsLeast};
 ghost use Rattle.flow_search.specs.internal.Tally.{IsTally, undercuts};
 ghost use Rattle.flow_search.specs.declared.outcome.Outcome.TheVariants.{Done};
 
-use crate::outcome::{Best, sequence_of};
+use crate::outcome::Best;
 use crate::plan::Plan;
 use crate::verdict::Verdict;
+use flow_shop::Sequence;
 use std::alloc::{AllocError, Global};
 
 /// The trees of the first prefixes, and the least of their bests.
@@ -72,7 +73,7 @@ impl Tally {
         }
         Ok(Verdict {
             value: plan.start_value(),
-            sequence: sequence_of(alloc, plan.instance(), start.jobs())?,
+            sequence: Sequence::of_known(alloc, start.jobs())?,
             trees,
         })
     }

@@ -82,6 +82,21 @@ pub fn least_tails(setting: &Setting, set: &JobSet) -> LeastPairs
     tails
 }
 
+/// A job's lag from the machine at a place to a later machine: its time and tail there, less those at the later one.
+#[inline(always)]
+pub fn lag(row: &Row, place: usize, machine: u16) -> u32
+    requires place { place < machine - 1 }
+    requires row { (shop : Shop) × (job : ℕ) × IsWithinLimits shop × IsRow shop job row.now ×
+        (machine ≤ shop.machines) }
+    ensures { (shop : Shop) (job : ℕ) → IsRow shop job row.now → machine ≤ shop.machines →
+        result ≡ time_to shop machine place job }
+{
+    let last = machine as usize - 1;
+    let here = row.times[place] + row.tails[place];
+    let later = row.times[last] + row.tails[last];
+    here.saturating_sub(later)
+}
+
 /// A job's lags from each earlier machine to a machine, that from machine 1 first.
 fn times_to(row: &Row, machine: u16) -> [u32; MAX_MACHINES]
     requires from { 1 ≤ machine }
@@ -90,11 +105,9 @@ fn times_to(row: &Row, machine: u16) -> [u32; MAX_MACHINES]
     ensures { (shop : Shop) (job : ℕ) → IsRow shop job row.now → machine ≤ shop.machines → (place : ℕ) →
         place < machine - 1 → slice_index result place ≡ time_to shop machine place job }
 {
-    let last = machine as usize - 1;
-    let needs = row.times[last] + row.tails[last];
     let mut made = [0; MAX_MACHINES];
-    for place in 0..last {
-        made[place] = (row.times[place] + row.tails[place]).saturating_sub(needs);
+    for place in 0..machine as usize - 1 {
+        made[place] = lag(row, place, machine);
     }
     made
 }

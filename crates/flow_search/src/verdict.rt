@@ -6,7 +6,7 @@ ghost use Rattle.flow_shop.specs.Paths.{span};
 ghost use Rattle.flow_shop.specs.Sequences.{IsSequence, IsLeastMakespan};
 ghost use Rattle.flow_search.specs.Plans.{prefixes_of};
 ghost use Rattle.flow_search.specs.Outcomes.{AreLawful, IsDone, first_over_budget};
-ghost use Rattle.flow_search.specs.Verdicts.{IsVerdict, first_refusal};
+ghost use Rattle.flow_search.specs.Verdicts.{IsVerdict, refusal, first_refusal};
 ghost use Rattle.flow_search.specs.declared.verdict.RunFault.TheVariants.{Memory};
 
 use crate::outcome::{Outcome, answer};
@@ -87,14 +87,27 @@ pub fn solve_plain(alloc: Global, plan: &Plan) -> Result<Verdict, RunFault>
     let count = plan.prefixes();
     let mut tally = Tally::new(alloc, count as usize)?;
     for number in 0..count {
-        match answer(alloc, plan, number) {
-            Outcome::Done { best, tree } => tally.add(best, tree)?,
-            Outcome::OverBudget => return Err(RunFault::OverBudget(number)),
-            Outcome::NoMemory | Outcome::NoPrefix => return Err(RunFault::Memory),
+        let outcome = answer(alloc, plan, number);
+        if let Some(fault) = refusal(number, &outcome) {
+            return Err(fault);
+        }
+        if let Outcome::Done { best, tree } = outcome {
+            tally.add(best, tree)?;
         }
     }
     let verdict = tally.verdict(alloc, plan)?;
     Ok(verdict)
+}
+
+/// The fault of the outcome of this number; `None` where it is `Done`.
+fn refusal(number: u32, outcome: &Outcome) -> Option<RunFault>
+    ensures { result ≡ refusal number outcome.now }
+{
+    match outcome {
+        Outcome::Done { .. } => None,
+        Outcome::OverBudget => Some(RunFault::OverBudget(number)),
+        Outcome::NoMemory | Outcome::NoPrefix => Some(RunFault::Memory),
+    }
 }
 
 /// The fault of the first outcome that is not `Done`.
@@ -103,10 +116,8 @@ pub fn first_refusal(outcomes: &[Outcome]) -> Option<RunFault>
     ensures { result ≡ first_refusal 0 outcomes.now }
 {
     for (number, outcome) in outcomes.iter().enumerate() {
-        match outcome {
-            Outcome::Done { .. } => {}
-            Outcome::OverBudget => return Some(RunFault::OverBudget(number as u32)),
-            Outcome::NoMemory | Outcome::NoPrefix => return Some(RunFault::Memory),
+        if let Some(fault) = refusal(number as u32, outcome) {
+            return Some(fault);
         }
     }
     None

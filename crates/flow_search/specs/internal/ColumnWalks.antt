@@ -2,7 +2,7 @@
 use Rattle.std.specs.Prelude.{ℕ, suc, ◌≡◌, ◌+◌, ◌-◌, ◌≤◌, List, [], ◌∷◌, ◌++◌, slice_index, slice_index_or}
 use Rattle.std.specs.Prelude.{length, drop}
 use Rattle.flow_shop.specs.Shop.{Shop}
-use Rattle.flow_search.specs.Search.{Bound}
+use Rattle.flow_shop.specs.Bound.{Bound}
 use Rattle.flow_search.specs.internal.Walk.{Walk, Incumbent, walk, walk_each}
 use Rattle.flow_search.specs.internal.Nodes.{incumbent_of, then_walk}
 use Rattle.flow_search.specs.internal.Columns.{IsTested, child, columns_of}

@@ -7,7 +7,7 @@ use Rattle.flow_shop.specs.Shop.{Shop, time, time_between}
 use Rattle.flow_shop.specs.Paths.{completion}
 use Rattle.flow_shop.specs.Front.{IsFrontOf}
 use Rattle.flow_shop.specs.Sequences.{has, jobs_left}
-use Rattle.flow_search.specs.Search.{Bound}
+use Rattle.flow_shop.specs.Bound.{Bound}
 use Rattle.flow_search.specs.declared.eight.group.TheConstants.{GONE}
 use Rattle.flow_search.specs.declared.eight.group.MachineRow.{MachineRow}
 use Rattle.flow_search.specs.declared.eight.group.Group.{Group}

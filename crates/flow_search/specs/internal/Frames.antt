@@ -3,8 +3,8 @@ use Rattle.std.specs.Prelude.{ℕ, suc, ◌≡◌, ◌+◌, ◌-◌, ◌≤◌, 
 use Rattle.flow_shop.specs.Shop.{Shop, numbers}
 use Rattle.flow_shop.specs.Front.{IsFrontOf}
 use Rattle.flow_shop.specs.Sequences.{has, jobs_left, AreJobs}
+use Rattle.flow_shop.specs.Bound.{Bound}
 use Rattle.flow_bound.specs.Loads.{AreLoadsOf}
-use Rattle.flow_search.specs.Search.{Bound}
 use Rattle.flow_search.specs.internal.Walk.{Walk, Incumbent, walk, walk_each}
 use Rattle.flow_search.specs.internal.Columns.{most_columns}
 use Rattle.flow_search.specs.internal.TwoLeast.{AreSecondTails}

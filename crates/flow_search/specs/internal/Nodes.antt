@@ -6,9 +6,10 @@ use Rattle.flow_shop.specs.Shop.{Shop, IsWithinLimits}
 use Rattle.flow_shop.specs.Front.{IsFrontOf}
 use Rattle.flow_shop.specs.JobSet.{contains}
 use Rattle.flow_shop.specs.Sequences.{has, jobs_left, AreJobs}
-use Rattle.flow_search.specs.Search.{Bound, Found}
-use Rattle.flow_search.specs.internal.Walk.{Walk, Incumbent, walk, walk_each, first_reaching}
+use Rattle.flow_search.specs.Search.{Found, first_reaching}
+use Rattle.flow_search.specs.internal.Walk.{Walk, Incumbent, walk, walk_each}
 use Rattle.flow_shop.specs.JobSet.{IsSetOf}
+use Rattle.flow_shop.specs.Bound.{Bound, plus}
 use Rattle.flow_search.specs.declared.state.SearchState.{SearchState}
 
 -- the best so far; none where no sequence with a smaller makespan than the start was found
@@ -101,5 +102,5 @@ then_walk first more = (first.0 ++ (more first.1).0, (more first.1).1)
 
 -- the plus of a job's child, which no bound prunes, is written
 pub record Opens (shop : Shop) (bound : Bound) (budget job : ℕ) (old new : SearchState) : Type 0 where
-  pub wrote : Wrote budget 43 old new
+  pub wrote : Wrote budget plus old new
   pub unpruned : first_reaching shop old.value (bound shop (old.node.items ++ job ∷ [])) ≡ None

@@ -2,9 +2,9 @@
 use Rattle.std.specs.Prelude.{ℕ, ◌≡◌, ◌+◌, ◌<◌, List, length, Bool, Option}
 use Rattle.flow_shop.specs.Shop.{Shop}
 use Rattle.flow_shop.specs.JobSet.{members}
-use Rattle.flow_shop.specs.Bound.{bound_of}
-use Rattle.flow_search.specs.Search.{Bound}
-use Rattle.flow_search.specs.internal.Walk.{Walk, first_reaching}
+use Rattle.flow_shop.specs.Bound.{Bound, bound_of}
+use Rattle.flow_search.specs.Search.{first_reaching}
+use Rattle.flow_search.specs.internal.Walk.{Walk}
 use Rattle.flow_search.specs.internal.Nodes.{IsAt, walked, children_walked, child_walked}
 use Rattle.flow_search.specs.internal.Frames.{IsFrame}
 use Rattle.flow_search.specs.internal.Lags.{AreLeastLags}

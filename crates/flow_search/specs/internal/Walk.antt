@@ -1,12 +1,12 @@
 -- The walk of a search through a subtree. It keeps one incumbent, and visits no sequence below a cut.
-use Rattle.std.specs.Prelude.{ℕ, zero, suc, ◌≡◌, ◌-◌, ◌<◌, ◌≤◌, cond, nat_lt, nat_le, List, [], ◌∷◌, ◌++◌, length, find}
+use Rattle.std.specs.Prelude.{ℕ, zero, suc, ◌≡◌, ◌-◌, ◌≤◌, cond, nat_lt, List, [], ◌∷◌, ◌++◌, length}
 use Rattle.std.specs.Prelude.{Option, Some, None}
 use Rattle.std.specs.Option.{option_map_or}
-use Rattle.flow_shop.specs.Shop.{Shop, numbers}
+use Rattle.flow_shop.specs.Shop.{Shop}
 use Rattle.flow_shop.specs.Paths.{span}
-use Rattle.flow_shop.specs.Sequences.{jobs_left, AreJobs, IsSequence, Extends}
-use Rattle.flow_shop.specs.Bound.{letter}
-use Rattle.flow_search.specs.Search.{Bound, Found, found, tree, best}
+use Rattle.flow_shop.specs.Sequences.{jobs_left, AreJobs}
+use Rattle.flow_shop.specs.Bound.{Bound, IsAdmissible, letter, point, plus}
+use Rattle.flow_search.specs.Search.{Found, found, first_reaching, tree, best}
 
 -- an incumbent: a makespan, with the sequence that has it; or the makespan of the start alone
 abbrev pub Incumbent : Type 0
@@ -29,25 +29,14 @@ walk_each walk (job ∷ jobs) incumbent =
     let rest = walk_each walk jobs first.1 in
     (first.0 ++ rest.0, rest.1)
 
--- the first machine whose number reaches a value
-abbrev pub first_reaching : Shop → ℕ → (ℕ → ℕ) → Option ℕ
-first_reaching shop value number = find (λ machine. nat_le value (number machine)) (numbers 1 shop.machines)
-
 -- the walk from a node with so many jobs left
 abbrev pub walk : Shop → Bound → ℕ → List ℕ → Incumbent → Walk
-walk shop bound zero node incumbent = (46 ∷ [], better shop incumbent node)
+walk shop bound zero node incumbent = (point ∷ [], better shop incumbent node)
 walk shop bound (suc left) node incumbent =
     let below = walk_each (λ job. walk shop bound left (node ++ job ∷ [])) (jobs_left shop.jobs node) incumbent in
     option_map_or (λ machine. (letter machine ∷ [], incumbent))
     (first_reaching shop incumbent.0 (bound shop node))
-    (43 ∷ below.0, below.1)
-
--- the makespan of a sequence that extends a list is at least the bound of the list on each machine
-abbrev pub IsAdmissible : Bound → Type 0
-IsAdmissible bound =
-    (shop : Shop) (jobs sequence : List ℕ) (machine : ℕ) → 1 ≤ machine → machine ≤ shop.machines →
-    IsSequence shop.jobs sequence → Extends sequence jobs → length jobs < shop.jobs →
-    bound shop jobs machine ≤ span shop sequence
+    (plus ∷ below.0, below.1)
 
 -- where the bound is admissible, the walk from a prefix writes its tree and finds its best
 abbrev pub WalkIsTree : Type 0

@@ -47,8 +47,8 @@ fn test_plain(instance: &Instance, group: &Group, frame: &mut ColumnFrame, value
     frame.value = value;
 }
 
-/// Computes when each child leaves each machine, and how many machines there are before the first whose bound, which is
-/// that of the version, reaches a value.
+/// Computes when each child leaves each machine, and how many machines there are before the first whose bound reaches a
+/// value. The bound is that of the version.
 #[inline(always)]
 pub fn test_children(setting: &Setting, group: &Group, frame: &mut ColumnFrame, value: u64)
     requires { (list : List ℕ) × IsFrameOf (shop_of setting.now) list group.now frame.old }

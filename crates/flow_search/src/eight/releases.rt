@@ -47,8 +47,8 @@ fn releases(
 }
 
 /// For each child, how many machines there are before the first whose released bound reaches the value against which
-/// the machine bounds were tested. There are never more than before the first whose machine bound does, since no
-/// released bound is less than the machine bound.
+/// the machine bounds were tested. They are never more than the machines before the first whose machine bound reaches
+/// it, since no released bound is less than the machine bound.
 /// What `late` holds does not matter.
 #[inline(never)]
 fn unpruned_by_releases(

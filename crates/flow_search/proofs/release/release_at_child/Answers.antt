@@ -10,18 +10,9 @@ use Rattle.flow_search.specs.internal.TwoLeast.{time_to}
 use Rattle.flow_search.specs.internal.Lags.{IsLagged}
 use Rattle.flow_bound.proofs.Releases.{start_from}
 use Rattle.flow_search.proofs.ColumnsReleased.{start_from-more, release-is}
-use Rattle.flow_search.proofs.Needs.{row-needs-small, child-need}
+use Rattle.flow_search.proofs.Needs.{child-need}
 use Rattle.flow_search.proofs.release.release_at_child.Goals as goal
 use Rattle.flow_search.proofs.release.release_at_child.Goals.{After-without-least}
-
-pub overflow_add-needs : goal.overflow_add-needs
-overflow_add-needs c =
-    let is = c.requires.child.4 in
-    omega (
-      arith,
-      row-needs-small c.requires.child.0 c.requires.child.3 c.args.row.now (c.args.machine - 1) is.limits is.row_is
-          (omega (arith, c.requires.from, is.to)),
-    )
 
 pub loop-place-init : goal.loop-place-init
 loop-place-init c = record {
@@ -31,14 +22,9 @@ loop-place-init c = record {
       omega (arith, same (c.args.machine - 1) (omega (arith, c.requires.from)));
 }
 
-pub overflow_add-row : goal.overflow_add-row
-overflow_add-row c =
-    let is = c.requires.child.4 in
-    omega (
-      arith,
-      row-needs-small c.requires.child.0 c.requires.child.3 c.args.row.now c.loop-place.place is.limits is.row_is
-          (omega (arith, c.loop-place-test.true, is.to)),
-    )
+pub lag-requires-clause-row : goal.lag-requires-clause-row
+lag-requires-clause-row c =
+    let is = c.requires.child.4 in (c.requires.child.0, c.requires.child.3, is.limits, is.row_is, is.to)
 
 -- the least time that the jobs which the child leaves need
 least-is : (c : After-without-least) (shop : Shop) (node : List ℕ) (left job : ℕ) →
@@ -47,12 +33,12 @@ least-is : (c : After-without-least) (shop : Shop) (node : List ℕ) (left job :
     ≡ least (map (time_to shop c.args.machine c.loop-place.place) (jobs_left shop.jobs (node ++ job ∷ []))))
     × (c.without-least.result ≤ most_machines * greatest_time)
 least-is c shop node left job is =
-    child-need shop node left job c.args.machine c.loop-place.place c.saturating_sub-own.result
-    c.without-least.result c.args.row.now c.args.lags.now is c.requires.from
-    (omega (arith, c.loop-place-test.true)) c.saturating_sub-own.ensures
-    (subst (λ n. IsLeastWithout c.saturating_sub-own.result n
+    child-need shop node left job c.args.machine c.loop-place.place c.lag.result
+    c.without-least.result c.args.row.now c.args.lags.now is
+    (omega (arith, c.loop-place-test.true)) (c.lag.ensures shop job is.row_is is.to)
+    (subst (λ n. IsLeastWithout c.lag.result n
     (slice_index c.args.lags.now.second c.loop-place.place) c.without-least.result) c.at.ensures.least
-    (subst (λ n. IsLeastWithout c.saturating_sub-own.result c.at.result.least n c.without-least.result)
+    (subst (λ n. IsLeastWithout c.lag.result c.at.result.least n c.without-least.result)
     c.at.ensures.second c.without-least.ensures))
 
 pub overflow_add-free : goal.overflow_add-free

@@ -17,10 +17,10 @@ returns-in-Some-clause-least c =
 
 pub returns-clause-verdict : goal.returns-clause-verdict
 returns-clause-verdict c =
-    let start : Found = found_with c.start_value.result c.in_ok-sequence_of.field-0 in
+    let start : Found = found_with c.start_value.result c.in_ok-of_known.field-0 in
     let same : start ≡ c.args.plan.now.start =
     ap₂ found_with c.start_value.ensures.value
-    (c.in_ok-sequence_of.ensures ∙ (c.jobs.ensures.value ∙ c.start-start.ensures.value)) in
+    (c.in_ok-of_known.ensures ∙ (c.jobs.ensures.value ∙ c.start-start.ensures.value)) in
     tally-verdict c.args.plan.now c.args.self start c.requires
     (same ∙ sym (ap (λ o. unwrap_or (option_map found_of o) c.args.plan.now.start) c.in_default.is))
 
