@@ -11,8 +11,8 @@ use Rattle.flow_check.specs.declared.fault.CheckFault.TheVariants.{Tree, Weak, L
 
 -- one byte where jobs are left
 
-cut-reads : (shop : Shop) (reach : Bound) (value place left : ℕ) (node : List ℕ) (byte : ℕ) (rest : List ℕ) → byte ≢ 43 →
-    read_tree shop reach value place (suc left) node (byte ∷ rest)
+cut-reads : (shop : Shop) (reach : Bound) (value place left : ℕ) (node : List ℕ) (byte : ℕ) (rest : List ℕ) →
+    byte ≢ 43 → read_tree shop reach value place (suc left) node (byte ∷ rest)
     ≡ cut_fault (is_letter shop byte) (nat_le value (reach shop node (byte - 64))) place rest
 cut-reads shop reach value place left node byte rest h =
     ap (λ b. cond b (each_tree (λ job. read_tree shop reach value place left (node ++ job
@@ -65,14 +65,16 @@ cut-strong shop reach value place (suc left) node byte reaches e h above within 
 
 -- one byte where no job is left
 
-pub leaf-low : (shop : Shop) (reach : Bound) (value place left : ℕ) (node : List ℕ) (byte makespan : ℕ) → left ≡ 0 → byte ≡ 46 → makespan ≡ span shop node →
+pub leaf-low : (shop : Shop) (reach : Bound) (value place left : ℕ) (node : List ℕ) (byte makespan : ℕ) →
+    left ≡ 0 → byte ≡ 46 → makespan ≡ span shop node →
     makespan < value → (rest : List ℕ) → read_tree shop reach value place left node (byte ∷ rest) ≡ Err (Low place)
 leaf-low shop reach value place zero node byte makespan e point is low rest =
     ap (λ b. leaf_fault b (nat_le value (span shop node)) place rest) (eq-eqb byte 46 point)
     ∙ ap (λ b. leaf_fault true b place rest) (lt-leb value (span shop node) (subst (λ m. m < value) is low))
 leaf-low shop reach value place (suc left) node byte makespan e point is low rest = absurd (omega (arith, e))
 
-pub leaf-high : (shop : Shop) (reach : Bound) (value place left : ℕ) (node : List ℕ) (byte makespan : ℕ) → left ≡ 0 → byte ≡ 46 → makespan ≡ span shop node →
+pub leaf-high : (shop : Shop) (reach : Bound) (value place left : ℕ) (node : List ℕ) (byte makespan : ℕ) →
+    left ≡ 0 → byte ≡ 46 → makespan ≡ span shop node →
     value ≤ makespan → (rest : List ℕ) → read_tree shop reach value place left node (byte ∷ rest) ≡ Ok rest
 leaf-high shop reach value place zero node byte makespan e point is high rest =
     ap (λ b. leaf_fault b (nat_le value (span shop node)) place rest) (eq-eqb byte 46 point)

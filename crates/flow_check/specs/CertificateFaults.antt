@@ -49,11 +49,10 @@ HasTreeFault shop bound value place (suc left) jobs text fault =
     × HasFaultAmong (λ job. Covers shop bound value left (jobs ++ job ∷ []))
     (λ job. HasTreeFault shop bound value place left (jobs ++ job ∷ [])) (jobs_left shop.jobs jobs) children fault)
 
--- a text should be a line for each prefix, with a tree for it, and then the last line. It has this fault. Where no prefix
--- is left, the text is not the last line. Else the fault is in the tree of the first prefix; or the line goes on after
--- this tree; or the fault is in what follows the line
-abbrev pub HasLineFault :
-    Shop → Bound → ℕ → ℕ → List (List ℕ) → ℕ → List ℕ → CheckFault → Type 0
+-- a text should be a line for each prefix, with a tree for it, and then the last line. It has this fault. Where no
+-- prefix is left, the text is not the last line. Else the fault is in the tree of the first prefix; or the line goes on
+-- after this tree; or the fault is in what follows the line
+abbrev pub HasLineFault : Shop → Bound → ℕ → ℕ → List (List ℕ) → ℕ → List ℕ → CheckFault → Type 0
 HasLineFault shop bound value left [] place text fault = (fault ≡ End) × (text ≢ line ending)
 HasLineFault shop bound value left (prefix ∷ prefixes) place text fault =
     HasTreeFault shop bound value place left prefix text fault
