@@ -12,7 +12,7 @@ use Rattle.flow_shop.specs.Shop.{Shop, IsWithinLimits, numbers}
 use Rattle.flow_shop.specs.Least.{least}
 use Rattle.flow_shop.specs.Paths.{span}
 use Rattle.flow_shop.specs.Sequences.{jobs_left, cut, IsSequence, IsLeastMakespan}
-use Rattle.flow_shop.specs.Bound.{bound_of, letter}
+use Rattle.flow_shop.specs.Bound.{Bound, bound_of, letter}
 use Rattle.flow_shop.proofs.Fronts.{completion-small}
 use Rattle.flow_search.specs.Search.{comes_before, in_force, tree_at, tree, trees, sequences_from}
 use Rattle.flow_search.specs.Plans.{Planned, prefixes_of, trees_of, verdict_of}
@@ -63,7 +63,7 @@ force-above shop v start prefix node low f short h =
     (omega arith))))
 
 -- a tree covers what no sequence is below
-covers-cases : (shop : Shop) (bound : Shop → List ℕ → ℕ → ℕ) (v start left : ℕ) (prefix node : List ℕ) →
+covers-cases : (shop : Shop) (bound : Bound) (v start left : ℕ) (prefix node : List ℕ) →
     v ≤ in_force shop start prefix node →
     AllZip (λ job part. Covers shop bound v left (node ++ job
     ∷ []) part) (jobs_left shop.jobs node) (map (λ job. tree_at shop bound start prefix left (node ++ job
@@ -85,7 +85,7 @@ covers-cases shop bound v start left prefix node low zip None e =
       zip,
     )
 
-tree-covers : (shop : Shop) (bound : Shop → List ℕ → ℕ → ℕ) (v start left : ℕ) (prefix node : List ℕ) → v ≤ start →
+tree-covers : (shop : Shop) (bound : Bound) (v start left : ℕ) (prefix node : List ℕ) → v ≤ start →
     Fresh shop.jobs prefix →
     length prefix ≤ shop.jobs → ((s : List ℕ) → IsSequence shop.jobs s → v ≤ span shop s) →
     Fresh shop.jobs node → length node + left ≡ shop.jobs →

@@ -12,6 +12,7 @@ ghost use Rattle.flow_cert.specs.PlanCertificates.{certificate_of, text_with};
 ghost use Rattle.flow_cert.specs.internal.HeadingText.{size_line, heading_with};
 
 use crate::gathered::Gathered;
+use flow_check::{LAST_LINE, TITLE};
 use flow_search::{Plan, Verdict};
 use flow_text::{Sink, WriteFault};
 
@@ -26,7 +27,7 @@ fn add_title<S: Sink>(gathered: &mut Gathered, out: &mut S, plan: &Plan) -> Resu
         (AddsProperPrefix (S.taken out.old) (S.taken out.new)
         (gathered.old ++ line (title plan.now.options.version))) }
 {
-    gathered.add(out, b"flowshop certificate ")?;
+    gathered.add(out, TITLE)?;
     gathered.add_number(out, u64::from(plan.options().version()))?;
     gathered.add(out, b"\n")
 }
@@ -105,6 +106,6 @@ pub fn write_certificate<S: Sink>(
     let mut gathered = Gathered::none();
     add_heading(&mut gathered, out, plan, verdict)?;
     add_trees(&mut gathered, out, verdict.trees.as_slice())?;
-    gathered.add(out, b"end\n")?;
+    gathered.add(out, LAST_LINE)?;
     gathered.put(out)
 }

@@ -11,7 +11,7 @@ ghost use Rattle.flow_check.specs.TwoEnded.{sequence_lines, two_ended_text, IsTw
 ghost use Rattle.flow_cert.specs.internal.Gathered.{HandsOn};
 
 use crate::gathered::Gathered;
-use flow_check::Bounds;
+use flow_check::{Bounds, LAST_LINE, TWO_ENDED_TITLE};
 use flow_shop::{Instance, Sequence};
 use flow_text::{Sink, WriteFault};
 
@@ -52,7 +52,7 @@ fn add_lines<S: Sink>(
         (AddsProperPrefix (S.taken out.old) (S.taken out.new)
         (gathered.old ++ sequence_lines instance.now bounds sequence.now)) }
 {
-    gathered.add(out, b"flowshop two-ended 1\n")?;
+    gathered.add(out, TWO_ENDED_TITLE)?;
     add_size(gathered, out, instance)?;
     gathered.add_bounds(out, bounds)?;
     gathered.add_numbers(out, sequence.jobs())
@@ -81,6 +81,7 @@ pub fn write_two_ended<S: Sink>(
     let mut gathered = Gathered::none();
     add_lines(&mut gathered, out, instance, bounds, sequence)?;
     gathered.add(out, directions)?;
-    gathered.add(out, b"\nend\n")?;
+    gathered.add(out, b"\n")?;
+    gathered.add(out, LAST_LINE)?;
     gathered.put(out)
 }

@@ -12,7 +12,7 @@ use Rattle.flow_shop.specs.Shop.{Shop, IsWithinLimits}
 use Rattle.flow_shop.specs.Paths.{span}
 use Rattle.flow_shop.specs.Sequences.{IsSequence, jobs_left, cut}
 use Rattle.flow_shop.specs.SequenceFaults.{sequence_fault}
-use Rattle.flow_shop.specs.Bound.{bound_of}
+use Rattle.flow_shop.specs.Bound.{Bound, bound_of}
 use Rattle.flow_shop.specs.declared.sequence.SequenceFault.{SequenceFault}
 use Rattle.flow_shop.proofs.SequenceLemmas.{sequence-fault-none-is, is-fault-none}
 use Rattle.flow_check.specs.Certificate.{Covers}
@@ -54,7 +54,7 @@ among-kind kind lawful faulty fault each (job ∷ jobs) text (inl h) = each job 
 among-kind kind lawful faulty fault each (job ∷ jobs) text (inr h) =
     among-kind kind lawful faulty fault each jobs h.1 h.4
 
-tree-kind : (shop : Shop) (bound : Shop → List ℕ → ℕ → ℕ) (value place left : ℕ) (node text : List ℕ)
+tree-kind : (shop : Shop) (bound : Bound) (value place left : ℕ) (node text : List ℕ)
     (fault : CheckFault) → HasTreeFault shop bound value place left node text fault → IsOfTrees fault
 tree-kind shop bound value place zero node text fault (inl h) = subst IsOfTrees (sym h.0) tt
 tree-kind shop bound value place zero node text fault (inr h) = subst IsOfTrees (sym h.0) tt
@@ -66,7 +66,7 @@ tree-kind shop bound value place (suc left) node text fault (inr (inr h)) =
     (λ job more bad. tree-kind shop bound value place left (node ++ job ∷ []) more fault bad)
     (jobs_left shop.jobs node) h.0 h.2
 
-line-kind : (shop : Shop) (bound : Shop → List ℕ → ℕ → ℕ) (value left : ℕ) (prefixes : List (List ℕ)) (place : ℕ)
+line-kind : (shop : Shop) (bound : Bound) (value left : ℕ) (prefixes : List (List ℕ)) (place : ℕ)
     (text : List ℕ) (fault : CheckFault) → HasLineFault shop bound value left prefixes place text fault →
     IsOfTrees fault
 line-kind shop bound value left [] place text fault h = subst IsOfTrees (sym h.0) tt

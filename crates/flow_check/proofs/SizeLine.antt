@@ -9,7 +9,7 @@ use Rattle.std.proofs.lemmas.Slice.Eq.{strip_prefix_is}
 use Rattle.flow_shop.specs.Limits.{greatest_depth}
 use Rattle.std.specs.Prelude.{codes}
 use Rattle.flow_check.specs.TextLines.{line, spaced, title}
-use Rattle.flow_check.specs.internal.Heading.{BeginsWithNumber, BeginsWithSize}
+use Rattle.flow_check.specs.internal.Heading.{BeginsWithNumber}
 use Rattle.flow_check.specs.internal.TwoEndedLines.{BeginsWithBounds}
 use Rattle.flow_check.specs.declared.bounds.Bounds.{Bounds}
 
@@ -27,11 +27,6 @@ size-parts a b d rest =
     append_assoc (decimal a ++ 32 ∷ (decimal b ++ 32 ∷ decimal d)) (10 ∷ []) rest
     ∙ append_assoc (decimal a) (32 ∷ (decimal b ++ 32 ∷ decimal d)) (10 ∷ rest)
     ∙ ap (λ xs. decimal a ++ 32 ∷ xs) (append_assoc (decimal b) (32 ∷ decimal d) (10 ∷ rest))
-
-pub first-number : (jobs machines : ℕ) (text rest : List ℕ) (depth : ℕ) → jobs < 2 ^ 64 →
-    BeginsWithSize jobs machines text depth rest →
-    BeginsWithNumber text 32 jobs (decimal machines ++ 32 ∷ (decimal depth ++ 10 ∷ rest))
-first-number jobs machines text rest depth fits h = (fits, h.2 ∙ size-parts jobs machines depth rest)
 
 pub depth-fits : (depth : ℕ) → depth ≤ greatest_depth → depth < 2 ^ 64
 depth-fits depth h = let small : depth ≤ 3 = h in omega arith

@@ -11,9 +11,9 @@ use Rattle.flow_shop.proofs.Bools.{both-true}
 use Rattle.flow_shop.specs.Shop.{Shop}
 use Rattle.flow_shop.specs.Paths.{span}
 use Rattle.flow_shop.specs.Sequences.{jobs_left}
-use Rattle.flow_shop.specs.Bound.{letter}
+use Rattle.flow_shop.specs.Bound.{Bound, letter, point, plus}
 use Rattle.flow_shop.specs.Characters.{line_feed}
-use Rattle.flow_check.specs.Certificate.{Covers, point, plus}
+use Rattle.flow_check.specs.Certificate.{Covers}
 use Rattle.flow_check.specs.TextLines.{line, ending}
 use Rattle.flow_check.specs.CertificateFaults.{BeginsWith, HasFaultAmong, HasTreeFault, HasLineFault}
 use Rattle.flow_check.specs.internal.ReadTrees.{read_tree, each_tree, then_read, leaf_fault, cut_fault, is_letter}
@@ -91,7 +91,7 @@ among-has read lawful faulty sound bad (job ∷ jobs) text =
     among-step read lawful faulty job jobs text sound (among-has read lawful faulty sound bad jobs) (read job text) refl
     (bad job text)
 
-pub tree-has : (shop : Shop) (bound : Shop → List ℕ → ℕ → ℕ) (value place left : ℕ) (node text : List ℕ) →
+pub tree-has : (shop : Shop) (bound : Bound) (value place left : ℕ) (node text : List ℕ) →
     IfErr (read_tree shop bound value place left node text)
     (λ fault. HasTreeFault shop bound value place left node text fault)
 tree-has shop bound value place zero node [] = inl (refl, nothing-begins point)
@@ -178,7 +178,7 @@ among-read read lawful faulty whole bad (job ∷ jobs) text fault (inr later) =
     ∙ ap (λ r. then_read r (each_tree read jobs)) (whole job later.0 later.1 later.3)
     ∙ among-read read lawful faulty whole bad jobs later.1 fault later.4
 
-pub tree-read : (shop : Shop) (bound : Shop → List ℕ → ℕ → ℕ) (value place left : ℕ) (node text : List ℕ)
+pub tree-read : (shop : Shop) (bound : Bound) (value place left : ℕ) (node text : List ℕ)
     (fault : CheckFault) → HasTreeFault shop bound value place left node text fault →
     read_tree shop bound value place left node text ≡ Err fault
 tree-read shop bound value place zero node [] fault (inl h) = ap refused (sym h.0)
@@ -239,7 +239,7 @@ okay value = Ok value
 abbrev none : CheckFault → Result ℕ CheckFault
 none fault = Err fault
 
-read-to : (shop : Shop) (bound : Shop → List ℕ → ℕ → ℕ) (value left : ℕ) (prefix : List ℕ)
+read-to : (shop : Shop) (bound : Bound) (value left : ℕ) (prefix : List ℕ)
     (prefixes : List (List ℕ)) (place : ℕ) (text tree rest : List ℕ) → text ≡ tree ++ rest →
     Covers shop bound value left prefix tree → trees_value shop bound value left (prefix ∷ prefixes) place text
     ≡ after_tree place (trees_value shop bound value left prefixes (place + 1)) (Ok rest)
@@ -260,7 +260,7 @@ ending-has : (P : CheckFault → Type 0) (value : ℕ) (b : Bool) → (b ≡ fal
 ending-has P value true none = tt
 ending-has P value false none = none refl
 
-line-has : (shop : Shop) (bound : Shop → List ℕ → ℕ → ℕ) (value left : ℕ) (prefix : List ℕ)
+line-has : (shop : Shop) (bound : Bound) (value left : ℕ) (prefix : List ℕ)
     (prefixes : List (List ℕ)) (place : ℕ) (text : List ℕ) →
     ((lines : List ℕ) → IfErr (trees_value shop bound value left prefixes (place + 1) lines)
     (λ fault. HasLineFault shop bound value left prefixes (place + 1) lines fault)) →
@@ -296,7 +296,7 @@ line-has shop bound value left prefix prefixes place text later (Ok (byte ∷ li
           ))
     ]
 
-pub lines-have : (shop : Shop) (bound : Shop → List ℕ → ℕ → ℕ) (value left : ℕ) (prefixes : List (List ℕ))
+pub lines-have : (shop : Shop) (bound : Bound) (value left : ℕ) (prefixes : List (List ℕ))
     (place : ℕ) (text : List ℕ) → IfErr (trees_value shop bound value left prefixes place text)
     (λ fault. HasLineFault shop bound value left prefixes place text fault)
 lines-have shop bound value left [] place text =
@@ -306,7 +306,7 @@ lines-have shop bound value left (prefix ∷ prefixes) place text =
     line-has shop bound value left prefix prefixes place text (lines-have shop bound value left prefixes (place + 1))
     (read_tree shop bound value place left prefix text) refl (tree-has shop bound value place left prefix text)
 
-pub lines-read : (shop : Shop) (bound : Shop → List ℕ → ℕ → ℕ) (value left : ℕ) (prefixes : List (List ℕ))
+pub lines-read : (shop : Shop) (bound : Bound) (value left : ℕ) (prefixes : List (List ℕ))
     (place : ℕ) (text : List ℕ) (fault : CheckFault) →
     HasLineFault shop bound value left prefixes place text fault →
     trees_value shop bound value left prefixes place text ≡ Err fault

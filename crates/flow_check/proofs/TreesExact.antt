@@ -8,7 +8,7 @@ use Rattle.flow_shop.proofs.Bools.{both-true}
 use Rattle.flow_shop.specs.Shop.{Shop}
 use Rattle.flow_shop.specs.Paths.{span}
 use Rattle.flow_shop.specs.Sequences.{jobs_left}
-use Rattle.flow_shop.specs.Bound.{letter}
+use Rattle.flow_shop.specs.Bound.{Bound, letter}
 use Rattle.flow_check.specs.Certificate.{Covers}
 use Rattle.flow_check.specs.TextLines.{line, ending}
 use Rattle.flow_check.specs.internal.ReadTrees.{read_tree, each_tree, then_read, leaf_fault, cut_fault, is_letter}
@@ -76,7 +76,7 @@ each-sound read c sound (job ∷ jobs) bytes rest e =
     (read job bytes) (λ mid f. sound job bytes mid f) e
 
 -- a text that is read is a covering tree and what follows it
-pub tree-sound : (shop : Shop) (bound : Shop → List ℕ → ℕ → ℕ) (value place left : ℕ) (node bytes rest : List ℕ) →
+pub tree-sound : (shop : Shop) (bound : Bound) (value place left : ℕ) (node bytes rest : List ℕ) →
     read_tree shop bound value place left node bytes ≡ Ok rest → (part : List ℕ) × (bytes ≡ part ++ rest)
     × Covers shop bound value left node part
 tree-sound shop bound value place zero node [] rest e = absurd (err-ok (Tree place) rest e)
@@ -134,7 +134,7 @@ each-complete read c whole (job ∷ jobs) (p ∷ ps) rest z =
     ∙ each-complete read c whole jobs ps rest z.1
 
 -- a covering tree is read
-pub tree-complete : (shop : Shop) (bound : Shop → List ℕ → ℕ → ℕ) (value place left : ℕ) (node part rest : List ℕ) →
+pub tree-complete : (shop : Shop) (bound : Bound) (value place left : ℕ) (node part rest : List ℕ) →
     Covers shop bound value left node part → read_tree shop bound value place left node (part ++ rest) ≡ Ok rest
 tree-complete shop bound value place zero node part rest c =
     ap (λ t. read_tree shop bound value place zero node (t ++ rest)) c.0
@@ -179,7 +179,7 @@ pub passes : {A : Type 0} (b : Bool) (next : Result A CheckFault) (fault : Check
 passes true next fault v e = (refl, e)
 passes false next fault v e = absurd (fault-value fault v e)
 
-abbrev AreTreeLines : Shop → (Shop → List ℕ → ℕ → ℕ) → ℕ → ℕ → List (List ℕ) → List ℕ → Type 0
+abbrev AreTreeLines : Shop → Bound → ℕ → ℕ → List (List ℕ) → List ℕ → Type 0
 AreTreeLines shop bound value left prefixes bytes =
     (trees : List (List ℕ)) × (bytes ≡ flat_map line trees ++ line ending)
     × AllZip (λ prefix tree. Covers shop bound value left prefix tree) prefixes trees

@@ -15,7 +15,7 @@ use Rattle.flow_shop.specs.declared.end.End.{End}
 use Rattle.flow_shop.specs.Ends.{end_bound}
 use Rattle.flow_shop.specs.Directions.{first_with, last_with}
 use Rattle.flow_nodes.specs.Nodes.{IsJob}
-use Rattle.flow_nodes.specs.Groups.{child_bound}
+use Rattle.flow_nodes.specs.Groups.{child_bound, group_count}
 use Rattle.flow_check.specs.declared.fault.CheckFault.TheVariants.{Low, Tree}
 use Rattle.flow_nodes.specs.declared.marks.Marks.{Marks}
 use Rattle.flow_check.specs.declared.two_ended.walk.NodeFrame.{NodeFrame}
@@ -179,7 +179,7 @@ module _ (shop : Shop) (number : ℕ) (whole : Reading) (text : List ℕ) (place
       ∙ children-past shop number frame.end left first last (drop place text)
       (frame.job + 1 + (shop.jobs - frame.job)) (omega (arith, within))
 
-  module _ (job : ℕ) (above : frame.job < job) (inside : (job - 1) / 16 < (shop.jobs + 15) / 16)
+  module _ (job : ℕ) (above : frame.job < job) (inside : (job - 1) / 16 < group_count shop.jobs)
       (marked : job_mark frame.below job ≡ 1)
       (least : (other : ℕ) → frame.job < other → other < job → job_mark frame.below other ≡ 0) where
     pub opened : (job ≤ shop.jobs) × (has (first ++ last) job ≡ false)
@@ -297,7 +297,7 @@ left-back shop number frames aboves above old new are e left others same =
 -- or it goes to the next child below the number
 pub stands-child : (shop : Shop) (number : ℕ) (whole : Reading) (text : List ℕ) (place : ℕ) (frames : List NodeFrame)
     (frame child : NodeFrame) (job : ℕ) → Stands shop number whole text place frames frame → frame.job < job →
-    (job - 1) / 16 < (shop.jobs + 15) / 16 → job_mark frame.below job ≡ 1 →
+    (job - 1) / 16 < group_count shop.jobs → job_mark frame.below job ≡ 1 →
     ((other : ℕ) → frame.job < other → other < job → job_mark frame.below other ≡ 0) →
     length frames + 1 < shop.jobs → first_end (drop place text) ≡ Some child.end → child.job ≡ 0 →
     IsFrame shop number (first_with frame.end (first_of [] frames) job) (last_with frame.end (last_of [] frames) job)

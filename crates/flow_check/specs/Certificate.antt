@@ -1,26 +1,17 @@
--- Certificates: texts that prove a least makespan by trees. A bound of a list is a function from an instance, a list of
--- jobs and a machine to a number; each version of certificates has its own.
+-- Certificates: texts that prove a least makespan by trees. Each version of certificates has its own bound of lists.
 use Rattle.std.specs.Prelude.{ℕ, zero, suc, ◌≡◌, ◌-◌, ◌^◌, ◌<◌, ◌≤◌, ◌⊎◌, List, [], ◌∷◌, ◌++◌}
 use Rattle.std.specs.List.{AllZip, concat}
 use Rattle.flow_shop.specs.Limits.{greatest_depth}
 use Rattle.flow_shop.specs.Shop.{Shop, IsWithinLimits}
 use Rattle.flow_shop.specs.Paths.{span}
 use Rattle.flow_shop.specs.Sequences.{IsSequence, IsLowerBound, IsLeastMakespan, jobs_left, cut}
-use Rattle.flow_shop.specs.Bound.{bound_of, letter}
+use Rattle.flow_shop.specs.Bound.{Bound, bound_of, letter, point, plus}
 use Rattle.flow_check.specs.TextLines.{IsVersion, certificate_text}
 use Rattle.flow_check.specs.declared.bounds.Bounds.{Bounds}
 
--- the byte that is a tree where no job is left: `.`
-abbrev pub point : ℕ
-point = 46
-
--- the byte that begins a tree of more than one byte: `+`
-abbrev pub plus : ℕ
-plus = 43
-
 -- a text is a tree that covers a value below a list with so many jobs left: a point where none is left, the letter of
 -- a machine whose bound reaches the value, or a plus before the trees of the list's children in increasing order
-abbrev pub Covers : Shop → (Shop → List ℕ → ℕ → ℕ) → ℕ → ℕ → List ℕ → List ℕ → Type 0
+abbrev pub Covers : Shop → Bound → ℕ → ℕ → List ℕ → List ℕ → Type 0
 Covers shop bound value zero jobs text = (text ≡ point ∷ []) × (value ≤ span shop jobs)
 Covers shop bound value (suc left) jobs text =
     ((machine : ℕ) × (1 ≤ machine) × (machine ≤ shop.machines)

@@ -5,8 +5,8 @@ use Rattle.flow_shop.specs.Characters.{line_feed}
 use Rattle.flow_shop.specs.Shop.{Shop, IsWithinLimits}
 use Rattle.flow_shop.specs.Paths.{span}
 use Rattle.flow_shop.specs.Sequences.{IsSequence, jobs_left, cut}
-use Rattle.flow_shop.specs.Bound.{bound_of, letter}
-use Rattle.flow_check.specs.Certificate.{Covers, IsCertificate, point, plus}
+use Rattle.flow_shop.specs.Bound.{Bound, bound_of, letter, point, plus}
+use Rattle.flow_check.specs.Certificate.{Covers, IsCertificate}
 use Rattle.flow_check.specs.TextLines.{IsVersion, IsDepth}
 use Rattle.flow_check.specs.TextLines.{line, ending, upto_title, upto_sizes, upto_value, heading}
 use Rattle.flow_check.specs.declared.fault.CheckFault.{CheckFault}
@@ -36,7 +36,7 @@ HasFaultAmong lawful faulty (item ∷ items) text fault =
 -- Where no job is left: it begins with no point, or the makespan is below the value. Where jobs are left: it begins
 -- neither with a plus nor with the letter of a machine, or with the letter of a machine whose bound is below the value;
 -- or, after a plus, the trees of the list's children have the fault
-abbrev pub HasTreeFault : Shop → (Shop → List ℕ → ℕ → ℕ) → ℕ → ℕ → ℕ → List ℕ → List ℕ → CheckFault → Type 0
+abbrev pub HasTreeFault : Shop → Bound → ℕ → ℕ → ℕ → List ℕ → List ℕ → CheckFault → Type 0
 HasTreeFault shop bound value place zero jobs text fault =
     ((fault ≡ Tree place) × ¬ BeginsWith text (point ∷ []))
     ⊎ ((fault ≡ Low place) × BeginsWith text (point ∷ []) × (span shop jobs < value))
@@ -49,11 +49,10 @@ HasTreeFault shop bound value place (suc left) jobs text fault =
     × HasFaultAmong (λ job. Covers shop bound value left (jobs ++ job ∷ []))
     (λ job. HasTreeFault shop bound value place left (jobs ++ job ∷ [])) (jobs_left shop.jobs jobs) children fault)
 
--- a text should be the lines of a tree for each prefix, from this line on, and the last line. This is the fault of the
--- first line: in its tree, or that it goes on after its tree; or the fault of a later line; or after the last tree the
--- text is not the last line
-abbrev pub HasLineFault :
-    Shop → (Shop → List ℕ → ℕ → ℕ) → ℕ → ℕ → List (List ℕ) → ℕ → List ℕ → CheckFault → Type 0
+-- a text should be a line for each prefix, with a tree for it, and then the last line. It has this fault. Where no
+-- prefix is left, the text is not the last line. Else the fault is in the tree of the first prefix; or the line goes on
+-- after this tree; or the fault is in what follows the line
+abbrev pub HasLineFault : Shop → Bound → ℕ → ℕ → List (List ℕ) → ℕ → List ℕ → CheckFault → Type 0
 HasLineFault shop bound value left [] place text fault = (fault ≡ End) × (text ≢ line ending)
 HasLineFault shop bound value left (prefix ∷ prefixes) place text fault =
     HasTreeFault shop bound value place left prefix text fault

@@ -16,18 +16,16 @@ use crate::bounds::Bounds;
 use crate::fault::CheckFault;
 use crate::heading::read_heading;
 use crate::shown::Shown;
+use crate::texts::LAST_LINE;
 use crate::trees::trees_end;
 use flow_shop::{Instance, Sequence};
 use std::alloc::Global;
-
-/// The last line, with its end.
-const ENDING: &[u8] = b"end\n";
 
 /// Whether a text is the last line alone.
 pub(crate) fn is_ending(text: &[u8]) -> bool
     ensures { result ≡ bytes_eq text.now (line ending) }
 {
-    text == ENDING
+    text == LAST_LINE
 }
 
 /// What a lawful certificate shows, or the first fault of the text. Its value is both bounds.

@@ -7,11 +7,13 @@ ghost use Rattle.flow_shop.specs.Paths.{span};
 ghost use Rattle.flow_check.specs.CertificateFaults.{UnlessMemory};
 ghost use Rattle.flow_check.specs.TextLines.{IsVersion, line, title};
 ghost use Rattle.flow_check.specs.internal.Reading.{text_value};
-ghost use Rattle.flow_check.specs.internal.Heading.{BeginsWithJob, BeginsWithSize, BeginsWithSequence, end_of};
+ghost use Rattle.flow_check.specs.internal.Heading.{BeginsWithCounts, BeginsWithJob, BeginsWithSize};
+ghost use Rattle.flow_check.specs.internal.Heading.{BeginsWithSequence, end_of};
 ghost use Rattle.flow_check.specs.internal.Heading.{BeginsWithHeading, IsHeadingOf, IsSequenceFault};
 
 use crate::fault::CheckFault;
 use crate::number::read_number;
+use crate::texts::TITLE;
 use flow_limits::{MAX_DEPTH, MAX_VERSION, MIN_VERSION};
 use flow_shop::{Front, Instance, JobSet, Sequence, front_push};
 use std::alloc::Global;
@@ -48,12 +50,28 @@ fn read_title(text: &[u8]) -> Option<(u32, &[u8])>
     ensures only { (version : ℕ) (rest : List ℕ) → IsVersion version → text.now ≡ line (title version) ++ rest →
         IsSomeAnd result (λ r. (r.0 ≡ version) × (r.1.now ≡ rest)) }
 {
-    let number = text.strip_prefix(b"flowshop certificate ")?;
+    let number = text.strip_prefix(TITLE)?;
     let (version, rest) = read_number(number, b'\n')?;
     if version < u64::from(MIN_VERSION) || version > u64::from(MAX_VERSION) {
         return None;
     }
     Some((version as u32, rest))
+}
+
+/// The text after two numbers with which a text begins: so many jobs, and so many machines. A space ends the first
+/// number, `end` the second.
+pub(crate) fn after_counts(jobs: u16, machines: u16, text: &[u8], end: u8) -> Option<&[u8]>
+    requires { end < 48 }
+    ensures found { IfSome result (λ rest. BeginsWithCounts jobs machines text.now end rest.now) }
+    ensures only { (rest : List ℕ) → BeginsWithCounts jobs machines text.now end rest →
+        IsSomeAnd result (λ r. r.now ≡ rest) }
+{
+    let (first, machines_text) = read_number(text, b' ')?;
+    let (second, rest) = read_number(machines_text, end)?;
+    if first != u64::from(jobs) || second != u64::from(machines) {
+        return None;
+    }
+    Some(rest)
 }
 
 /// The depth in the line of the sizes, with which a text begins, and the text after that line. `None` where the text
@@ -63,12 +81,8 @@ fn read_size(jobs: u16, machines: u16, text: &[u8]) -> Option<(u16, &[u8])>
     ensures only { (depth : ℕ) (rest : List ℕ) → BeginsWithSize jobs machines text.now depth rest →
         IsSomeAnd result (λ r. (r.0 ≡ depth) × (r.1.now ≡ rest)) }
 {
-    let (first, machines_text) = read_number(text, b' ')?;
-    let (second, depth_text) = read_number(machines_text, b' ')?;
+    let depth_text = after_counts(jobs, machines, text, b' ')?;
     let (depth, rest) = read_number(depth_text, b'\n')?;
-    if first != u64::from(jobs) || second != u64::from(machines) {
-        return None;
-    }
     if depth > u64::from(jobs) || depth > u64::from(MAX_DEPTH) {
         return None;
     }

@@ -11,7 +11,7 @@ use crate::reader::{Spot, TreeReader};
 use crate::release::reaches;
 use crate::trees_text::TreesText;
 
-/// How many jobs are left at a list, or at a child of it, where `below` jobs are left at each child.
+/// How many jobs are left at a list, or at a child of it, where `child_left` jobs are left at each child.
 fn left_here(child: Option<u16>, child_left: usize) -> usize
     requires { child_left ≤ 65535 }
     ensures { result ≡ left_here child child_left }

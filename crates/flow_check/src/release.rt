@@ -42,7 +42,7 @@ pub(crate) fn unknown_lags(
     Ok(lags)
 }
 
-/// Forgets all lags that are known. No other place is written, since most are not known each time.
+/// Forgets all lags that are known. Most places are not known, and those are not written.
 pub(crate) fn forget(lags: &mut [Option<TwoLeastLags>])
     ensures size { length lags.new ≡ length lags.old }
     ensures none { AreUnknown lags.new }

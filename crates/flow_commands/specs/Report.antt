@@ -2,11 +2,12 @@
 use Rattle.std.specs.Prelude.{ℕ, ◌≡◌, ◌-◌, ◌==◌, ◌||◌, Bool, false, true, cond, nat_eq, List, length, ◌++◌}
 use Rattle.std.specs.Prelude.{codes, decimal, Some, None}
 use Rattle.std.specs.List.{count_by}
+use Rattle.flow_core.specs.Bound.{plus}
 use Rattle.flow_core.specs.Characters.{line_feed}
 use Rattle.flow_core.specs.Generator.{generated, generator_fault}
 use Rattle.flow_core.specs.Shop.{IsWithinLimits, Shop, is_same_shop}
 use Rattle.flow_core.specs.declared.text.block.Block.{Block}
-use Rattle.flow_check.specs.Certificate.{Shows, plus}
+use Rattle.flow_check.specs.Certificate.{Shows}
 use Rattle.flow_check.specs.TextLines.{certificate_text}
 use Rattle.flow_check.specs.TwoEnded.{IsTwoEnded}
 use Rattle.flow_check.specs.declared.bounds.Bounds.{Bounds}

@@ -1,12 +1,12 @@
 -- What is kept of the nodes whose children are read.
-use Rattle.std.specs.Prelude.{ℕ, ◌≡◌, ◌+◌, ◌-◌, ◌/◌, ◌<◌, ◌≤◌, false, List, [], ◌∷◌, ◌++◌, slice_index_or, take}
+use Rattle.std.specs.Prelude.{ℕ, ◌≡◌, ◌-◌, ◌/◌, ◌<◌, ◌≤◌, false, List, [], ◌∷◌, ◌++◌, slice_index_or, take}
 use Rattle.flow_shop.specs.Shop.{Shop}
 use Rattle.flow_shop.specs.Sequences.{has}
 use Rattle.flow_shop.specs.Directions.{first_with, last_with}
 use Rattle.flow_shop.specs.declared.end.End.{End}
 use Rattle.flow_shop.specs.declared.end.End.TheVariants.{Front}
 use Rattle.flow_nodes.specs.Nodes.{IsNode}
-use Rattle.flow_nodes.specs.Groups.{child_bound}
+use Rattle.flow_nodes.specs.Groups.{child_bound, group_count}
 use Rattle.flow_check.specs.internal.Marks.{job_mark}
 use Rattle.flow_nodes.specs.declared.marks.Marks.{Marks}
 use Rattle.flow_check.specs.declared.two_ended.walk.NodeFrame.{NodeFrame}
@@ -21,7 +21,7 @@ pub record AreLeft (shop : Shop) (first last : List ℕ) (marks : Marks) : Type 
 pub record AreOpen (shop : Shop) (number : ℕ) (end : End) (first last : List ℕ) (marks : Marks) : Type 0 where
   pub all : (job : ℕ) → 1 ≤ job → job ≤ shop.jobs → has (first ++ last) job ≡ false →
       child_bound shop end first last job < number → job_mark marks job ≡ 1
-  pub only : (job : ℕ) → 1 ≤ job → (job - 1) / 16 < (shop.jobs + 15) / 16 → job_mark marks job ≡ 1 →
+  pub only : (job : ℕ) → 1 ≤ job → (job - 1) / 16 < group_count shop.jobs → job_mark marks job ≡ 1 →
       (job ≤ shop.jobs) × (has (first ++ last) job ≡ false) × (child_bound shop end first last job < number)
 
 -- the frame of a node

@@ -8,7 +8,7 @@ use Rattle.flow_check.specs.declared.fault.CheckFault.{CheckFault}
 use Rattle.flow_check.specs.declared.reader.Spot.{Spot}
 use Rattle.flow_check.specs.declared.trees_text.TreesText.{TreesText}
 
--- a place of the text: as many lines stand before it as bytes at most, besides the four lines before the trees
+-- a place of the text. The first tree is in line 5, and each byte before the place ends one line at most
 abbrev pub IsSpotOf : TreesText → Spot → Type 0
 IsSpotOf text spot = (spot.at ≤ length text.bytes.now) × (spot.line ≤ spot.at + 5)
 

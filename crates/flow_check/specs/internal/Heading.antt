@@ -29,6 +29,10 @@ is_further value started byte =
 abbrev pub BeginsWithJob : ℕ → List ℕ → ℕ → ℕ → List ℕ → Type 0
 BeginsWithJob n text end job rest = (1 ≤ job) × (job ≤ n) × (text ≡ decimal job ++ end ∷ rest)
 
+-- a text begins with two numbers, so many jobs and so many machines. A space ends the first, another byte the second
+abbrev pub BeginsWithCounts : ℕ → ℕ → List ℕ → ℕ → List ℕ → Type 0
+BeginsWithCounts jobs machines text end rest = text ≡ decimal jobs ++ space ∷ (decimal machines ++ end ∷ rest)
+
 -- a text begins with the line of so many jobs and machines, and a depth
 abbrev pub BeginsWithSize : ℕ → ℕ → List ℕ → ℕ → List ℕ → Type 0
 BeginsWithSize jobs machines text depth rest =

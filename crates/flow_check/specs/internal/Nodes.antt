@@ -17,8 +17,7 @@ AreTwoLeastTails shop list machine two =
     (two.least ≡ least_below least_of_none (tails shop machine (jobs_left shop.jobs list)))
     × (two.second ≡ second_below least_of_none least_of_none (tails shop machine (jobs_left shop.jobs list)))
 
--- the two least tails after each machine, where they are known; where they are not, the least is what stands for that of
--- no numbers
+-- the two least tails after each machine. Where they are not known, the least is the number that stands for no tail
 pub record AreKnown (shop : Shop) (list least second : List ℕ) : Type 0 where
   pub each : (machine : ℕ) → 1 ≤ machine → machine ≤ shop.machines →
       (slice_index least (machine - 1) ≡ least_of_none)

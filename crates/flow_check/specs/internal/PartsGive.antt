@@ -3,8 +3,7 @@ use Rattle.std.specs.Prelude.{ℕ, ◌≡◌, ◌+◌, ◌≤◌, ◌<◌, Bool,
 use Rattle.std.specs.Prelude.{drop, Result, Ok, Err}
 use Rattle.flow_shop.specs.Shop.{Shop}
 use Rattle.flow_shop.specs.Characters.{line_feed}
-use Rattle.flow_shop.specs.Bound.{bound_of}
-use Rattle.flow_check.specs.Certificate.{plus}
+use Rattle.flow_shop.specs.Bound.{bound_of, plus}
 use Rattle.flow_check.specs.internal.ReadTrees.{read_tree, after_tree, trees_value}
 use Rattle.flow_check.specs.declared.fault.CheckFault.{CheckFault}
 use Rattle.flow_check.specs.declared.fault.CheckFault.TheVariants.{Memory, Tree}

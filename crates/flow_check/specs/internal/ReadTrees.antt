@@ -5,9 +5,8 @@ use Rattle.std.specs.Str.{bytes_eq}
 use Rattle.flow_shop.specs.Shop.{Shop}
 use Rattle.flow_shop.specs.Paths.{span}
 use Rattle.flow_shop.specs.Sequences.{jobs_left, cut}
-use Rattle.flow_shop.specs.Bound.{bound_of}
+use Rattle.flow_shop.specs.Bound.{Bound, bound_of, point, plus}
 use Rattle.flow_shop.specs.Characters.{line_feed}
-use Rattle.flow_check.specs.Certificate.{point, plus}
 use Rattle.flow_check.specs.TextLines.{line, ending}
 use Rattle.flow_check.specs.declared.fault.CheckFault.{CheckFault}
 use Rattle.flow_check.specs.declared.fault.CheckFault.TheVariants.{Tree}
@@ -37,7 +36,7 @@ leaf_fault point high place rest = cond point (cond high (Ok rest) (Err (Low pla
 
 -- the text after a tree that covers a value below a list with so many jobs left; or the fault of its first faulty
 -- byte
-abbrev pub read_tree : Shop → (Shop → List ℕ → ℕ → ℕ) → ℕ → ℕ → ℕ → List ℕ → List ℕ → Result (List ℕ) CheckFault
+abbrev pub read_tree : Shop → Bound → ℕ → ℕ → ℕ → List ℕ → List ℕ → Result (List ℕ) CheckFault
 read_tree shop bound value place zero jobs [] = Err (Tree place)
 read_tree shop bound value place zero jobs (byte ∷ rest) =
     leaf_fault (nat_eq byte point) (nat_le value (span shop jobs)) place rest
@@ -58,7 +57,7 @@ abbrev pub end_value : ℕ → List ℕ → Result ℕ CheckFault
 end_value value bytes = cond (bytes_eq bytes (line ending)) (Ok value) (Err End)
 
 -- the lines from this one on: a tree for each prefix, and the last line
-abbrev pub trees_value : Shop → (Shop → List ℕ → ℕ → ℕ) → ℕ → ℕ → List (List ℕ) → ℕ → List ℕ → Result ℕ CheckFault
+abbrev pub trees_value : Shop → Bound → ℕ → ℕ → List (List ℕ) → ℕ → List ℕ → Result ℕ CheckFault
 trees_value shop bound value left [] place bytes = end_value value bytes
 trees_value shop bound value left (prefix ∷ prefixes) place bytes =
     after_tree place (trees_value shop bound value left prefixes (place + 1))

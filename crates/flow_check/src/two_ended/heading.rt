@@ -11,8 +11,9 @@ ghost use Rattle.flow_check.specs.declared.bounds.Bounds.{Bounds};
 
 use crate::bounds::Bounds;
 use crate::fault::CheckFault;
-use crate::heading::read_sequence_line;
+use crate::heading::{after_counts, read_sequence_line};
 use crate::number::read_number;
+use crate::texts::TWO_ENDED_TITLE;
 use flow_shop::{Instance, Sequence};
 use std::alloc::Global;
 
@@ -32,7 +33,7 @@ pub(crate) fn after_title(text: &[u8]) -> Option<&[u8]>
     ensures found { IfSome result (λ rest. text.now ≡ title_line ++ rest.now) }
     ensures only { (rest : List ℕ) → text.now ≡ title_line ++ rest → IsSomeAnd result (λ r. r.now ≡ rest) }
 {
-    text.strip_prefix(b"flowshop two-ended 1\n")
+    text.strip_prefix(TWO_ENDED_TITLE)
 }
 
 /// The text after the line of so many jobs and machines, with which a text begins.
@@ -41,12 +42,7 @@ fn after_size(jobs: u16, machines: u16, text: &[u8]) -> Option<&[u8]>
     ensures only { (rest : List ℕ) → BeginsWithJobs jobs machines text.now rest →
         IsSomeAnd result (λ r. r.now ≡ rest) }
 {
-    let (first, machines_text) = read_number(text, b' ')?;
-    let (second, rest) = read_number(machines_text, b'\n')?;
-    if first != u64::from(jobs) || second != u64::from(machines) {
-        return None;
-    }
-    Some(rest)
+    after_counts(jobs, machines, text, b'\n')
 }
 
 /// The bounds in the line with which a text begins, and the text after that line.

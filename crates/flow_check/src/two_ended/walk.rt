@@ -7,7 +7,7 @@ ghost use Rattle.flow_shop.specs.Shop.{Shop};
 ghost use Rattle.flow_shop.specs.Sequences.{has};
 ghost use Rattle.flow_shop.specs.Directions.{Proves, first_with, last_with};
 ghost use Rattle.flow_nodes.specs.Nodes.{IsJob, IsNode};
-ghost use Rattle.flow_nodes.specs.Groups.{AreGroups};
+ghost use Rattle.flow_nodes.specs.Groups.{AreGroups, group_count};
 ghost use Rattle.flow_nodes.specs.Lanes.{limit_of};
 ghost use Rattle.flow_check.specs.TwoEndedFaults.{HasDirectionsFault};
 ghost use Rattle.flow_check.specs.internal.Marks.{job_mark};
@@ -18,7 +18,7 @@ ghost use Rattle.flow_check.specs.declared.fault.CheckFault.TheVariants.{Memory}
 
 use crate::fault::CheckFault;
 use crate::two_ended::DIRECTIONS;
-use flow_nodes::{LANES, Lanes, Marks, Node, fits_narrow_lanes, groups, limit_of};
+use flow_nodes::{Lanes, Marks, Node, fits_narrow_lanes, group_count, groups, limit_of};
 use flow_shop::{End, Instance};
 use std::alloc::{AllocError, Global};
 use std::simd::prelude::*;
@@ -146,13 +146,13 @@ impl Path {
         );
     }
 
-    /// The next job to be put at the node, as its child is below the number.
+    /// The next job whose child at the node is below the number. `None` where no other such job is left.
     #[inline(always)]
     fn next(&self, jobs: u16) -> Option<u16>
         requires jobs { jobs ≤ most_jobs }
         requires within { self.now.depth < length self.now.frames.items }
         ensures above { IfSome result (λ next. (here self.now).job < next) }
-        ensures within { IfSome result (λ next. (next - 1) / 16 < (jobs + 15) / 16) }
+        ensures within { IfSome result (λ next. (next - 1) / 16 < group_count jobs) }
         ensures marked { IfSome result (λ next. job_mark (here self.now).below next ≡ 1) }
         ensures least { IfSome result (λ next. (other : ℕ) → (here self.now).job < other → other < next →
             job_mark (here self.now).below other ≡ 0) }
@@ -160,8 +160,7 @@ impl Path {
             job_mark (here self.now).below other ≡ 0) }
     {
         let frame = &self.frames[self.depth];
-        let words = (jobs as usize + (LANES - 1)) / LANES;
-        let place = frame.below.next(frame.job as usize, words)?;
+        let place = frame.below.next(frame.job as usize, group_count(jobs))?;
         Some(place as u16 + 1)
     }
 

@@ -1,4 +1,4 @@
-use Rattle.std.proofs.Common.{◌≡◌, ◌++◌, List, ℕ, [], ◌∷◌, Option, append_assoc, ap, sym, ◌∙◌, subst}
+use Rattle.std.proofs.Common.{◌≡◌, ◌++◌, List, ℕ, [], ◌∷◌, Option, append_assoc, ap, subst}
 use Rattle.std.proofs.lemmas.Result.{on_ok_weaker, on_err_weaker}
 use Rattle.std.specs.Io.KnownBytes.{Appends}
 use Rattle.flow_text.specs.Bytes.{AddsProperPrefix}
@@ -7,20 +7,14 @@ use Rattle.flow_check.specs.TwoEnded.{sequence_lines}
 use Rattle.flow_cert.specs.internal.Gathered.{HandsOn}
 use Rattle.flow_cert.proofs.HandedOn.{on-err, then-hands, then-stops, then-puts, then-stops_putting, stops-early}
 use Rattle.flow_cert.proofs.two_ended.write_two_ended.Goals as goal
-use Rattle.flow_cert.proofs.two_ended.write_two_ended.Goals.{In_ok-add}
-
--- what stands behind the directions
-abbrev tail : List ℕ
-tail = 10 ∷ line ending
+use Rattle.flow_cert.proofs.two_ended.write_two_ended.Goals.{In_ok-add-2}
 
 -- a text in the pieces that are written
 abbrev pieces : List ℕ → List ℕ → List ℕ
-pieces lines directions = (lines ++ directions) ++ tail
+pieces lines directions = ((lines ++ directions) ++ 10 ∷ []) ++ line ending
 
 whole : (lines directions : List ℕ) → pieces lines directions ≡ lines ++ line directions ++ line ending
-whole lines directions =
-    sym (append_assoc (lines ++ directions) (10 ∷ []) (line ending))
-    ∙ ap (λ t. t ++ line ending) (append_assoc lines directions (10 ∷ []))
+whole lines directions = ap (λ t. t ++ line ending) (append_assoc lines directions (10 ∷ []))
 
 stops : (lines directions : List ℕ) (a b : Option (List ℕ)) → AddsProperPrefix a b (pieces lines directions) →
     AddsProperPrefix a b (lines ++ line directions ++ line ending)
@@ -35,7 +29,7 @@ returns-in_err-add_lines-clause-err g c =
     let lines : List ℕ = sequence_lines c.args.instance.now c.args.bounds c.args.sequence.now in
     on-err c.from_residual.result
     (stops lines c.args.directions.now _ _
-    (stops-early _ _ [] lines (c.args.directions.now ∷ tail ∷ [])
+    (stops-early _ _ [] lines (c.args.directions.now ∷ (10 ∷ []) ∷ line ending ∷ [])
     (rw c.none-gathered.ensures at c.in_err-add_lines.ensures.err)))
 
 pub returns-in_err-add-clause-err : goal.returns-in_err-add-clause-err
@@ -44,32 +38,44 @@ returns-in_err-add-clause-err g c =
     let handed = rw c.none-gathered.ensures at c.in_ok-add_lines.ensures.ok in
     on-err c.from_residual-in_err-add.result
     (stops lines c.args.directions.now _ _
-    (stops-early _ _ [] (lines ++ c.args.directions.now) (tail ∷ [])
+    (stops-early _ _ [] (lines ++ c.args.directions.now) ((10 ∷ []) ∷ line ending ∷ [])
     (then-stops _ c.args.directions.now handed c.in_err-add.ensures.err)))
-
--- the text up to the directions is handed on
-directed : (g : _) (c : In_ok-add g) →
-    HandsOn (g.S.Sink.taken c.args.out.now) (g.S.Sink.taken c.add.new.out) []
-    (sequence_lines c.args.instance.now c.args.bounds c.args.sequence.now ++ c.args.directions.now) c.add.new.self
-directed g c = then-hands (rw c.none-gathered.ensures at c.in_ok-add_lines.ensures.ok) c.in_ok-add.ensures.ok
 
 pub returns-in_err-add-2-clause-err : goal.returns-in_err-add-2-clause-err
 returns-in_err-add-2-clause-err g c =
+    let lines : List ℕ = sequence_lines c.args.instance.now c.args.bounds c.args.sequence.now in
+    let handed = rw c.none-gathered.ensures at c.in_ok-add_lines.ensures.ok in
     on-err c.from_residual-in_err-add-2.result
+    (stops lines c.args.directions.now _ _
+    (stops-early _ _ [] ((lines ++ c.args.directions.now) ++ 10 ∷ []) (line ending ∷ [])
+    (then-stops _ (10 ∷ []) (then-hands handed c.in_ok-add.ensures.ok) c.in_err-add-2.ensures.err)))
+
+-- the text up to the last line is handed on
+ended : (g : _) (c : In_ok-add-2 g) →
+    HandsOn (g.S.Sink.taken c.args.out.now) (g.S.Sink.taken c.add-2.new.out) []
+    ((sequence_lines c.args.instance.now c.args.bounds c.args.sequence.now ++ c.args.directions.now) ++ 10 ∷ [])
+    c.add-2.new.self
+ended g c =
+    then-hands (then-hands (rw c.none-gathered.ensures at c.in_ok-add_lines.ensures.ok) c.in_ok-add.ensures.ok)
+    c.in_ok-add-2.ensures.ok
+
+pub returns-in_err-add-3-clause-err : goal.returns-in_err-add-3-clause-err
+returns-in_err-add-3-clause-err g c =
+    on-err c.from_residual-in_err-add-3.result
     (stops (sequence_lines c.args.instance.now c.args.bounds c.args.sequence.now) c.args.directions.now _ _
-    (then-stops _ tail (directed g (goal.at.returns-in_err-add-2-clause-err g c).In_ok-add)
-    c.in_err-add-2.ensures.err))
+    (then-stops _ (line ending) (ended g (goal.at.returns-in_err-add-3-clause-err g c).In_ok-add-2)
+    c.in_err-add-3.ensures.err))
 
 pub returns-clause-ok : goal.returns-clause-ok
 returns-clause-ok g c =
     on_ok_weaker c.put.result
     (λ h. puts (sequence_lines c.args.instance.now c.args.bounds c.args.sequence.now) c.args.directions.now _ _
-    (then-puts _ (then-hands (directed g (goal.at.returns-clause-ok g c).In_ok-add) c.in_ok-add-2.ensures.ok) h))
+    (then-puts _ (then-hands (ended g (goal.at.returns-clause-ok g c).In_ok-add-2) c.in_ok-add-3.ensures.ok) h))
     c.put.ensures.ok
 
 pub returns-clause-err : goal.returns-clause-err
 returns-clause-err g c =
     on_err_weaker c.put.result
     (λ h. stops (sequence_lines c.args.instance.now c.args.bounds c.args.sequence.now) c.args.directions.now _ _
-    (then-stops_putting _ (then-hands (directed g (goal.at.returns-clause-err g c).In_ok-add)
-    c.in_ok-add-2.ensures.ok) h)) c.put.ensures.err
+    (then-stops_putting _ (then-hands (ended g (goal.at.returns-clause-err g c).In_ok-add-2)
+    c.in_ok-add-3.ensures.ok) h)) c.put.ensures.err

@@ -3,7 +3,7 @@ use Rattle.std.proofs.Common.{ap, sym, ◌∙◌, subst, arith, inl}
 use Rattle.flow_shop.specs.Ends.{end_bound}
 use Rattle.flow_shop.specs.Directions.{first_with, last_with}
 use Rattle.flow_nodes.specs.Nodes.{IsNode}
-use Rattle.flow_nodes.specs.Groups.{AreGroups}
+use Rattle.flow_nodes.specs.Groups.{AreGroups, group_count}
 use Rattle.flow_check.specs.internal.Frames.{AreLeft, first_of, last_of, frame_at, here, above, with_job}
 use Rattle.flow_check.specs.internal.ReadDirections.{first_end, read_node}
 use Rattle.flow_check.proofs.WalkSteps.{Stands, count-above, last-above, above-back, left-root, left-without}
@@ -153,7 +153,7 @@ walk-preserved g c =
     let put = with_job (here old) job in
     let next = c.in-Some-next.ensures in
     let stands = c.walk.invariant.stands in
-    let inside : (job - 1) / 16 < (shop.jobs + 15) / 16 = omega (arith, next.within, c.jobs-jobs.ensures.value) in
+    let inside : (job - 1) / 16 < group_count shop.jobs = omega (arith, next.within, c.jobs-jobs.ensures.value) in
     let is = opened shop number whole text c.walk.place (above old) (here old) (first_of [] (above old))
     (last_of [] (above old)) (shop.jobs - length (above old)) stands job next.above inside next.marked next.least in
     let groups : AreGroups g.V.Lanes.list g.V.Lanes.CAP g.V.Lanes.WIDTH shop c.as_slice-in-Some-next.result.now =
