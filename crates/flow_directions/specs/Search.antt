@@ -1,6 +1,6 @@
 -- The search for directions that prove a number: at which end it opens a node, and what it meets.
-use Rattle.std.specs.Prelude.{ℕ, zero, suc, ◌≡◌, ◌*◌, ◌<◌, ◌≤◌, ◌↔◌, min, All, Bool, cond, ◌||◌, ◌&&◌}
-use Rattle.std.specs.Prelude.{nat_eq, nat_lt, nat_le, List, [], ◌∷◌, ◌++◌, length, filter, sum_by, Option, Some, None}
+use Rattle.std.specs.Prelude.{ℕ, zero, suc, ◌≡◌, ◌*◌, ◌<◌, ◌≤◌, ◌↔◌, min, All, Bool, cond, ◌&&◌}
+use Rattle.std.specs.Prelude.{nat_lt, nat_le, List, [], ◌∷◌, ◌++◌, length, filter, sum_by, Option, Some, None}
 use Rattle.std.specs.List.{flat_map}
 use Rattle.flow_shop.specs.Shop.{Shop}
 use Rattle.flow_shop.specs.Paths.{span}
@@ -10,6 +10,7 @@ use Rattle.flow_shop.specs.Directions.{sign, first_with, last_with, ProvesFrom}
 use Rattle.flow_shop.specs.declared.end.End.{End}
 use Rattle.flow_shop.specs.declared.end.End.TheVariants.{Front, Back}
 use Rattle.flow_nodes.specs.Groups.{child_bound}
+use Rattle.flow_nodes.specs.PlainEnd.{plain_end_by}
 use Rattle.flow_directions.specs.declared.found.Found.{Found}
 use Rattle.flow_directions.specs.declared.found.Found.TheVariants.{Proved, Below, Over}
 use Rattle.flow_directions.specs.declared.found.Advanced.{Advanced}
@@ -30,21 +31,20 @@ count_below shop number end first last = length (jobs_below shop number end firs
 abbrev pub bound_sum : Shop → End → List ℕ → List ℕ → ℕ
 bound_sum shop end first last = sum_by (child_bound shop end first last) (jobs_left shop.jobs (first ++ last))
 
--- whether the plain rule takes the front: there fewer children are below the number; or as many are, and the bounds sum
--- to no less
-abbrev pub is_plain_front : Shop → ℕ → List ℕ → List ℕ → Bool
-is_plain_front shop number first last =
-    nat_lt (count_below shop number Front first last) (count_below shop number Back first last)
-    || (nat_eq (count_below shop number Front first last) (count_below shop number Back first last)
-    && nat_le (bound_sum shop Back first last) (bound_sum shop Front first last))
-
 -- the end that the plain rule takes
 abbrev pub plain_end : Shop → ℕ → List ℕ → List ℕ → End
-plain_end shop number first last = cond (is_plain_front shop number first last) Front Back
+plain_end shop number first last =
+    plain_end_by (count_below shop number Front first last) (count_below shop number Back first last)
+    (bound_sum shop Front first last) (bound_sum shop Back first last)
+
+-- the end that is not this one
+abbrev pub other : End → End
+other Front = Back
+other Back = Front
 
 -- the end that the plain rule does not take
 abbrev pub other_end : Shop → ℕ → List ℕ → List ℕ → End
-other_end shop number first last = cond (is_plain_front shop number first last) Back Front
+other_end shop number first last = other (plain_end shop number first last)
 
 -- how many children of a node are below the number at the end where they are fewer
 abbrev pub fewest_below : Shop → ℕ → List ℕ → List ℕ → ℕ
@@ -57,8 +57,8 @@ weight shop number end first last =
     sum_by (λ job. fewest_below shop number (first_with end first job) (last_with end last job))
     (jobs_below shop number end first last)
 
--- whether the search looks ahead at a node: of the plain rule's end at least 2 children are below the number, of the
--- other end at most half as many more, and at least 3 jobs are left
+-- whether the search looks ahead at a node: at the plain rule's end at least 2 children are below the number, at the
+-- other end at most one and a half times as many, and at least 3 jobs are left
 abbrev pub looks_ahead : Shop → ℕ → List ℕ → List ℕ → Bool
 looks_ahead shop number first last =
     nat_le 2 (count_below shop number (plain_end shop number first last) first last)

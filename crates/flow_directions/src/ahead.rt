@@ -1,4 +1,5 @@
-//! The look-ahead: of two ends of a node the one whose children have fewer children.
+//! The look-ahead: a node is opened at the end that the plain rule does not take, where the children there that are
+//! below the number have fewer children below it.
 
 ghost use Rattle.std.specs.Prelude.{◌≡◌, ℕ, ◌*◌, ◌<◌, ◌≤◌, ◌&&◌, List, nat_le};
 ghost use Rattle.flow_limits.specs.Limits.{most_machines};
@@ -71,8 +72,8 @@ fn weigh<V: Lanes>(
     weight
 }
 
-/// Whether the search looks ahead, where so many children are below the number at the end of the plain rule and at the
-/// other one, and so many jobs are left.
+/// Whether the search looks ahead at a node, by how many of its children are below the number at the plain rule's end
+/// and at the other end, and by how many jobs are left.
 #[inline(always)]
 fn looks_ahead(plain: u32, other: u32, left: u32) -> bool
     ensures { result ≡ nat_le 2 plain && nat_le (2 * other) (3 * plain) && nat_le 3 left }

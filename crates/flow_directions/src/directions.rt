@@ -17,7 +17,7 @@ use crate::marked_node::MarkedNode;
 use crate::pack::Pack;
 use crate::start::StartNode;
 use crate::walk::{SearchStop, Terms, Written, search};
-use flow_nodes::{LANES, Lanes, Marks, fits_narrow_lanes, limit_of};
+use flow_nodes::{Lanes, Marks, fits_narrow_lanes, group_count, limit_of};
 use flow_shop::{Instance, Sequence, makespan};
 use std::alloc::{AllocError, Global};
 use std::simd::prelude::*;
@@ -39,7 +39,7 @@ fn packs_for<V: Lanes>(
         jobs ≤ length (slice_index_or packs.items 0 none).names.items) }
 {
     let mut packs = Vec::with_capacity(alloc, MOST_PACKS)?;
-    let mut groups = (jobs as usize + (LANES - 1)) / LANES;
+    let mut groups = group_count(jobs);
     packs.push(Pack::new(alloc, instance, groups)?)?;
     'packs: while groups > 1 {
         groups /= 2;

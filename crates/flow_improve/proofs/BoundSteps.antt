@@ -13,7 +13,7 @@ use Rattle.flow_nodes.specs.Lanes.{capped, HasLane}
 use Rattle.flow_nodes.specs.Nodes.{IsJob, IsNode}
 use Rattle.flow_nodes.specs.Groups.{AreNames, IsGroup, child_bound}
 use Rattle.flow_improve.specs.internal.Beams.{IsEntry, first_of, job_at, last_of}
-use Rattle.flow_improve.specs.internal.Opens.{bound_of, left_of}
+use Rattle.flow_improve.specs.internal.Opens.{bound_at_end, left_of}
 use Rattle.flow_improve.specs.declared.two_ended.entry.Entry.{Entry}
 use Rattle.flow_improve.proofs.EntrySteps.{is-left}
 
@@ -75,43 +75,43 @@ left-length shop entry is =
 -- the jobs of an entry between its lists, place by place
 module _ (shop : Shop) (entry : Entry) (end : End) (place bound : ℕ) (is : IsEntry shop entry)
     (from : entry.first ≤ place) (low : place < entry.before)
-    (bound_is : bound ≡ bound_of shop entry end (job_at entry place)) where
+    (bound_is : bound ≡ bound_at_end shop entry end (job_at entry place)) where
   next-place : place + 1 - entry.first ≡ place - entry.first + 1
   next-place = omega (arith, from)
 
   inside : place - entry.first < length (left_of entry)
   inside = omega (arith, left-length shop entry is, from, low)
 
-  job-is : bound_of shop entry end (slice_index (left_of entry) (place - entry.first)) ≡ bound
+  job-is : bound_at_end shop entry end (slice_index (left_of entry) (place - entry.first)) ≡ bound
   job-is =
-      ap (bound_of shop entry end) (left-at entry.jobs.items entry.first place entry.before from low
+      ap (bound_at_end shop entry end) (left-at entry.jobs.items entry.first place entry.before from low
       (omega (arith, is.within, is.jobs.whole))) ∙ sym bound_is
 
   -- one more bound is summed
-  pub sum-more : sum_by (bound_of shop entry end) (take (place + 1 - entry.first) (left_of entry))
-      ≡ sum_by (bound_of shop entry end) (take (place - entry.first) (left_of entry)) + bound
+  pub sum-more : sum_by (bound_at_end shop entry end) (take (place + 1 - entry.first) (left_of entry))
+      ≡ sum_by (bound_at_end shop entry end) (take (place - entry.first) (left_of entry)) + bound
   sum-more =
-      ap (λ n. sum_by (bound_of shop entry end) (take n (left_of entry))) next-place
-      ∙ sum_by_more (bound_of shop entry end) (left_of entry) (place - entry.first) 0 inside
-      ∙ ap (λ n. sum_by (bound_of shop entry end) (take (place - entry.first) (left_of entry)) + n) job-is
+      ap (λ n. sum_by (bound_at_end shop entry end) (take n (left_of entry))) next-place
+      ∙ sum_by_more (bound_at_end shop entry end) (left_of entry) (place - entry.first) 0 inside
+      ∙ ap (λ n. sum_by (bound_at_end shop entry end) (take (place - entry.first) (left_of entry)) + n) job-is
 
   -- one more child is below a number
   pub count-yes : (number : ℕ) → bound < number →
-      count_by (λ job. nat_lt (bound_of shop entry end job) number) (take (place + 1 - entry.first) (left_of entry))
-      ≡ count_by (λ job. nat_lt (bound_of shop entry end job) number)
+      count_by (λ job. nat_lt (bound_at_end shop entry end job) number) (take (place + 1 - entry.first) (left_of entry))
+      ≡ count_by (λ job. nat_lt (bound_at_end shop entry end job) number)
       (take (place - entry.first) (left_of entry)) + 1
   count-yes number below =
-      let p : ℕ → Bool = λ job. nat_lt (bound_of shop entry end job) number in
+      let p : ℕ → Bool = λ job. nat_lt (bound_at_end shop entry end job) number in
       ap (λ n. count_by p (take n (left_of entry))) next-place
       ∙ count_by_more_yes p (left_of entry) (place - entry.first) 0 inside
       (ap (λ n. nat_lt n number) job-is ∙ lt-ltb bound number below)
 
   -- or is not
   pub count-no : (number : ℕ) → number ≤ bound →
-      count_by (λ job. nat_lt (bound_of shop entry end job) number) (take (place + 1 - entry.first) (left_of entry))
-      ≡ count_by (λ job. nat_lt (bound_of shop entry end job) number) (take (place - entry.first) (left_of entry))
+      count_by (λ job. nat_lt (bound_at_end shop entry end job) number) (take (place + 1 - entry.first) (left_of entry))
+      ≡ count_by (λ job. nat_lt (bound_at_end shop entry end job) number) (take (place - entry.first) (left_of entry))
   count-no number above =
-      let p : ℕ → Bool = λ job. nat_lt (bound_of shop entry end job) number in
+      let p : ℕ → Bool = λ job. nat_lt (bound_at_end shop entry end job) number in
       ap (λ n. count_by p (take n (left_of entry))) next-place
       ∙ count_by_more_no p (left_of entry) (place - entry.first) 0 inside
       (ap (λ n. nat_lt n number) job-is ∙ le-ltb bound number above)

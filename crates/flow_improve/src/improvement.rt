@@ -13,7 +13,7 @@ use flow_shop::{Instance, Sequence, makespan};
 use std::alloc::{AllocError, Global};
 
 /// The better sequence of two runs of rounds, one from the start and one from the best of a beam, and on a tie that of
-/// the second. There are none from a beam that is whole, and none after a sequence that has Taillard's lower bound.
+/// the second. No round is made where the beam is whole, or after a sequence that has Taillard's lower bound.
 pub fn rounds_of_both(
     alloc: Global,
     instance: &Instance,

@@ -15,7 +15,7 @@ mod pass;
 
 use crate::reached::Reached;
 use crate::two_ended::child_order::Mode;
-use crate::two_ended::pass::{Passes, Plan, greatest_time};
+use crate::two_ended::pass::{PassPlan, Passes, greatest_time};
 use flow_bound::taillard_bound;
 use flow_nodes::{Lanes, fits_narrow_lanes};
 use flow_shop::{Instance, Row, Sequence, rows};
@@ -33,7 +33,7 @@ struct Limits {
     /// The greatest width of a pass.
     width: u32,
     /// The most steps of a pass of width 1. One of another width has as many for each unit of its width.
-    narrow: u64,
+    steps_by_width: u64,
     /// The most steps of all passes.
     work: u64,
 }
@@ -47,7 +47,7 @@ impl Limits {
             least: taillard_bound(instance),
             aim,
             width,
-            narrow: jobs
+            steps_by_width: jobs
                 .saturating_mul(jobs.saturating_add(1))
                 .saturating_mul(machines),
             work,
@@ -55,13 +55,13 @@ impl Limits {
     }
 
     /// The most steps of a pass.
-    fn steps(&self, plan: &Plan) -> u64 {
-        self.narrow.saturating_mul(u64::from(plan.width))
+    fn steps(&self, plan: &PassPlan) -> u64 {
+        self.steps_by_width.saturating_mul(u64::from(plan.width))
     }
 
     /// A width that no pass exceeds.
     fn widest(&self) -> usize {
-        u64::from(self.width).min(self.work / self.narrow.max(1)) as usize
+        u64::from(self.width).min(self.work / self.steps_by_width.max(1)) as usize
     }
 
     /// Whether a sequence of this makespan is below the number that is aimed at.
@@ -71,15 +71,15 @@ impl Limits {
 
     /// The first pass of a width. Where all children are below a number that is aimed at, their bounds say little, and
     /// the deficit decides.
-    fn first(&self, width: u32) -> Plan {
+    fn first(&self, width: u32) -> PassPlan {
         match self.aim {
-            Some(number) => Plan {
+            Some(number) => PassPlan {
                 width,
                 mode: Mode::Deficit,
                 fewer: number,
                 below: number,
             },
-            None => Plan {
+            None => PassPlan {
                 width,
                 mode: Mode::Bound,
                 fewer: 0,
@@ -89,15 +89,15 @@ impl Limits {
     }
 
     /// The second pass of a width.
-    fn second(&self, width: u32) -> Plan {
+    fn second(&self, width: u32) -> PassPlan {
         match self.aim {
-            Some(number) => Plan {
+            Some(number) => PassPlan {
                 width,
                 mode: Mode::Deficit,
                 fewer: 0,
                 below: number,
             },
-            None => Plan {
+            None => PassPlan {
                 width,
                 mode: Mode::Sum,
                 fewer: 0,
@@ -115,7 +115,7 @@ fn ends_with<V: Lanes>(
     limits: &Limits,
     passes: &mut Passes<V>,
     reached: &mut Reached,
-    plan: &Plan,
+    plan: &PassPlan,
 ) -> Result<bool, AllocError>
     requires wide { V.WIDTH ≡ 16 }
     requires passes { ArePasses V.list V.CAP V.WIDTH instance.now passes.old }

@@ -1,9 +1,10 @@
 -- At which end a beam opens a node.
-use Rattle.std.specs.Prelude.{ℕ, ◌-◌, cond, nat_le, nat_lt, List, take, drop, count_by, sum_by}
+use Rattle.std.specs.Prelude.{ℕ, ◌-◌, nat_lt, List, take, drop, count_by, sum_by}
 use Rattle.flow_shop.specs.Shop.{Shop}
 use Rattle.flow_shop.specs.declared.end.End.{End}
 use Rattle.flow_shop.specs.declared.end.End.TheVariants.{Front, Back}
 use Rattle.flow_nodes.specs.Groups.{child_bound}
+use Rattle.flow_nodes.specs.PlainEnd.{plain_end_by}
 use Rattle.flow_improve.specs.internal.Beams.{first_of, last_of}
 use Rattle.flow_improve.specs.declared.two_ended.entry.Entry.{Entry}
 
@@ -12,21 +13,20 @@ abbrev pub left_of : Entry → List ℕ
 left_of entry = take (entry.before - entry.first) (drop entry.first entry.jobs.items)
 
 -- the bound of the child of an entry's node that puts a job at an end
-abbrev pub bound_of : Shop → Entry → End → ℕ → ℕ
-bound_of shop entry end job = child_bound shop end (first_of entry) (last_of entry) job
+abbrev pub bound_at_end : Shop → Entry → End → ℕ → ℕ
+bound_at_end shop entry end job = child_bound shop end (first_of entry) (last_of entry) job
 
 -- how many children at an end are below a number
 abbrev pub count_below : Shop → Entry → End → ℕ → ℕ
-count_below shop entry end number = count_by (λ job. nat_lt (bound_of shop entry end job) number) (left_of entry)
+count_below shop entry end number = count_by (λ job. nat_lt (bound_at_end shop entry end job) number) (left_of entry)
 
 -- the sum of the bounds of all children at an end
 abbrev pub bound_sum : Shop → Entry → End → ℕ
-bound_sum shop entry end = sum_by (bound_of shop entry end) (left_of entry)
+bound_sum shop entry end = sum_by (bound_at_end shop entry end) (left_of entry)
 
 -- the end where fewer children are below a number; where as many are, the end whose bounds sum to more; and the front
 -- where these sums are equal too
-abbrev pub end_taken : Shop → Entry → ℕ → End
-end_taken shop entry number =
-    cond (nat_lt (count_below shop entry Front number) (count_below shop entry Back number)) Front
-    (cond (nat_lt (count_below shop entry Back number) (count_below shop entry Front number)) Back
-    (cond (nat_le (bound_sum shop entry Back) (bound_sum shop entry Front)) Front Back))
+abbrev pub plain_end : Shop → Entry → ℕ → End
+plain_end shop entry number =
+    plain_end_by (count_below shop entry Front number) (count_below shop entry Back number)
+    (bound_sum shop entry Front) (bound_sum shop entry Back)

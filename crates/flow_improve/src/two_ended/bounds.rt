@@ -7,7 +7,7 @@ ghost use Rattle.flow_nodes.specs.Lanes.{capped, HasLane};
 ghost use Rattle.flow_nodes.specs.Nodes.{IsJob};
 ghost use Rattle.flow_nodes.specs.Groups.{AreGroups, child_bound};
 ghost use Rattle.flow_improve.specs.internal.Beams.{HasBounds, IsEntry, first_of, job_at, last_of};
-ghost use Rattle.flow_improve.specs.internal.Opens.{bound_sum, count_below, end_taken};
+ghost use Rattle.flow_improve.specs.internal.Opens.{bound_sum, count_below, plain_end};
 
 use crate::two_ended::entry::Entry;
 use flow_limits::MAX_JOBS;
@@ -138,10 +138,10 @@ impl ChildBounds {
 
     /// The end where fewer children are below a number; where as many are, the end whose bounds sum to more; and the
     /// front where these sums are equal too.
-    pub(crate) fn end_taken(&self, instance: &Instance, entry: &Entry, number: u64) -> End
+    pub(crate) fn plain_end(&self, instance: &Instance, entry: &Entry, number: u64) -> End
         requires entry { IsEntry instance.now entry.now }
         requires bounds { HasBounds instance.now entry.now self.now }
-        ensures { result ≡ end_taken instance.now entry.now number }
+        ensures { result ≡ plain_end instance.now entry.now number }
     {
         let front_count = self.count_below(instance, entry, End::Front, number);
         let back_count = self.count_below(instance, entry, End::Back, number);

@@ -4,7 +4,8 @@ ghost use Rattle.std.specs.Prelude.{◌≤◌};
 ghost use Rattle.flow_limits.specs.Limits.{most_machines};
 
 use flow_limits::MAX_MACHINES;
-use flow_shop::{End, Instance, Row};
+use flow_nodes::Node;
+use flow_shop::End;
 
 /// A time for each machine, with machine 1 first.
 type MachineTimes = [u32; MAX_MACHINES];
@@ -41,65 +42,8 @@ pub(crate) struct Key {
     second: u64,
 }
 
-/// The front and the back of a node on each machine.
-#[derive(Clone, Copy)]
-pub(crate) struct EndTimes {
-    front: MachineTimes,
-    back: MachineTimes,
-}
-
-/// Makes each time the least of it and of another one.
-fn at_most(least: &mut MachineTimes, times: &MachineTimes) {
-    for place in 0..MAX_MACHINES {
-        least[place] = least[place].min(times[place]);
-    }
-}
-
-/// The times of a job before each machine.
-fn heads_of(row: &Row) -> MachineTimes {
-    let mut heads = [0; MAX_MACHINES];
-    let mut sum: u32 = 0;
-    for place in 0..MAX_MACHINES {
-        heads[place] = sum;
-        sum = sum.wrapping_add(row.times[place]);
-    }
-    heads
-}
-
-impl EndTimes {
-    /// Those of the node at which all jobs are left: the heads and the tails.
-    pub(crate) fn root(rows: &[Row]) -> EndTimes {
-        let mut front = [u32::MAX; MAX_MACHINES];
-        let mut back = front;
-        for row in rows {
-            at_most(&mut front, &heads_of(row));
-            at_most(&mut back, &row.tails);
-        }
-        EndTimes { front, back }
-    }
-
-    /// Puts a job with these times at an end.
-    pub(crate) fn put(&mut self, instance: &Instance, end: End, times: &MachineTimes) {
-        let machines = usize::from(instance.machines());
-        let mut free = 0;
-        match end {
-            End::Front => {
-                for place in 0..machines {
-                    free = self.front[place].max(free).wrapping_add(times[place]);
-                    self.front[place] = free;
-                }
-            }
-            End::Back => {
-                for place in (0..machines).rev() {
-                    free = self.back[place].max(free).wrapping_add(times[place]);
-                    self.back[place] = free;
-                }
-            }
-        }
-    }
-}
-
-/// The square of what a machine's work in store is below the cap.
+/// The square of how far a machine's work in store is below the cap. Its work in store is the time from the front or
+/// back of the machine next to it to its own.
 fn lack(cap: u32, later: u32, earlier: u32) -> u64 {
     let below = u64::from(cap.saturating_sub(later.wrapping_sub(earlier)));
     below.wrapping_mul(below)
@@ -154,8 +98,7 @@ impl ChildOrder {
         }
     }
 
-    /// The greatest deficit with which the key of a bound is not above a key; or, where the deficit comes first in the
-    /// order, one that no such deficit exceeds.
+    /// A deficit such that the key of a bound with any greater deficit is above a key.
     pub(crate) fn most_deficit(&self, key: &Key, bound: u32) -> u64 {
         let bound = u64::from(bound);
         match self.mode {
@@ -187,19 +130,19 @@ impl ChildOrder {
     }
 
     /// The deficit of the end of a node at which no job is put.
-    pub(crate) fn kept_deficit(&self, times: &EndTimes, end: End) -> u64 {
+    pub(crate) fn kept_deficit(&self, node: &Node, end: End) -> u64 {
         match end {
-            End::Front => self.back_deficit(&times.back),
-            End::Back => self.front_deficit(&times.front),
+            End::Front => self.back_deficit(node.backs()),
+            End::Back => self.front_deficit(node.fronts()),
         }
     }
 
-    /// The deficit of the end of a node at which a job is put; or a part of it that is above the most.
+    /// The deficit of the end of a node at which a job with these times is put; or a part of it that is above the most.
     pub(crate) fn changed_deficit(
         &self,
-        times: &EndTimes,
+        node: &Node,
         end: End,
-        job: &MachineTimes,
+        times: &MachineTimes,
         most: u64,
     ) -> u64 {
         let machines = self.machines;
@@ -208,8 +151,9 @@ impl ChildOrder {
         let mut earlier: u32 = 0;
         match end {
             End::Front => {
+                let fronts = node.fronts();
                 for place in 0..machines {
-                    let free = times.front[place].max(earlier).wrapping_add(job[place]);
+                    let free = fronts[place].max(earlier).wrapping_add(times[place]);
                     if place > 0 {
                         deficit = deficit.wrapping_add(lack(cap, free, earlier));
                     }
@@ -220,8 +164,9 @@ impl ChildOrder {
                 }
             }
             End::Back => {
+                let backs = node.backs();
                 for place in (0..machines).rev() {
-                    let free = times.back[place].max(earlier).wrapping_add(job[place]);
+                    let free = backs[place].max(earlier).wrapping_add(times[place]);
                     if place + 1 < machines {
                         deficit = deficit.wrapping_add(lack(cap, free, earlier));
                     }

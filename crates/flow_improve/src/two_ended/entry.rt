@@ -2,21 +2,17 @@
 
 ghost use Rattle.std.specs.Prelude.{◌≡◌, ◌<◌, ◌≤◌, vec_len, IfOk};
 ghost use Rattle.flow_limits.specs.Limits.{most_jobs};
-ghost use Rattle.flow_shop.specs.Rows.{AreRows};
 ghost use Rattle.flow_improve.specs.internal.Beams.{AreEntries, IsEntry};
 
 use crate::list::numbers;
-use crate::two_ended::child_order::EndTimes;
 use flow_nodes::Node;
-use flow_shop::{End, Instance, Row};
+use flow_shop::{End, Instance};
 use std::alloc::{AllocError, Global};
 
 /// A node, and all jobs of its instance in an order: its first list, the jobs left in any order, and its last list.
 #[derive(Drop)]
 pub(crate) struct Entry {
     pub(crate) node: Node,
-    /// Its front and its back, which the order of children goes by.
-    pub(crate) ends: EndTimes,
     pub(crate) jobs: Vec<u16>,
     /// How many jobs its first list has.
     pub(crate) first: usize,
@@ -26,16 +22,11 @@ pub(crate) struct Entry {
 
 impl Entry {
     /// The node at which all jobs are left.
-    pub(crate) fn root(
-        alloc: Global,
-        instance: &Instance,
-        rows: &[Row],
-    ) -> Result<Entry, AllocError>
+    pub(crate) fn root(alloc: Global, instance: &Instance) -> Result<Entry, AllocError>
         ensures { IfOk result (IsEntry instance.now) }
     {
         Ok(Entry {
             node: Node::root(instance),
-            ends: EndTimes::root(rows),
             jobs: numbers(alloc, instance)?,
             first: 0,
             before: usize::from(instance.jobs()),
@@ -57,7 +48,6 @@ impl Entry {
     {
         Ok(Entry {
             node: self.node,
-            ends: self.ends,
             jobs: Vec::from_slice(alloc, self.jobs.as_slice())?,
             first: self.first,
             before: self.before,
@@ -73,7 +63,6 @@ impl Entry {
         ensures before { self.new.before ≡ other.now.before }
     {
         self.node = other.node;
-        self.ends = other.ends;
         self.jobs
             .as_mut_slice()
             .copy_from_slice(other.jobs.as_slice());
@@ -82,17 +71,14 @@ impl Entry {
     }
 
     /// Puts the job left at a place at an end: becomes the child of its node.
-    pub(crate) fn put(&mut self, instance: &Instance, rows: &[Row], end: End, place: usize)
+    pub(crate) fn put(&mut self, instance: &Instance, end: End, place: usize)
         requires entry { IsEntry instance.now self.old }
-        requires rows { AreRows instance.now rows.now }
         requires from { self.old.first ≤ place }
         requires before { place < self.old.before }
         ensures { IsEntry instance.now self.new }
     {
         let job = self.jobs[place];
         self.node.put(instance, end, job);
-        let times = &rows[usize::from(job) - 1].times;
-        self.ends.put(instance, end, times);
         match end {
             End::Front => {
                 self.jobs.as_mut_slice().swap(place, self.first);

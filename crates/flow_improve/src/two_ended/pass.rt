@@ -16,7 +16,7 @@ use std::mem;
 
 /// What a pass goes by.
 #[derive(Clone, Copy)]
-pub(crate) struct Plan {
+pub(crate) struct PassPlan {
     /// The most nodes of a list.
     pub(crate) width: u32,
     pub(crate) mode: Mode,
@@ -27,10 +27,10 @@ pub(crate) struct Plan {
     pub(crate) below: u64,
 }
 
-impl Plan {
+impl PassPlan {
     /// The same pass over children below a number too.
-    pub(crate) fn at_most(&self, number: u64) -> Plan {
-        Plan {
+    pub(crate) fn at_most(&self, number: u64) -> PassPlan {
+        PassPlan {
             width: self.width,
             mode: self.mode,
             fewer: self.fewer,
@@ -96,7 +96,7 @@ impl Offers {
         requires entry { IsEntry instance.now entry.now }
         requires bounds { HasBounds instance.now entry.now bounds.now }
     {
-        let same = self.order.kept_deficit(&entry.ends, self.end);
+        let same = self.order.kept_deficit(&entry.node, self.end);
         let mut limit = self.below.min(kept.limit(&self.order, same));
         for place in entry.first..entry.before {
             let bound = bounds.at(instance, entry, self.end, place);
@@ -108,7 +108,7 @@ impl Offers {
             let most = kept.most_deficit(&self.order, bound).saturating_sub(same);
             let changed = self
                 .order
-                .changed_deficit(&entry.ends, self.end, times, most);
+                .changed_deficit(&entry.node, self.end, times, most);
             kept.offer(Child {
                 key: self.order.key(bound, same.wrapping_add(changed)),
                 parent: self.parent,
@@ -135,7 +135,7 @@ impl<V: Lanes> Passes<V> {
         ensures { IfOk result (ArePasses V.list V.CAP V.WIDTH instance.now) }
     {
         let greatest = greatest_time(rows.as_slice());
-        let root = Entry::root(alloc, instance, rows.as_slice())?;
+        let root = Entry::root(alloc, instance)?;
         let list = copies(alloc, instance, &root, width.max(1))?;
         let next = copies(alloc, instance, &root, width.max(1))?;
         Ok(Passes {
@@ -153,7 +153,7 @@ impl<V: Lanes> Passes<V> {
     }
 
     /// Bounds the children of the node at a place of the list, and offers them.
-    fn open(&mut self, instance: &Instance, plan: &Plan, place: usize) -> Result<(), AllocError>
+    fn open(&mut self, instance: &Instance, plan: &PassPlan, place: usize) -> Result<(), AllocError>
         requires wide { V.WIDTH ≡ 16 }
         requires passes { ArePasses V.list V.CAP V.WIDTH instance.now self.old }
         requires place { place < self.old.count }
@@ -173,14 +173,14 @@ impl<V: Lanes> Passes<V> {
             },
             below: plan.below,
             parent: place,
-            end: self.bounds.end_taken(instance, entry, plan.fewer),
+            end: self.bounds.plain_end(instance, entry, plan.fewer),
         };
         let rows = self.rows.as_slice();
         offers.offer(instance, rows, entry, &self.bounds, &mut self.kept)
     }
 
     /// Finds the children of the list that are kept.
-    fn bound_children(&mut self, instance: &Instance, plan: &Plan) -> Result<(), AllocError>
+    fn bound_children(&mut self, instance: &Instance, plan: &PassPlan) -> Result<(), AllocError>
         requires wide { V.WIDTH ≡ 16 }
         requires passes { ArePasses V.list V.CAP V.WIDTH instance.now self.old }
         ensures { ArePasses V.list V.CAP V.WIDTH instance.now self.new }
@@ -205,7 +205,7 @@ impl<V: Lanes> Passes<V> {
         {
             let entry = &mut self.next[place];
             entry.copy_from(instance, parent);
-            entry.put(instance, self.rows.as_slice(), child.end(), from);
+            entry.put(instance, child.end(), from);
         }
     }
 
@@ -225,7 +225,7 @@ impl<V: Lanes> Passes<V> {
     }
 
     /// A pass. Returns whether no child was dropped.
-    pub(crate) fn pass(&mut self, instance: &Instance, plan: &Plan) -> Result<bool, AllocError>
+    pub(crate) fn pass(&mut self, instance: &Instance, plan: &PassPlan) -> Result<bool, AllocError>
         requires wide { V.WIDTH ≡ 16 }
         requires passes { ArePasses V.list V.CAP V.WIDTH instance.now self.old }
         ensures { ArePasses V.list V.CAP V.WIDTH instance.now self.new }

@@ -14,13 +14,13 @@ packs-init g c =
     let is : c.push.new.self.items ≡ pack ∷ [] =
     c.in_ok-push.ensures.items ∙ ap (λ xs. xs ++ pack ∷ []) c.in_ok-packs.ensures.items in
     record {
-      few = omega (arith, c.requires.few);
+      few = omega (arith, c.group_count-groups.ensures, c.requires.few);
       rooms = subst (All (λ pack. HasRoom shop pack)) (sym is)
           (All-push (λ pack. HasRoom shop pack) [] pack (All-nil (λ pack. HasRoom shop pack)) c.in_ok-new.ensures.room);
       some = omega (arith, ap length is);
       fits = λ none.
           subst (λ xs. c.args.jobs ≤ length (slice_index_or xs 0 none).names.items) (sym is)
-          (omega (arith, c.in_ok-new.ensures.room.names, c.in_ok-new.ensures.count));
+          (omega (arith, c.group_count-groups.ensures, c.in_ok-new.ensures.room.names, c.in_ok-new.ensures.count));
     }
 
 pub packs-preserved : goal.packs-preserved
