@@ -2,23 +2,15 @@
 
 ghost use Rattle.std.specs.Prelude.{◌≡◌, ◌≤◌, ◌+◌, ◌*◌, ◌↔◌, ◌++◌, IsTrue, length, decimal, OnOk};
 ghost use Rattle.flow_limits.specs.Limits.{greatest_completion};
-ghost use Rattle.flow_schedule.specs.Picture.{width_of, colour, ink, is_on_path, position_text, outline_text};
+ghost use Rattle.flow_schedule.specs.Picture.{width_of, is_on_path, position_text, outline_text};
 ghost use Rattle.flow_schedule.specs.Picture.{style_text, names_text, times_text, label_text, drawn_text, bar_text};
 
+use crate::colours::{colour, ink};
 use crate::operations::Operation;
 use crate::scale::{x_of, y_of};
 use crate::text::{push_number, push_words};
 use itoa::Buffer;
 use std::alloc::AllocError;
-
-/// The colours of the jobs, seven bytes each.
-const PALETTE: &[u8] = b"#004C7F#F0C800#8F2D00#7CC4F0#00594A#F2A65A#5B2A86#F2B6D2";
-
-/// How many bytes a colour has.
-const COLOUR: usize = 7;
-
-/// How many colours there are.
-const COLOURS: usize = 8;
 
 /// How much of the room of a bar stays white at its right end, at most.
 const EDGE: u64 = 80;
@@ -34,28 +26,6 @@ fn width_of(room: u64) -> u64
     ensures { result ≡ width_of room }
 {
     room - EDGE.min(room / 4)
-}
-
-/// The colour of the job at a place.
-#[tactic(auto, unfolding(crate::specs::Picture::palette))]
-fn colour(place: u16) -> &'static [u8]
-    requires { 1 ≤ place }
-    ensures { result.now ≡ colour place }
-{
-    let from = (place as usize - 1) % COLOURS * COLOUR;
-    let palette = PALETTE;
-    &palette[from..from + COLOUR]
-}
-
-/// The end of the opening tag of a label: white on a dark colour, and else black.
-fn ink(place: u16) -> &'static [u8]
-    ensures { result.now ≡ ink place }
-{
-    if place % 2 == 1 {
-        b"\" fill=\"#ffffff\">"
-    } else {
-        b"\">"
-    }
 }
 
 /// Whether a path, given by the last machine of each job, goes over an operation.

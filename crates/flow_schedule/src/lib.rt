@@ -3,6 +3,7 @@
 
 mod axis;
 mod bar;
+mod colours;
 mod laws;
 mod operations;
 mod path;

@@ -22,8 +22,7 @@ time shop job machine = slice_index shop.times ((machine - 1) * shop.jobs + (job
 abbrev pub time_between : Shop → ℕ → ℕ → ℕ → ℕ
 time_between shop job first last = sum_by (time shop job) (numbers first last)
 
--- a path gives the last machine of each job; its weight is the sum of the jobs' times, of each from the last machine of
--- the job before it to its own
+-- the weight of a path, which gives each job's last machine: the times of each job from its predecessor's to its own
 abbrev pub weight : Shop → List ℕ → ℕ → List ℕ → ℕ
 weight shop [] first path = 0
 weight shop (job ∷ jobs) first [] = 0

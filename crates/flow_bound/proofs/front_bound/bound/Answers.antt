@@ -3,7 +3,7 @@ use Rattle.flow_limits.specs.Limits.{greatest_completion}
 use Rattle.flow_shop.specs.JobSet.{members}
 use Rattle.flow_bound.specs.Loads.{least_between}
 use Rattle.flow_bound.proofs.Steps.{admissible-members}
-use Rattle.flow_bound.proofs.machine_bound.bound.Goals as goal
+use Rattle.flow_bound.proofs.front_bound.bound.Goals as goal
 
 pub overflow_add-result : goal.overflow_add-result
 overflow_add-result c =
