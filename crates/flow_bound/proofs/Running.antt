@@ -92,7 +92,8 @@ times-none shop n job first low = zeros n (job - 1) ∙ sym (time_between-none s
 -- the least over all jobs, and its cap
 pub least-of-jobs : (cap bound : ℕ) (f : ℕ → ℕ) (n job : ℕ) → ((j : ℕ) → f j ≤ bound) → bound ≤ cap → 1 ≤ n →
     job ≡ n + 1 →
-    (least_below cap (map f (numbers 1 (job - 1))) ≡ least (map f (numbers 1 n))) × (least (map f (numbers 1 n)) ≤ bound)
+    (least_below cap (map f (numbers 1 (job - 1))) ≡ least (map f (numbers 1 n))) × (least (map f (numbers 1 n)) ≤
+    bound)
 least-of-jobs cap bound f zero job small below some end = absurd (omega arith)
 least-of-jobs cap bound f (suc n) job small below some end =
     let e : job - 1 ≡ suc n = omega arith in

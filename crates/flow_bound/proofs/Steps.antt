@@ -18,13 +18,15 @@ use Rattle.flow_shop.specs.Bound.{machine_bound, released_bound}
 use Rattle.flow_shop.proofs.Admissible.{admissible-front, released-front}
 
 least_below_kept : (cap : ℕ) (f : ℕ → ℕ) (xs : List ℕ) (k : ℕ) (b : Bool) →
-    least_below cap (map f (xs ++ cond b (k ∷ []) [])) ≡ cond b (min (least_below cap (map f xs)) (f k)) (least_below cap (map f xs))
+    least_below cap (map f (xs ++ cond b (k ∷ []) [])) ≡ cond b (min (least_below cap (map f xs)) (f k)) (least_below
+    cap (map f xs))
 least_below_kept cap f xs k true = ap (least_below cap) (map_push f xs k) ∙ least-push cap (map f xs) (f k)
 least_below_kept cap f xs k false = ap (λ ys. least_below cap (map f ys)) (append-nil xs)
 
 pub least_below-step : (cap : ℕ) (f : ℕ → ℕ) (p : ℕ → Bool) (k : ℕ) → 1 ≤ k →
     least_below cap (map f (filter p (numbers 1 (k + 1 - 1))))
-    ≡ cond (p k) (min (least_below cap (map f (filter p (numbers 1 (k - 1))))) (f k)) (least_below cap (map f (filter p (numbers 1
+    ≡ cond (p k) (min (least_below cap (map f (filter p (numbers 1 (k - 1))))) (f k)) (least_below cap (map f (filter
+    p (numbers 1
     (k - 1)))))
 least_below-step cap f p zero low = absurd (omega arith)
 least_below-step cap f p (suc n) low =
@@ -33,7 +35,8 @@ least_below-step cap f p (suc n) low =
     ap (λ m. least_below cap (map f (filter p (numbers 1 m)))) a
     ∙ ap (λ xs. least_below cap (map f xs)) (filter-more p n)
     ∙ least_below_kept cap f (filter p (numbers 1 n)) (suc n) (p (suc n))
-    ∙ ap (λ m. cond (p (suc n)) (min (least_below cap (map f (filter p (numbers 1 m)))) (f (suc n))) (least_below cap (map f
+    ∙ ap (λ m. cond (p (suc n)) (min (least_below cap (map f (filter p (numbers 1 m)))) (f (suc n))) (least_below cap
+    (map f
     (filter p (numbers 1 m))))) b
 
 -- the times from a machine on fit

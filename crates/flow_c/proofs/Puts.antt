@@ -116,7 +116,8 @@ text-put around directions before own second third long_enough enough same whole
     subst (λ k. take k own ≡ take end around) (length-take-le end around (omega arith)) one in
     let last : take 5 third ≡ drop end around =
     subst (λ k. take k third ≡ drop end around) (ending-size around long_enough) (three ∙ rest-of end around) in
-    parts-put (take end around) directions (drop end around) own second third end (length directions) 5 fit.0 fit.1 first
+    parts-put (take end around) directions (drop end around) own second third end (length directions) 5 fit.0 fit.1
+    first
     two last
 
 -- and what stands behind it stays

@@ -1,9 +1,8 @@
 -- The line of two bounds: what is read of it is what it states.
 use Rattle.std.proofs.Common.{◌≡◌, ◌&&◌, nat_lt, ◌^◌, ℕ, Bool, true, cond, List, [], ◌∷◌, Option, Some, None, ap, subst}
 use Rattle.std.proofs.Common.{◌∙◌}
-use Rattle.std.proofs.lemmas.Bool.{ltb-true, lt-ltb}
+use Rattle.std.proofs.lemmas.Bool.{ltb-true, lt-ltb, and_parts}
 use Rattle.std.proofs.lemmas.Option.{none-some}
-use Rattle.flow_shop.proofs.Bools.{both-true}
 use Rattle.flow_check.specs.TextLines.{spaced}
 use Rattle.flow_check.specs.TwoEnded.{AreInRange}
 use Rattle.flow_check.specs.internal.Reading.{numbers_in}
@@ -45,7 +44,7 @@ states (Some (a ∷ b ∷ n ∷ ns)) bounds e = absurd (none-some bounds e)
 states (Some (lower ∷ upper ∷ [])) bounds e =
     let read : Bounds = record { lower = lower; upper = upper } in
     let is = stated-if (nat_lt lower (2 ^ 64) && nat_lt upper (2 ^ 64)) read bounds e in
-    let small = both-true (nat_lt lower (2 ^ 64)) (nat_lt upper (2 ^ 64)) is.0 in (
+    let small = and_parts (nat_lt lower (2 ^ 64)) (nat_lt upper (2 ^ 64)) is.0 in (
       subst AreInRange is.1 (ltb-true lower (2 ^ 64) small.0, ltb-true upper (2 ^ 64) small.1),
       ap (λ (b : Bounds). Some (numbers_of b)) is.1,
     )

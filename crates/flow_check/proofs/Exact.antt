@@ -6,7 +6,7 @@ use Rattle.std.proofs.Common.{arith, append_assoc}
 use Rattle.std.specs.Option.{option_map_or}
 use Rattle.std.specs.List.{AllByRecursion, flat_map}
 use Rattle.std.proofs.lemmas.List.Elements.{recursion_from_All}
-use Rattle.std.proofs.lemmas.Bool.{eqb-true, leb-true, le-leb, eq-eqb}
+use Rattle.std.proofs.lemmas.Bool.{eqb-true, leb-true, le-leb, eq-eqb, and_parts}
 use Rattle.flow_shop.specs.Limits.{most_jobs, most_machines, greatest_depth}
 use Rattle.flow_shop.specs.Shop.{Shop, IsWithinLimits}
 use Rattle.flow_shop.specs.Paths.{span}
@@ -25,7 +25,6 @@ use Rattle.flow_check.specs.internal.ReadTrees.{cut_value}
 use Rattle.flow_check.specs.internal.Reading.{on_line, numbers_in, version_of}
 use Rattle.flow_check.specs.declared.fault.CheckFault.{CheckFault}
 use Rattle.flow_check.specs.declared.fault.CheckFault.TheVariants.{Header, Size, Value, Sequence, NotAttained}
-use Rattle.flow_shop.proofs.Bools.{both-true}
 use Rattle.flow_check.proofs.TreesExact.{trees-sound, trees-complete, fault-value, passes}
 use Rattle.flow_check.proofs.Numbers.{Fit, numbers-sound, numbers-complete, spaced-plain}
 use Rattle.flow_check.proofs.ExactLines.{on-line-sound, on-line-complete, title-known, title-plain, known-title}
@@ -47,7 +46,7 @@ abbrev pub after_value : Shop → ℕ → ℕ → ℕ → List ℕ → List ℕ 
 after_value shop version depth value text more = sequence_value shop version depth value more (numbers_in text)
 
 pub four : (a b c d : Bool) → (a && b && c && d) ≡ true → (a ≡ true) × (b ≡ true) × (c ≡ true) × (d ≡ true)
-four a b c d e = let k = both-true (a && b && c) d e in let l = both-true (a && b) c k.0 in let m = both-true a b l.0 in
+four a b c d e = let k = and_parts (a && b && c) d e in let l = and_parts (a && b) c k.0 in let m = and_parts a b l.0 in
     (m.0, m.1, l.1, k.1)
 
 abbrev SizeOf : Shop → ℕ → List ℕ → Option (List ℕ) → ℕ → Type 0

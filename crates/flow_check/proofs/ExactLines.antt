@@ -11,13 +11,12 @@ use Rattle.std.specs.List.{list_all}
 use Rattle.std.specs.Fmt.{decimal}
 use Rattle.std.proofs.lemmas.Fmt.{decimal_digit}
 use Rattle.std.proofs.lemmas.Option.{none-some, same_Some}
-use Rattle.std.proofs.lemmas.Bool.{cases_Bool, eqb-true, ltb-true, lt-ltb}
+use Rattle.std.proofs.lemmas.Bool.{cases_Bool, eqb-true, ltb-true, lt-ltb, and_parts, not-true}
 use Rattle.flow_check.specs.TextLines.{IsVersion, title}
 use Rattle.flow_check.specs.internal.Reading.{value_of}
 use Rattle.flow_check.specs.internal.Reading.{first_line, on_line, numbers_in, version_of}
 use Rattle.flow_check.specs.declared.fault.CheckFault.{CheckFault}
 use Rattle.flow_shop.proofs.Lists.{find-some}
-use Rattle.flow_shop.proofs.Bools.{both-true, not-true}
 use Rattle.flow_check.proofs.TreesExact.{fault-value}
 use Rattle.flow_check.proofs.Numbers.{IsPlain, numbers-sound, numbers-complete, spaced-plain}
 
@@ -75,7 +74,7 @@ on-line-complete fault next text rest h =
 
 pub plain-test : (xs : List ℕ) → list_all (λ b. not (nat_eq b 10)) xs ≡ true → IsPlain xs
 plain-test [] e = tt
-plain-test (x ∷ xs) e = let b = both-true (not (nat_eq x 10)) (list_all (λ b. not (nat_eq b 10)) xs) e in
+plain-test (x ∷ xs) e = let b = and_parts (not (nat_eq x 10)) (list_all (λ b. not (nat_eq b 10)) xs) e in
     (not-true (nat_eq x 10) b.0, plain-test xs b.1)
 
 version-cases : (P : ℕ → Type 0) → P 1 → P 2 → (version : ℕ) → IsVersion version → P version

@@ -9,10 +9,9 @@ use Rattle.std.proofs.lemmas.List.Elements.{All-from_recursion}
 use Rattle.std.proofs.lemmas.List.Splits.{slice_split_none, slice_split_at, join_with_byte-slice_split}
 use Rattle.std.proofs.lemmas.Fmt.{decimal_is_IsNumeral, decimal_digit, decimal-digits_value, first_decimal}
 use Rattle.std.proofs.lemmas.Str.Parse.{IsNumeralModel, IsDigitsTest, numerals_by_value}
-use Rattle.std.proofs.lemmas.Bool.{leb-true, le-leb, eq-eqb, false≢true, ne_eqb}
+use Rattle.std.proofs.lemmas.Bool.{leb-true, le-leb, eq-eqb, false≢true, ne_eqb, and_parts, not-true}
 use Rattle.flow_check.specs.TextLines.{spaced}
 use Rattle.flow_shop.specs.Digits.{is_digit}
-use Rattle.flow_shop.proofs.Bools.{both-true, not-true}
 use Rattle.flow_check.specs.internal.Reading.{is_numeral, numbers_in}
 
 -- numbers that fit a word
@@ -25,7 +24,7 @@ AreDigits ds = list_all is_digit ds ≡ true
 
 digit-range : (byte : ℕ) → is_digit byte ≡ true → (48 ≤ byte) × (byte ≤ 57)
 digit-range byte e =
-    let k = both-true (nat_le 48 byte) (nat_le byte 57) e in
+    let k = and_parts (nat_le 48 byte) (nat_le byte 57) e in
     (leb-true 48 byte k.0, leb-true byte 57 k.1)
 
 range-digit : (byte : ℕ) → 48 ≤ byte → byte ≤ 57 → is_digit byte ≡ true
@@ -34,7 +33,7 @@ range-digit byte low high = ap (λ b. b && nat_le byte 57) (le-leb 48 byte low) 
 pub tells-digits : IsDigitsTest AreDigits
 tells-digits = record {
   empty = refl;
-  parts = λ c cs e. let k = both-true (is_digit c) (list_all is_digit cs) e in (digit-range c k.0, k.1);
+  parts = λ c cs e. let k = and_parts (is_digit c) (list_all is_digit cs) e in (digit-range c k.0, k.1);
   more = λ c cs k e. ap (λ b. b && list_all is_digit cs) (range-digit c k.0 k.1) ∙ e;
 }
 
@@ -48,14 +47,14 @@ numeral-decimal [] e fits = absurd (false≢true e)
 numeral-decimal (d ∷ []) e fits =
     decimal-digits_value digits-model (d ∷ []) (ap (λ b. b && true) e) (omega arith) (λ z. refl) fits
 numeral-decimal (d ∷ c ∷ cs) e fits =
-    let k = both-true (not (nat_eq d 48)) (list_all is_digit (d ∷ c ∷ cs)) e in
+    let k = and_parts (not (nat_eq d 48)) (list_all is_digit (d ∷ c ∷ cs)) e in
     decimal-digits_value digits-model (d ∷ c
     ∷ cs) k.1 (omega arith) (λ z. absurd (false≢true (sym (not-true (nat_eq d 48) k.0) ∙ eq-eqb d 48 z))) fits
 
 numeral-of : (word : List ℕ) → AreDigits word → 0 < length word → (get_or word 0 0 ≡ 48 → length word ≡ 1) →
     is_numeral word ≡ true
 numeral-of [] e some lead = absurd (omega arith)
-numeral-of (d ∷ []) e some lead = (both-true (is_digit d) true e).0
+numeral-of (d ∷ []) e some lead = (and_parts (is_digit d) true e).0
 numeral-of (d ∷ c ∷ cs) e some lead =
     let other : d ≢ 48 = λ z. omega (arith, lead z) in
     ap (λ b. not b && list_all is_digit (d ∷ c ∷ cs)) (ne_eqb d 48 other) ∙ e
@@ -76,7 +75,7 @@ words-written : (words : List (List ℕ)) → list_all is_numeral words ≡ true
     map decimal (map (digits_value 10) words) ≡ words
 words-written [] e fits = refl
 words-written (w ∷ ws) e fits =
-    let k = both-true (is_numeral w) (list_all is_numeral ws) e in
+    let k = and_parts (is_numeral w) (list_all is_numeral ws) e in
     ap (λ x. x ∷ map decimal (map (digits_value 10) ws)) (numeral-decimal w k.0 fits.0)
     ∙ ap (λ xs. w ∷ xs) (words-written ws k.1 fits.1)
 
@@ -105,7 +104,7 @@ numbers-sound text ns e fits =
 no-byte : (byte : ℕ) → byte < 48 → (ds : List ℕ) → AreDigits ds → AllByRecursion (λ b. nat_eq b byte ≡ false) ds
 no-byte byte low [] h = tt
 no-byte byte low (d ∷ ds) h =
-    let k = both-true (is_digit d) (list_all is_digit ds) h in
+    let k = and_parts (is_digit d) (list_all is_digit ds) h in
     let range = digit-range d k.0 in
     let other : d ≢ byte = omega (arith, range.0, low) in
     (ne_eqb d byte other, no-byte byte low ds k.1)

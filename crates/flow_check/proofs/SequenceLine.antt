@@ -12,7 +12,7 @@ use Rattle.flow_shop.specs.Shop.{Shop}
 use Rattle.flow_shop.specs.Front.{IsFrontOf}
 use Rattle.flow_shop.specs.JobSet.{contains}
 use Rattle.flow_shop.specs.Sequences.{has, AreDistinct}
-use Rattle.flow_shop.proofs.Bools.{or-true}
+use Rattle.std.proofs.Math.Bool.{or-true}
 use Rattle.flow_shop.proofs.JobsLeft.{InRange, apart, or_false}
 use Rattle.flow_shop.proofs.Lists.{not_eq-sym}
 use Rattle.flow_check.specs.TextLines.{line, spaced}

@@ -5,9 +5,9 @@ use Rattle.std.proofs.Common.{inr, arith}
 use Rattle.std.specs.Str.{bytes_eq}
 use Rattle.std.specs.Cmp.Lexicographic.{bytes_decides}
 use Rattle.std.proofs.lemmas.Bool.{cases_Bool, eqb-true, leb-true, leb-false, ltb-true, lt-leb, lt-ltb, le-leb}
+use Rattle.std.proofs.lemmas.Bool.{and_parts}
 use Rattle.std.proofs.lemmas.Bool.{eq-eqb, false≢true}
 use Rattle.std.proofs.lemmas.Result.{IfErr-weaker}
-use Rattle.flow_shop.proofs.Bools.{both-true}
 use Rattle.flow_shop.specs.Shop.{Shop}
 use Rattle.flow_shop.specs.Paths.{span}
 use Rattle.flow_shop.specs.Sequences.{jobs_left}
@@ -150,7 +150,7 @@ tree-has shop bound value place (suc left) node (byte ∷ rest) =
     letter-known : (shop : Shop) (byte : ℕ) → is_letter shop byte ≡ true →
         (1 ≤ byte - 64) × (byte - 64 ≤ shop.machines) × (byte ≡ letter (byte - 64))
     letter-known shop byte e =
-        let l = both-true (nat_lt 64 byte) (nat_le (byte - 64) shop.machines) e in
+        let l = and_parts (nat_lt 64 byte) (nat_le (byte - 64) shop.machines) e in
         let above : 64 < byte = ltb-true 64 byte l.0 in
         (omega arith, leb-true (byte - 64) shop.machines l.1, omega arith)
 

@@ -3,8 +3,7 @@ use Rattle.std.proofs.Common.{nat_lt, ◌≡◌, ℕ, zero, suc, ◌+◌, ◌-�
 use Rattle.std.proofs.Common.{nat_le, List, [], ◌∷◌, ◌++◌, Result, Ok, Err, refl, ap, sym, subst, ◌∙◌, inl, inr, arith}
 use Rattle.std.proofs.Common.{append_assoc}
 use Rattle.std.specs.List.{AllZip, concat, flat_map}
-use Rattle.std.proofs.lemmas.Bool.{cases_Bool, eqb-true, leb-true, ltb-true, le-leb}
-use Rattle.flow_shop.proofs.Bools.{both-true}
+use Rattle.std.proofs.lemmas.Bool.{cases_Bool, eqb-true, leb-true, ltb-true, le-leb, and_parts}
 use Rattle.flow_shop.specs.Shop.{Shop}
 use Rattle.flow_shop.specs.Paths.{span}
 use Rattle.flow_shop.specs.Sequences.{jobs_left}
@@ -104,7 +103,7 @@ tree-sound shop bound value place (suc left) node (byte ∷ after) rest e =
       | inr other ↦
           let f : one ≡ Ok rest = sym (ap (λ b. cond b each one) other) ∙ e in
           let h = cut-ok (is_letter shop byte) (nat_le value (bound shop node (byte - 64))) place after rest f in
-          let l = both-true (nat_lt 64 byte) (nat_le (byte - 64) shop.machines) h.0 in
+          let l = and_parts (nat_lt 64 byte) (nat_le (byte - 64) shop.machines) h.0 in
           let above : 64 < byte = ltb-true 64 byte l.0 in
           let is : byte ≡ letter (byte - 64) = omega arith in (
             byte ∷ [],

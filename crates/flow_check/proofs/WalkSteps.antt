@@ -8,7 +8,7 @@ use Rattle.std.proofs.lemmas.Bool.Decides.{eqb_tells}
 use Rattle.std.proofs.lemmas.List.{length-take-le}
 use Rattle.flow_shop.specs.Shop.{Shop}
 use Rattle.flow_shop.specs.Sequences.{has}
-use Rattle.flow_shop.proofs.Bools.{or-true}
+use Rattle.std.proofs.Math.Bool.{or-true}
 use Rattle.flow_shop.proofs.Taken.{left_from, has-push}
 use Rattle.flow_shop.proofs.EndSteps.{has-child}
 use Rattle.flow_shop.specs.declared.end.End.{End}

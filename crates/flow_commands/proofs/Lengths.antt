@@ -1,6 +1,8 @@
 -- How long a proof is that a report states: what is counted in a lawful text.
-use Rattle.std.proofs.Common.{◌≡◌, ◌^◌, ◌<◌, ◌≤◌, ◌+◌, ◌-◌, ◌||◌, ℕ, zero, suc, Bool, true, false, cond, List, [], ◌∷◌, ◌++◌}
-use Rattle.std.proofs.Common.{Some, None, nat_eq, length, length-append, refl, ap, ap₂, sym, subst, ◌∙◌, inl, inr, arith}
+use Rattle.std.proofs.Common.{◌≡◌, ◌^◌, ◌<◌, ◌≤◌, ◌+◌, ◌-◌, ◌||◌, ℕ, zero, suc, Bool, true, false, cond, List, []}
+use Rattle.std.proofs.Common.{◌∷◌, ◌++◌}
+use Rattle.std.proofs.Common.{Some, None, nat_eq, length, length-append, refl, ap, ap₂, sym, subst, ◌∙◌, inl, inr}
+use Rattle.std.proofs.Common.{arith}
 use Rattle.std.specs.Fmt.{decimal}
 use Rattle.std.specs.List.{AllByRecursion, AllZip, concat, count_by, flat_map}
 use Rattle.std.proofs.lemmas.Bool.{ne_eqb}
@@ -13,7 +15,8 @@ use Rattle.flow_core.specs.Bound.{bound_of}
 use Rattle.flow_core.specs.Sequences.{IsSequence, cut, jobs_left}
 use Rattle.flow_core.specs.Directions.{ProvesWith, first_with, last_with, sign}
 use Rattle.flow_check.specs.Certificate.{Covers}
-use Rattle.flow_check.specs.TextLines.{IsVersion, certificate_text, ending, heading, line, spaced, title, upto_sizes, upto_title}
+use Rattle.flow_check.specs.TextLines.{IsVersion, certificate_text, ending, heading, line, spaced, title, upto_sizes}
+use Rattle.flow_check.specs.TextLines.{upto_title}
 use Rattle.flow_check.specs.TextLines.{upto_value}
 use Rattle.flow_check.specs.TwoEnded.{bounds_lines, sequence_lines, size_lines, title_line}
 use Rattle.flow_check.specs.declared.bounds.Bounds.{Bounds}
@@ -134,7 +137,8 @@ line-directions text =
     omega (arith, all, feed)
 
 frame-directions : (shop : Shop) (bounds : Bounds) (sequence : List ℕ) → IsWithinLimits shop → bounds.lower < 2 ^ 64 →
-    bounds.upper < 2 ^ 64 → IsSequence shop.jobs sequence → count_by is_direction (sequence_lines shop bounds sequence) ≡ 1
+    bounds.upper < 2 ^ 64 → IsSequence shop.jobs sequence → count_by is_direction (sequence_lines shop bounds
+    sequence) ≡ 1
 frame-directions shop bounds sequence limits lower upper whole =
     let sizes = shop.jobs ∷ shop.machines ∷ [] in
     let fits = size-fit shop 0 limits (omega arith) in
@@ -231,7 +235,8 @@ pub states_trees : ReportStatesTrees
 states_trees shop version value depth sequence trees limits shows =
     let left = shop.jobs - depth in
     let start = heading shop version depth value sequence in
-    let frame = heading-lines shop version depth value sequence limits shows.known shows.shallow shows.fits shows.whole in
+    let frame = heading-lines shop version depth value sequence limits shows.known shows.shallow shows.fits
+    shows.whole in
     let all = added (certificate_text shop version depth value sequence trees) (start ++ flat_map line trees)
     (line ending) refl is_line_end in
     let before = added (start ++ flat_map line trees) start (flat_map line trees) refl is_line_end in

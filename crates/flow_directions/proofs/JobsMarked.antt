@@ -5,7 +5,7 @@ use Rattle.std.proofs.Common.{◌∙◌, subst, inl, inr, arith}
 use Rattle.std.specs.Int.{bit_at}
 use Rattle.std.specs.Global.{Vec}
 use Rattle.std.specs.List.{AllByRecursion}
-use Rattle.std.proofs.lemmas.Bool.{cases_eq}
+use Rattle.std.proofs.lemmas.Bool.{cases_eq, not-true}
 use Rattle.std.proofs.lemmas.List.{get_or-take, get_or-drop}
 use Rattle.std.proofs.lemmas.List.Elements.{filter_passes, recursion_from_All}
 use Rattle.flow_shop.specs.Shop.{Shop, numbers}
@@ -15,7 +15,6 @@ use Rattle.flow_nodes.specs.Marks.{mark, chosen}
 use Rattle.flow_directions.specs.internal.Packs.{IsMarkedNode}
 use Rattle.flow_directions.specs.declared.marked_node.MarkedNode.{MarkedNode}
 use Rattle.flow_directions.specs.declared.pack.Pack.{Pack}
-use Rattle.flow_shop.proofs.Bools.{not-true}
 use Rattle.flow_nodes.proofs.MarkedNames.{kept, kept-yes, kept-no}
 use Rattle.flow_nodes.proofs.ChosenNames.{chosen-kept}
 

@@ -6,7 +6,7 @@ use Rattle.std.proofs.lemmas.Bool.{cases_Bool, ne_eqb, false≢true}
 use Rattle.flow_shop.specs.Sequences.{has, jobs_left}
 use Rattle.flow_shop.specs.Directions.{first_with, last_with}
 use Rattle.flow_shop.specs.declared.end.End.{End}
-use Rattle.flow_shop.proofs.Bools.{or-true}
+use Rattle.std.proofs.Math.Bool.{or-true}
 use Rattle.flow_shop.proofs.Lists.{has-first}
 use Rattle.flow_shop.proofs.EndSteps.{left-child}
 use Rattle.flow_shop.proofs.Taken.{left_under, left_from, left-split, left-without}

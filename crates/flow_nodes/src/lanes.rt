@@ -6,8 +6,8 @@ ghost use Rattle.flow_nodes.specs.Lanes.{capped, HasLane};
 
 use std::simd::prelude::*;
 
-/// Numbers side by side. A lane has its number, or the cap where that is less. So for each limit up to the cap, a number
-/// is below the limit exactly where its lane is.
+/// Numbers side by side. A lane has its number, or the cap where that is less. So for each limit up to the cap, a
+/// number is below the limit exactly where its lane is.
 pub trait Lanes: Copy {
     /// The cap.
     const CAP: u32;

@@ -3,8 +3,8 @@
 ghost use Rattle.std.specs.Prelude.{◌≡◌, nat_le};
 ghost use Rattle.flow_nodes.specs.Lanes.{limit_of};
 
-/// The limit that stands for a number in 32 bits: the number, or the greatest of 32 bits where that is less. No bound of
-/// a child is greater, so the same children are below it.
+/// The limit that stands for a number in 32 bits: the number, or the greatest of 32 bits where that is less. No bound
+/// of a child is greater, so the same children are below it.
 #[inline(always)]
 pub fn limit_of(number: u64) -> u32
     ensures { result ≡ limit_of number }

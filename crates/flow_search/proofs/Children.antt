@@ -29,7 +29,8 @@ frame-within shop node left frame limits is =
 -- the least number of the jobs that a child leaves: the second least where its job has the least, else the least
 pub child-least : (f : ℕ → ℕ) (n : ℕ) (node : List ℕ) (job own least second value : ℕ) → IsChild n node job →
     own ≡ f job → least ≡ least_below least_of_none (map f (jobs_left n node)) →
-    second ≡ second_below least_of_none least_of_none (map f (jobs_left n node)) → IsLeastWithout own least second value →
+    second ≡ second_below least_of_none least_of_none (map f (jobs_left n node)) → IsLeastWithout own least second
+    value →
     value ≡ least_below least_of_none (map f (jobs_left n (node ++ job ∷ [])))
 child-least f n node job own least second value kid own_is least_is second_is picked =
     let us : List ℕ = left_under node job in

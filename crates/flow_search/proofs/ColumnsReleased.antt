@@ -84,9 +84,11 @@ pub start_from-is : (shop : Shop) (list : List ℕ) (group : Group) (frame : Col
     ((k : ℕ) → k < 8 → slice_index masked k ≡ max (slice_index between k) (slice_index frame.gone k)) →
     IsLeastOfOthers masked column value →
     slice_index (slice_index_or frame.free earlier []) column + value
-    ≡ start_from shop (front_of shop (child list group column)) (jobs_left shop.jobs (child list group column)) (place + 1)
+    ≡ start_from shop (front_of shop (child list group column)) (jobs_left shop.jobs (child list group column)) (place
+    + 1)
     (earlier + 1)
-start_from-is shop list group frame row column other earlier place value between masked limits opened here there differ before
+start_from-is shop list group frame row column other earlier place value between masked limits opened here there
+    differ before
     to
     are made is =
     let f : ℕ → ℕ = λ job. time_between shop job (earlier + 1) (place + 1 - 1) in

@@ -13,7 +13,7 @@ use Rattle.flow_shop.specs.Least.{least}
 use Rattle.flow_shop.specs.Sequences.{has, jobs_left, IsSequence, Extends}
 use Rattle.flow_shop.specs.Bound.{machine_bound, released_bound, release, front_of}
 use Rattle.flow_shop.specs.Bound.{BoundIsAdmissible, ReleasedBoundIsAdmissible, ReleasedBoundIsStronger}
-use Rattle.flow_shop.proofs.Bools.{or-true}
+use Rattle.std.proofs.Math.Bool.{or-true}
 use Rattle.flow_shop.proofs.Extremes.{range-le-greatest, greatest-range-le}
 use Rattle.flow_shop.proofs.Recurrence.{after, completed, completion-is, time_between-more, time_between-none}
 use Rattle.flow_shop.proofs.Recurrence.{time_between-first}

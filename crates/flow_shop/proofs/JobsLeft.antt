@@ -12,7 +12,7 @@ use Rattle.std.proofs.lemmas.Bool.Decides.{eqb_tells}
 use Rattle.flow_shop.specs.Shop.{numbers}
 use Rattle.flow_shop.specs.Least.{least}
 use Rattle.flow_shop.specs.Sequences.{has, jobs_left, AreDistinct, IsSequence}
-use Rattle.flow_shop.proofs.Bools.{or-true}
+use Rattle.std.proofs.Math.Bool.{or-true}
 use Rattle.flow_shop.proofs.Lists.{all-push, all-at, has-first}
 use Rattle.flow_shop.proofs.Recurrence.{range-more}
 

@@ -11,7 +11,6 @@ pub mod Transposes
 pub mod Taken
 pub mod TwoLeastSteps
 pub mod RowSteps
-pub mod Bools
 pub mod Lists
 pub mod LeastFound
 pub mod NodeJobs

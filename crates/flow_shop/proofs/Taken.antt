@@ -8,7 +8,7 @@ use Rattle.std.proofs.lemmas.List.Sums.{sum_by-append, sum_by-cons}
 use Rattle.std.proofs.lemmas.Bool.{eq-eqb, ne_eqb}
 use Rattle.flow_shop.specs.Shop.{numbers}
 use Rattle.flow_shop.specs.Sequences.{has, jobs_left}
-use Rattle.flow_shop.proofs.Bools.{or-true}
+use Rattle.std.proofs.Math.Bool.{or-true}
 
 -- whether a longer list has a job
 

@@ -4,12 +4,11 @@ use Rattle.std.proofs.Common.{length, slice_index, subst, ap, sym, ◌∙◌, ar
 use Rattle.std.proofs.Math.Nat.{mod-lt, div-lt_iff_lt-mul, mul-le-mul_right, mul_comm, add-mul}
 use Rattle.std.proofs.lemmas.Nat.{mod-mul-add, div-mul-add, div-add-mod'}
 use Rattle.std.proofs.lemmas.List.{ext_get_or}
-use Rattle.std.proofs.lemmas.Bool.{eqb-true}
+use Rattle.std.proofs.lemmas.Bool.{eqb-true, and_parts}
 use Rattle.std.specs.Cmp.Lexicographic.{pointwise, bytes_decides}
 use Rattle.std.proofs.lemmas.List.FromFn.{get_or-map-range_with_len, length-map-range_with_len}
 use Rattle.flow_shop.specs.Shop.{Shop, time}
 use Rattle.flow_shop.specs.internal.Transposed.{transposed}
-use Rattle.flow_shop.proofs.Bools.{both-true}
 
 -- where the number of a place is taken from
 abbrev pub taken_from : ℕ → ℕ → ℕ → ℕ
@@ -104,7 +103,7 @@ pub same-sizes : (n m k l : ℕ) (xs ys : List ℕ) → (nat_eq n k && nat_eq m 
     length xs ≡ n * m → length ys ≡ k * l →
     pointwise nat_eq xs ys ≡ (nat_eq n k && nat_eq m l) && pointwise nat_eq (transposed n m xs) (transposed k l ys)
 same-sizes n m k l xs ys tests some xs_count ys_count =
-    let both = both-true (nat_eq n k) (nat_eq m l) tests in
+    let both = and_parts (nat_eq n k) (nat_eq m l) tests in
     let jobs = eqb-true n k both.0 in
     let machines = eqb-true m l both.1 in
     transposed-same n m xs ys some xs_count (rw (jobs, machines) ys_count)

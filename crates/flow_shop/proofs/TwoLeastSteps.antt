@@ -1,12 +1,14 @@
 -- The two least of some numbers.
-use Rattle.std.proofs.Common.{◌≡◌, ◌≢◌, ℕ, ◌+◌, ◌<◌, ◌≤◌, min, max, List, [], ◌∷◌, ◌++◌, length, map, refl, ap, sym, ◌∙◌, inl}
+use Rattle.std.proofs.Common.{◌≡◌, ◌≢◌, ℕ, ◌+◌, ◌<◌, ◌≤◌, min, max, List, [], ◌∷◌, ◌++◌, length, map, refl, ap, sym}
+use Rattle.std.proofs.Common.{◌∙◌, inl}
 use Rattle.std.proofs.Common.{inr, arith}
 use Rattle.std.proofs.lemmas.Bool.Decides.{eqb_tells}
 use Rattle.flow_shop.specs.Shop.{Shop, time_between}
 use Rattle.flow_shop.specs.Least.{least}
 use Rattle.flow_shop.specs.TwoLeast.{IsLeastWithout, least_below, second_below, tails}
 
-without-more : (y p q m v : ℕ) → p ≤ q → p ≤ y → IsLeastWithout y p q m → IsLeastWithout y (min p v) (min q (max p v)) (min m v)
+without-more : (y p q m v : ℕ) → p ≤ q → p ≤ y → IsLeastWithout y p q m → IsLeastWithout y (min p v) (min q (max p v))
+    (min m v)
 without-more y p q m v ordered low is = elim (eqb_tells y p) [
   | inl same ↦
       let e : y ≡ p = same.1 in

@@ -12,13 +12,13 @@ use Rattle.flow_shop.specs.Shop.{Shop, IsWithinLimits}
 use Rattle.flow_limits.specs.Limits.{greatest_time}
 use Rattle.std.specs.Char.{digit_value}
 use Rattle.std.proofs.lemmas.List.Elements.{recursion_from_All}
+use Rattle.std.proofs.lemmas.Bool.{and_parts}
 use Rattle.flow_text.specs.internal.TextState.{State, sizes_of}
 use Rattle.flow_text.specs.internal.TextWalk.{line_numbers}
 use Rattle.flow_text.specs.internal.TextWalk.{block_of}
 use Rattle.flow_text.specs.Text.{IsBlock}
 use Rattle.flow_text.specs.declared.text.progress.Want.TheVariants.{FirstLabel, HeadNumbers, SecondLabel, Times}
 use Rattle.flow_text.proofs.RestOfText.{small, is_time}
-use Rattle.flow_shop.proofs.Bools.{both-true}
 
 -- something is still wanted
 abbrev pub Wants : State → Type 0
@@ -73,7 +73,7 @@ line_numbers-plain l p q = rw (p, q) refl
 
 pub append-true : (p : ℕ → Bool) (xs ys : List ℕ) → list_all p (xs ++ ys) ≡ true → (list_all p xs ≡ true)
     × (list_all p ys ≡ true)
-append-true p xs ys h = both-true _ _ (sym (list_all-append p xs ys) ∙ h)
+append-true p xs ys h = and_parts _ _ (sym (list_all-append p xs ys) ∙ h)
 
 pub not-both : (l : List ℕ) → is_label_line l ≡ true → is_number_line l ≡ true → ⊥
 not-both l p q = go (after_blanks l) refl p q

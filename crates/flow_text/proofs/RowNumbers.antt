@@ -13,10 +13,10 @@ use Rattle.flow_text.specs.Lines.{lines_of, after_blanks, is_digit, is_blank, nu
 use Rattle.flow_text.specs.Lines.{is_number_line}
 use Rattle.std.specs.List.{onto_first}
 use Rattle.std.specs.Char.{digit_value}
+use Rattle.std.proofs.lemmas.Bool.{and_parts}
 use Rattle.flow_text.proofs.NumberLemmas.{numbers_after, numbers_of-after}
 use Rattle.flow_text.specs.Written.{row_text}
 use Rattle.flow_text.specs.Text.{IsNumbers}
-use Rattle.flow_shop.proofs.Bools.{both-true}
 
 abbrev read_on : ℕ → List ℕ → ℕ
 read_on n [] = n
@@ -35,7 +35,7 @@ numbers_after-digits : (ds tail : List ℕ) (n : ℕ) → all_ascii_digits ds �
     numbers_after (Some n) (ds ++ tail) ≡ numbers_after (Some (read_on n ds)) tail
 numbers_after-digits [] tail n h = refl
 numbers_after-digits (c ∷ ds) tail n h =
-    let both = both-true (is_ascii_digit c) (all_ascii_digits ds) h in
+    let both = and_parts (is_ascii_digit c) (all_ascii_digits ds) h in
     let first = (digit-no_blank c both.0).0 in
     ap (λ b. cond b (n ∷ numbers_after None (ds ++ tail)) (numbers_after (Some (n * 10 + digit_value c)) (ds
     ++ tail))) first
@@ -46,7 +46,7 @@ numbers_after-text : (ds tail : List ℕ) → all_ascii_digits ds ≡ true → 0
     numbers_after None (ds ++ tail) ≡ numbers_after (Some (read_on 0 ds)) tail
 numbers_after-text [] tail h k = absurd (omega arith)
 numbers_after-text (c ∷ ds) tail h k =
-    let both = both-true (is_ascii_digit c) (all_ascii_digits ds) h in
+    let both = and_parts (is_ascii_digit c) (all_ascii_digits ds) h in
     let first = (digit-no_blank c both.0).0 in
     ap (λ b. cond b (numbers_after None (ds ++ tail)) (numbers_after (Some (0 * 10 + digit_value c)) (ds
     ++ tail))) first
@@ -85,7 +85,7 @@ plain_byte b = is_digit b || is_blank b
 plain-digits : (ds : List ℕ) → all_ascii_digits ds ≡ true → list_all plain_byte ds ≡ true
 plain-digits [] h = refl
 plain-digits (c ∷ ds) h =
-    let both = both-true (is_ascii_digit c) (all_ascii_digits ds) h in
+    let both = and_parts (is_ascii_digit c) (all_ascii_digits ds) h in
     let first : plain_byte c ≡ true = ap (λ b. b || is_blank c) (digit-no_blank c both.0).1 in
     ap (λ b. b && list_all plain_byte ds) first ∙ plain-digits ds both.1
 
@@ -107,7 +107,7 @@ plain-row n ns h =
 number-text : (ds tail : List ℕ) → all_ascii_digits ds ≡ true → 0 < length ds → is_number_line (ds ++ tail) ≡ true
 number-text [] tail h k = absurd (omega arith)
 number-text (c ∷ ds) tail h k =
-    let both = both-true (is_ascii_digit c) (all_ascii_digits ds) h in
+    let both = and_parts (is_ascii_digit c) (all_ascii_digits ds) h in
     let facts = digit-no_blank c both.0 in
     let solid_is : after_blanks (c ∷ (ds ++ tail)) ≡ c ∷ (ds ++ tail) =
     ap (λ b. cond b (after_blanks (ds ++ tail)) (c ∷ (ds ++ tail))) facts.0 in
@@ -125,7 +125,7 @@ row-numbers n ns h = record {
 lines_of-plain : (l rest : List ℕ) → list_all plain_byte l ≡ true → lines_of (l ++ 10 ∷ rest) ≡ l ∷ lines_of rest
 lines_of-plain [] rest h = refl
 lines_of-plain (b ∷ l) rest h =
-    let both = both-true (plain_byte b) (list_all plain_byte l) h in
+    let both = and_parts (plain_byte b) (list_all plain_byte l) h in
     let first : plain_byte b ≡ true = both.0 in
     let other : eqb b 10 ≡ false = grind (arith, nat_tests) in
     ap (λ t. cond t ([] ∷ lines_of (l ++ 10 ∷ rest)) (onto_first b (lines_of (l ++ 10 ∷ rest)))) other

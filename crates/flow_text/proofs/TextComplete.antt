@@ -157,7 +157,8 @@ bind-is (Err d) f x y e k = cc
 -- the numbers of a line in the midst of those of its group
 head-line : (ns : List ℕ) (h : Sizes) (bs : List Block) (l : List ℕ) (rest : List (List ℕ)) (all : List Block) →
     is_number_line l ≡ true → length ns < 5
-    → (g : FromHead (at HeadNumbers ns h bs) (l ∷ rest) all) (head_lines : List (List ℕ)) → AllByRecursion IsNumbers head_lines →
+    → (g : FromHead (at HeadNumbers ns h bs) (l ∷ rest) all) (head_lines : List (List ℕ)) → AllByRecursion IsNumbers
+    head_lines →
     l ∷ rest ≡ head_lines ++ g.rest → ns ++ flat_map numbers_of head_lines ≡ g.ns
     → On (at HeadNumbers ns h bs) (line_numbers l >>= λ new. after_head_numbers (at HeadNumbers ns h bs) (ns
     ++ new)) rest all

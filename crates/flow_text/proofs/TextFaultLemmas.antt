@@ -7,6 +7,7 @@ use Rattle.flow_limits.specs.Limits.{most_jobs, most_machines}
 use Rattle.flow_shop.proofs.InstanceLemmas.{range-in}
 use Rattle.std.specs.Option.{option_or}
 use Rattle.std.proofs.lemmas.Bool.Decides.{nat_tests}
+use Rattle.std.proofs.lemmas.Bool.{and_parts}
 use Rattle.flow_shop.specs.Refusals.{fault_unless, first_fault}
 use Rattle.flow_text.specs.Lines.{lines_of, after_blanks, is_digit, is_blank_line, is_label_line, is_plain}
 use Rattle.flow_text.specs.Lines.{numbers_of, are_small}
@@ -23,7 +24,6 @@ use Rattle.flow_text.specs.declared.text.fault.TextFault.{TextFault}
 use Rattle.flow_text.specs.declared.text.fault.TextFault.TheVariants as text
 use Rattle.flow_text.specs.declared.text.progress.Want.{Want}
 use Rattle.flow_text.specs.declared.text.progress.Want.TheVariants.{FirstLabel, HeadNumbers, SecondLabel, Times}
-use Rattle.flow_shop.proofs.Bools.{both-true}
 use Rattle.flow_text.proofs.TextGrammar.{head-cases, times-cases}
 use Rattle.flow_text.proofs.RestOfText.{at, bind_ok, line_numbers_ok}
 use Rattle.flow_text.proofs.TextComplete.{mul-some}
@@ -102,7 +102,7 @@ times-fault-is n ns h bs l =
 
 head-some : (ns : List ℕ) → is_head ns ≡ true → 0 < slice_index ns 0 * slice_index ns 1
 head-some ns h =
-    let both = both-true (is_in_range 1 most_jobs (slice_index ns 0)) (is_in_range 1 most_machines
+    let both = and_parts (is_in_range 1 most_jobs (slice_index ns 0)) (is_in_range 1 most_machines
     (slice_index ns 1)) h in
     mul-some (slice_index ns 0) (slice_index ns 1) (range-in most_jobs (slice_index ns 0) both.0).0
     (range-in most_machines (slice_index ns 1) both.1).0

@@ -10,8 +10,8 @@ use Rattle.flow_text.specs.Lines.{is_number_line}
 use Rattle.flow_text.specs.declared.text.block.Block.{Block}
 use Rattle.flow_text.specs.TextFaults.{is_head}
 use Rattle.flow_limits.specs.Limits.{greatest_time}
-use Rattle.flow_shop.proofs.Bools.{both-true}
 use Rattle.std.proofs.lemmas.List.Elements.{All-from_recursion}
+use Rattle.std.proofs.lemmas.Bool.{and_parts}
 use Rattle.flow_text.specs.internal.TextWalk.{◌>>=◌, walk}
 use Rattle.flow_text.specs.internal.TextState.{SizesFit, Keeps, State, Sizes, sizes_of, start}
 use Rattle.flow_text.specs.internal.TextWalk.{placed, at_end, after_line, after_label, after_numbers}
@@ -37,7 +37,8 @@ group-back ns h bs l rest all lab p =
     record {
       groups = (l ∷ p.head_lines ++ q.label ∷ r.rows) ∷ r.groups;
       more = block ∷ r.more;
-      split = ap (λ x. l ∷ x) (p.split ∙ ap (λ x. p.head_lines ++ x) q.split ∙ ap (λ x. p.head_lines ++ q.label ∷ x) r.split
+      split = ap (λ x. l ∷ x) (p.split ∙ ap (λ x. p.head_lines ++ x) q.split ∙ ap (λ x. p.head_lines ++ q.label ∷ x)
+      r.split
           ∙ sym (append_assoc p.head_lines (q.label ∷ r.rows) others));
       each = (
         record {
@@ -136,7 +137,7 @@ sizes-fit (a ∷ b ∷ c ∷ d ∷ e ∷ f ∷ ns) h s w = absurd (omega arith)
 all-times : (ts : List ℕ) → list_all is_time ts ≡ true → AllByRecursion (λ t. t ≤ greatest_time) ts
 all-times [] h = tt
 all-times (t ∷ ts) h =
-    let both = both-true (is_time t) (list_all is_time ts) h in
+    let both = and_parts (is_time t) (list_all is_time ts) h in
     let first : is_time t ≡ true = both.0 in
     (grind (arith, nat_tests), all-times ts both.1)
 

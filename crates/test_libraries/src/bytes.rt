@@ -49,8 +49,8 @@ fn reads<S: Source>(
     }
 }
 
-/// With which bytes there may be more, the limit without them, the limit with them, how many of the bytes a source gives
-/// before it refuses, and what is read of five bytes in pieces of two.
+/// With which bytes there may be more, the limit without them, the limit with them, how many of the bytes a source
+/// gives before it refuses, and what is read of five bytes in pieces of two.
 type Listed = (
     &'static [u8],
     usize,

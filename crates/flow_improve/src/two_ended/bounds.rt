@@ -46,6 +46,14 @@ fn write_lanes<V: Lanes>(numbers: &mut [u32; MAX_JOBS], group: usize, lanes: V)
     }
 }
 
+/// What the plain rule compares of the children at an end.
+struct Totals {
+    /// How many of them are below a number.
+    below: u32,
+    /// The sum of their bounds.
+    sum: u64,
+}
+
 /// The bounds of the children of a node, by their jobs: a number of the cap or more stands as the cap.
 #[derive(Drop)]
 pub(crate) struct ChildBounds {
@@ -108,32 +116,23 @@ impl ChildBounds {
         entry.node.child_bound(instance, end, job)
     }
 
-    /// How many children at an end are below a number.
-    fn count_below(&self, instance: &Instance, entry: &Entry, end: End, number: u64) -> u32
+    /// How many children at an end are below a number, and the sum of the bounds of all of them.
+    fn totals(&self, instance: &Instance, entry: &Entry, end: End, number: u64) -> Totals
         requires entry { IsEntry instance.now entry.now }
         requires bounds { HasBounds instance.now entry.now self.now }
-        ensures { result ≡ count_below instance.now entry.now end number }
+        ensures below { result.below ≡ count_below instance.now entry.now end number }
+        ensures sum { result.sum ≡ bound_sum instance.now entry.now end }
     {
-        let mut count = 0;
-        for place in entry.first..entry.before {
-            if u64::from(self.at(instance, entry, end, place)) < number {
-                count += 1;
-            }
-        }
-        count
-    }
-
-    /// The sum of the bounds of all children at an end.
-    fn bound_sum(&self, instance: &Instance, entry: &Entry, end: End) -> u64
-        requires entry { IsEntry instance.now entry.now }
-        requires bounds { HasBounds instance.now entry.now self.now }
-        ensures { result ≡ bound_sum instance.now entry.now end }
-    {
+        let mut below = 0;
         let mut sum = 0;
         for place in entry.first..entry.before {
-            sum += u64::from(self.at(instance, entry, end, place));
+            let bound = u64::from(self.at(instance, entry, end, place));
+            if bound < number {
+                below += 1;
+            }
+            sum += bound;
         }
-        sum
+        Totals { below, sum }
     }
 
     /// The end where fewer children are below a number; where as many are, the end whose bounds sum to more; and the
@@ -143,14 +142,11 @@ impl ChildBounds {
         requires bounds { HasBounds instance.now entry.now self.now }
         ensures { result ≡ plain_end instance.now entry.now number }
     {
-        let front_count = self.count_below(instance, entry, End::Front, number);
-        let back_count = self.count_below(instance, entry, End::Back, number);
-        match fewer_below(front_count, back_count) {
+        let front = self.totals(instance, entry, End::Front, number);
+        let back = self.totals(instance, entry, End::Back, number);
+        match fewer_below(front.below, back.below) {
             Some(end) => end,
-            None => greater_sum(
-                self.bound_sum(instance, entry, End::Front),
-                self.bound_sum(instance, entry, End::Back),
-            ),
+            None => greater_sum(front.sum, back.sum),
         }
     }
 }

@@ -14,7 +14,8 @@ returns-in-Ok-clause-text c =
     cc (c.put-text.ensures.front, c.bytes.ensures.value, c.as_slice.ensures.value) in
     let are : take c.args.shop.now.jobs c.put.new.self.sequence.now ≡ found.sequence =
     cc (c.put.ensures.sequence, c.in-Ok.ensures.each.whole) in
-    λ done. subst (λ jobs. IsTextFrom shop c.args.start.now c.args.directions (take c.put-text.result c.put-text.new.room)
+    λ done. subst (λ jobs. IsTextFrom shop c.args.start.now c.args.directions (take c.put-text.result
+    c.put-text.new.room)
     (bounds_in c.put.new.self) jobs) (sym are)
     (subst (λ text. IsTextFrom shop c.args.start.now c.args.directions text (bounds_in c.put.new.self) found.sequence)
     (sym is)

@@ -10,7 +10,8 @@ returns c =
     let top : ℕ → List ℕ = λ bottom. top_text c.args.instance.now c.args.makespan c.args.lower
     (9000 + c.args.breadth + 4500) (bottom + 3400) in
     let text : ℕ → ℕ → List ℕ = λ machines bottom. top bottom
-    ++ ticks_text c.args.breadth c.args.makespan bottom c.args.step ++ axis_name_text bottom ++ flat_map machine_name_text (numbers 1 machines)
+    ++ ticks_text c.args.breadth c.args.makespan bottom c.args.step ++ axis_name_text bottom ++ flat_map
+    machine_name_text (numbers 1 machines)
     ++ codes "<g text-anchor=\"middle\" font-size=\"1000\">\n" in
     let bottom : ℕ = 5900 + c.from.result * 3000 in
     let machines : c.machines-machines.result ≡ c.args.instance.now.machines = c.machines-machines.ensures.value in

@@ -28,7 +28,8 @@ returns-then-has_releases c node left at =
     c.pruning_of_node_released.ensures
     ∙ find-released c.args.setting.now.instance.now node c.args.front.now c.args.set.now (suc left) c.args.value at
     ∙ sym (ap (λ bound. find (λ machine. nat_le c.args.value (bound c.args.setting.now.instance.now node machine))
-    (numbers 1 c.args.setting.now.instance.now.machines)) (bound-two c.args.setting.now.version c.has_releases.result c.has_releases.ensures
+    (numbers 1 c.args.setting.now.instance.now.machines)) (bound-two c.args.setting.now.version c.has_releases.result
+    c.has_releases.ensures
     c.if-has_releases.true))
 
 pub returns-else-has_releases : goal.returns-else-has_releases
@@ -36,5 +37,6 @@ returns-else-has_releases c node left at =
     c.pruning_of_node_plain.ensures (members c.args.set.now) c.requires.loads
     ∙ find-is c.args.setting.now.instance.now node c.args.front.now c.args.set.now (suc left) c.args.value at
     ∙ sym (ap (λ bound. find (λ machine. nat_le c.args.value (bound c.args.setting.now.instance.now node machine))
-    (numbers 1 c.args.setting.now.instance.now.machines)) (bound-one c.args.setting.now.version c.has_releases.result c.has_releases.ensures
+    (numbers 1 c.args.setting.now.instance.now.machines)) (bound-one c.args.setting.now.version c.has_releases.result
+    c.has_releases.ensures
     c.if-has_releases.false))

@@ -118,7 +118,8 @@ returns-clause-each c list column other opened here there differ =
     (omega (arith, c.requires.to)))
     ∙ ap (slice_index front) back in
     c.loop-earlier.invariant.each list column other opened here there differ
-    ∙ ap (λ n. max n (greatest (map (start_from shop front left (c.args.place + 1)) (numbers 1 c.loop-earlier.earlier)))) free
+    ∙ ap (λ n. max n (greatest (map (start_from shop front left (c.args.place + 1)) (numbers 1
+    c.loop-earlier.earlier)))) free
     ∙ ap (λ n. max (slice_index front c.args.place) (greatest (map (start_from shop front left (c.args.place + 1))
     (numbers 1 n)))) e
     ∙ sym (release-is shop front left c.args.place)

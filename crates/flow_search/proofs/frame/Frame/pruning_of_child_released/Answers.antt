@@ -188,7 +188,8 @@ released c node left is kid lags =
     omega (arith, c.release_at_child.ensures.least, here) in
     let tail : ℕ = slice_index (slice_index_or c.args.setting.now.rows.now (job - 1) none).tails (k - 1) in
     let bound = child-released shop node left job k c.release_at_child.result c.from-time.result tail
-    c.tail_without-tail.result c.args.self.now c.args.setting.now.are_rows.limits is kid low begins.1 late least there row.1
+    c.tail_without-tail.result c.args.self.now c.args.setting.now.are_rows.limits is kid low begins.1 late least there
+    row.1
     c.tail_without-tail.ensures in (
       omega (arith, bound, c.sum.ensures, c.from.ensures, c.from-in-loop-machine.ensures),
       least,
