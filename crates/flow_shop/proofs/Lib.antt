@@ -10,6 +10,7 @@ pub mod JobSetLemmas
 pub mod Transposes
 pub mod Taken
 pub mod TwoLeastSteps
+pub mod Times
 pub mod RowSteps
 pub mod Lists
 pub mod LeastFound

@@ -1,15 +1,13 @@
 -- Fronts: when the last job of a list leaves each machine.
-use Rattle.std.specs.Prelude.{ℕ, ◌≡◌, ◌-◌, ◌<◌, ◌≤◌, List, slice_index}
+use Rattle.std.specs.Prelude.{ℕ, ◌≡◌, ◌<◌, ◌≤◌, List, slice_index}
 use Rattle.flow_limits.specs.Limits.{greatest_completion}
-use Rattle.flow_shop.specs.Shop.{Shop}
+use Rattle.flow_shop.specs.Shop.{Shop, AreOf}
 use Rattle.flow_shop.specs.Paths.{completion}
 
 -- a front has a time for each machine. It is the front of a list of jobs where these are the times at which the list's
 -- last job leaves the machines of the instance
 abbrev pub IsFrontOf : Shop → List ℕ → List ℕ → Type 0
-IsFrontOf shop jobs front =
-    (machine : ℕ) → 1 ≤ machine → machine ≤ shop.machines →
-    slice_index front (machine - 1) ≡ completion shop jobs machine
+IsFrontOf shop jobs front = AreOf shop (completion shop jobs) front
 
 -- on the instance's machines no time is above `greatest_completion`, so that one more job can't overflow
 abbrev pub IsWithinFront : Shop → List ℕ → Type 0

@@ -1,6 +1,7 @@
--- The tails of some jobs behind a machine, and the two least of some numbers.
-use Rattle.std.specs.Prelude.{ℕ, ◌≡◌, ◌≢◌, ◌+◌, List, [], ◌∷◌, map, min, max}
+-- The tails of some jobs behind a machine, their lags to it, and the two least of some numbers.
+use Rattle.std.specs.Prelude.{ℕ, ◌≡◌, ◌≢◌, ◌+◌, ◌-◌, ◌<◌, List, [], ◌∷◌, map, min, max, slice_index}
 use Rattle.flow_shop.specs.Shop.{Shop, time_between}
+use Rattle.flow_shop.specs.declared.least_pairs.LeastPairs.{LeastPairs}
 
 -- the tails of some jobs behind a machine (inner)
 abbrev pub tails : Shop → ℕ → List ℕ → List ℕ
@@ -24,3 +25,14 @@ least_of_none = 4294967295
 -- (inner)
 abbrev pub IsLeastWithout : ℕ → ℕ → ℕ → ℕ → Type 0
 IsLeastWithout one least second value = (one ≡ least → value ≡ second) × (one ≢ least → value ≡ least)
+
+-- the lag of a job from the machine at a place to another: its time on the machines from there to the one before
+abbrev pub time_to : Shop → ℕ → ℕ → ℕ → ℕ
+time_to shop machine place job = time_between shop job (place + 1) (machine - 1)
+
+-- the two least of the numbers that some jobs have at the first places
+abbrev pub AreTwoLeast : (ℕ → ℕ → ℕ) → ℕ → List ℕ → LeastPairs → Type 0
+AreTwoLeast number count jobs two =
+    (place : ℕ) → place < count →
+    (slice_index two.least place ≡ least_below least_of_none (map (number place) jobs))
+    × (slice_index two.second place ≡ second_below least_of_none least_of_none (map (number place) jobs))

@@ -1,9 +1,9 @@
 //! An instance: the times of jobs on machines.
 
-ghost use Rattle.std.specs.Prelude.{◌≡◌, ◌*◌, ◌<◌, ◌≤◌, nat_lt, length, position, All, None};
+ghost use Rattle.std.specs.Prelude.{◌≡◌, ◌+◌, ◌*◌, ◌<◌, ◌≤◌, nat_lt, length, position, All, None};
 ghost use Rattle.std.specs.Prelude.{IfSome, IfNone, IfOk, OnOk, IfErr};
 ghost use Rattle.std.specs.Cmp.{partial_equiv_from_equiv};
-ghost use Rattle.flow_shop.specs.Shop.{IsWithinLimits, time, is_same_shop};
+ghost use Rattle.flow_shop.specs.Shop.{IsWithinLimits, time, time_between, is_same_shop};
 ghost use Rattle.flow_shop.specs.internal.Same.{is_same_shop-equiv};
 ghost use Rattle.flow_shop.specs.InstanceFaults.{instance_fault, but_memory};
 ghost use Rattle.flow_shop.specs.declared.instance.InstanceFault.TheVariants.{Memory};
@@ -199,5 +199,22 @@ impl Instance {
     {
         let place = (job as usize - 1) * self.machines as usize + (machine as usize - 1);
         self.rows[place]
+    }
+
+    /// The time of a job on the machines from `first` to `last`, both counted from 1.
+    pub fn time_between(&self, job: u16, first: u16, last: u16) -> u32
+        requires job_from { 1 ≤ job }
+        requires job_to { job ≤ self.now.jobs }
+        requires from { 1 ≤ first }
+        requires order { first ≤ last + 1 }
+        requires to { last ≤ self.now.machines }
+        ensures { result ≡ time_between self.now job first last }
+    {
+        prove!(last <= self.machines());
+        let mut time = 0;
+        for machine in first..last + 1 {
+            time += self.time(job, machine);
+        }
+        time
     }
 }

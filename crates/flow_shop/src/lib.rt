@@ -6,6 +6,7 @@ mod front;
 mod instance;
 mod job_set;
 mod laws;
+mod least_pairs;
 mod row;
 mod sequence;
 mod two_least;
@@ -21,6 +22,7 @@ pub use laws::{
     instances_have_no_fault, least_makespan_is_one, released_bound_is_admissible,
     released_bound_is_stronger, sequences_have_no_fault,
 };
+pub use least_pairs::LeastPairs;
 pub use row::{Row, rows};
 pub use sequence::{Sequence, SequenceFault, first_job_at_fault};
 pub use two_least::TwoLeast;

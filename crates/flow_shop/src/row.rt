@@ -1,7 +1,9 @@
 //! The times and tails of the jobs, a row for each.
 
-ghost use Rattle.std.specs.Prelude.{◌≤◌, IfOk};
+ghost use Rattle.std.specs.Prelude.{◌≡◌, ℕ, ◌-◌, ◌<◌, ◌≤◌, slice_index, IfOk};
+ghost use Rattle.flow_shop.specs.Shop.{Shop, IsWithinLimits, time_between};
 ghost use Rattle.flow_shop.specs.Rows.{IsRow, AreRows};
+ghost use Rattle.flow_shop.specs.TwoLeast.{time_to};
 
 use crate::instance::Instance;
 use flow_limits::MAX_MACHINES;
@@ -14,6 +16,39 @@ pub struct Row {
     pub times: [u32; MAX_MACHINES],
     /// Its tail behind each machine: its time on all later machines.
     pub tails: [u32; MAX_MACHINES],
+}
+
+impl Row {
+    /// The job's lag from a machine to another: its time on the machines from there to the one before the other.
+    #[inline(always)]
+    pub fn lag(&self, from: u16, to: u16) -> u32
+        requires from { 1 ≤ from }
+        requires order { from ≤ to }
+        requires row { (shop : Shop) × (job : ℕ) × IsWithinLimits shop × IsRow shop job self.now × (to ≤ shop.machines) }
+        ensures { (shop : Shop) (job : ℕ) → IsRow shop job self.now → to ≤ shop.machines →
+            result ≡ time_between shop job from (to - 1) }
+    {
+        let first = from as usize - 1;
+        let last = to as usize - 1;
+        let here = self.times[first] + self.tails[first];
+        let later = self.times[last] + self.tails[last];
+        here - later
+    }
+
+    /// The job's lags to a machine from each machine up to it, that from machine 1 first.
+    pub fn lags_to(&self, machine: u16) -> [u32; MAX_MACHINES]
+        requires from { 1 ≤ machine }
+        requires row { (shop : Shop) × (job : ℕ) × IsWithinLimits shop × IsRow shop job self.now ×
+            (machine ≤ shop.machines) }
+        ensures { (shop : Shop) (job : ℕ) → IsRow shop job self.now → machine ≤ shop.machines → (place : ℕ) →
+            place < machine → slice_index result place ≡ time_to shop machine place job }
+    {
+        let mut lags = [0; MAX_MACHINES];
+        for from in 1..machine + 1 {
+            lags[from as usize - 1] = self.lag(from, machine);
+        }
+        lags
+    }
 }
 
 /// The row of a job.

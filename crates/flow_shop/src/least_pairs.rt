@@ -1,0 +1,57 @@
+//! The two least numbers of some jobs at each of several places: their tails behind machines, or their lags from them.
+
+ghost use Rattle.std.specs.Prelude.{◌≡◌, ℕ, ◌<◌, ◌≤◌, List, [], ◌∷◌, ◌++◌, slice_index};
+ghost use Rattle.flow_limits.specs.Limits.{most_machines};
+ghost use Rattle.flow_shop.specs.TwoLeast.{AreTwoLeast};
+
+use crate::two_least::TwoLeast;
+use flow_limits::MAX_MACHINES;
+
+/// The two least of some jobs' numbers at each place, each the greatest number of 32 bits where there is no such job.
+/// Where two jobs have the least, both are the same.
+#[derive(Clone, Copy)]
+pub struct LeastPairs {
+    /// The least.
+    pub least: [u32; MAX_MACHINES],
+    /// The second least.
+    pub second: [u32; MAX_MACHINES],
+}
+
+impl LeastPairs {
+    /// Those of no job.
+    pub fn none() -> LeastPairs
+        ensures { (number : ℕ → ℕ → ℕ) (count : ℕ) → count ≤ most_machines → AreTwoLeast number count [] result }
+    {
+        LeastPairs {
+            least: [u32::MAX; MAX_MACHINES],
+            second: [u32::MAX; MAX_MACHINES],
+        }
+    }
+
+    /// The two least at a place.
+    #[inline(always)]
+    pub fn at(&self, place: usize) -> TwoLeast
+        requires { place < most_machines }
+        ensures least { result.least ≡ slice_index self.now.least place }
+        ensures second { result.second ≡ slice_index self.now.second place }
+    {
+        TwoLeast {
+            least: self.least[place],
+            second: self.second[place],
+        }
+    }
+
+    /// Takes one job more in, by its numbers at the first places.
+    pub fn take(&mut self, numbers: &[u32; MAX_MACHINES], count: usize)
+        requires { count ≤ most_machines }
+        ensures { (number : ℕ → ℕ → ℕ) (jobs : List ℕ) (job : ℕ) →
+            ((place : ℕ) → place < count → slice_index numbers.now place ≡ number place job) →
+            AreTwoLeast number count jobs self.old → AreTwoLeast number count (jobs ++ job ∷ []) self.new }
+    {
+        for place in 0..count {
+            let two = self.at(place).with(numbers[place]);
+            self.least[place] = two.least;
+            self.second[place] = two.second;
+        }
+    }
+}
