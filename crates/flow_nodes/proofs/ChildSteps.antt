@@ -2,7 +2,7 @@
 use Rattle.std.proofs.Common.{◌≡◌, ℕ, suc, ◌+◌, ◌-◌, ◌<◌, ◌≤◌, max, false, List, [], ◌∷◌, ◌++◌, map, slice_index}
 use Rattle.std.proofs.Common.{refl, ap, ◌∙◌, arith}
 use Rattle.std.specs.List.{range_with_len}
-use Rattle.flow_shop.specs.Shop.{Shop, numbers, time}
+use Rattle.flow_shop.specs.Shop.{Shop, numbers, time, AreOf}
 use Rattle.flow_shop.specs.Least.{greatest}
 use Rattle.flow_shop.specs.Sequences.{has}
 use Rattle.flow_shop.specs.Ends.{front, back, end_bound_at}
@@ -11,7 +11,7 @@ use Rattle.flow_shop.specs.declared.end.End.TheVariants.{Front, Back}
 use Rattle.flow_shop.proofs.Ranges.{greatest-next, greatest-same}
 use Rattle.flow_shop.proofs.EndSteps.{front_by_recurrence, back-past, back-is, sum-child}
 use Rattle.flow_nodes.specs.declared.node.Node.{Node}
-use Rattle.flow_nodes.specs.Nodes.{AreOf, IsJob, IsNode, work}
+use Rattle.flow_nodes.specs.Nodes.{IsJob, IsNode, work}
 use Rattle.flow_nodes.specs.Groups.{child_bound}
 use Rattle.flow_nodes.specs.internal.Children.{front_child_at, back_child_at, greatest_at}
 use Rattle.flow_nodes.proofs.KeptNodes.{end-bound-is}

@@ -3,7 +3,7 @@ use Rattle.std.proofs.Common.{◌≡◌, ℕ, suc, ◌+◌, ◌-◌, ◌*◌, �
 use Rattle.std.proofs.Common.{slice_index, ap, sym, ◌∙◌, subst, arith, length-append, All}
 use Rattle.std.proofs.lemmas.List.Elements.{recursion_from_All, All-from_recursion, All-nil}
 use Rattle.flow_limits.specs.Limits.{most_jobs, greatest_time, greatest_completion}
-use Rattle.flow_shop.specs.Shop.{Shop, IsWithinLimits, numbers, time}
+use Rattle.flow_shop.specs.Shop.{Shop, IsWithinLimits, numbers, time, AreOf}
 use Rattle.flow_shop.specs.Least.{greatest}
 use Rattle.flow_shop.specs.Sequences.{has}
 use Rattle.flow_shop.specs.Front.{IsWithinFront}
@@ -15,7 +15,7 @@ use Rattle.flow_shop.specs.declared.end.End.TheVariants.{Front, Back}
 use Rattle.flow_nodes.specs.declared.node.Node.{Node}
 use Rattle.flow_shop.specs.Ends.{head, tail, front, back, end_bound_at, end_bound}
 use Rattle.flow_shop.specs.Directions.{first_with, last_with}
-use Rattle.flow_nodes.specs.Nodes.{AreOf, IsJob, IsNode, work}
+use Rattle.flow_nodes.specs.Nodes.{IsJob, IsNode, work}
 use Rattle.flow_shop.proofs.EndSteps.{front-after, sum-child, count-child}
 use Rattle.flow_nodes.proofs.NodeSteps.{front-small, back-small}
 

@@ -6,22 +6,13 @@ use Rattle.std.proofs.lemmas.List.{get_or-set_same, get_or-set_other}
 use Rattle.flow_limits.specs.Limits.{most_jobs, most_machines, greatest_completion}
 use Rattle.flow_shop.specs.Shop.{Shop, IsWithinLimits, numbers, time, time_between}
 use Rattle.flow_shop.specs.Least.{least}
-use Rattle.flow_shop.proofs.Recurrence.{completion-is, after-first, time_between-more}
+use Rattle.flow_shop.proofs.Recurrence.{completion-is, after-first}
 use Rattle.flow_shop.proofs.Extremes.{map-map-append}
 use Rattle.flow_shop.proofs.JobsLeft.{InRange, numbers-more}
 use Rattle.flow_shop.proofs.Ranges.{numbers-step}
 use Rattle.flow_shop.proofs.Fronts.{completion-small, tail-small}
 use Rattle.flow_shop.specs.Ends.{front, back}
 use Rattle.flow_shop.proofs.EndBounds.{head-le, tail-le, through}
-
-pub time-last : (shop : Shop) (job from k : ℕ) → 1 ≤ k → from ≤ k →
-    time_between shop job from (k + 1 - 1) ≡ time_between shop job from (k - 1) + time shop job k
-time-last shop job from zero low high = absurd (omega arith)
-time-last shop job from (suc k) low high =
-    let next : suc k + 1 - 1 ≡ suc k = omega arith in
-    let e : k ≡ suc k - 1 = omega arith in
-    ap (time_between shop job from) next
-    ∙ time_between-more shop job from k high ∙ ap (λ n. time_between shop job from n + time shop job (suc k)) e
 
 least-push : (xs : List ℕ) (x : ℕ) → 0 < length xs → least (xs ++ x ∷ []) ≡ min (least xs) x
 least-push [] x some = absurd (omega arith)

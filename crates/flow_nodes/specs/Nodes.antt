@@ -1,6 +1,6 @@
 -- Nodes: what is kept of a first list and a last list, and of the jobs in neither.
-use Rattle.std.specs.Prelude.{ℕ, ◌≡◌, ◌+◌, ◌-◌, ◌≤◌, List, ◌++◌, length, slice_index, sum_by, All}
-use Rattle.flow_shop.specs.Shop.{Shop, IsWithinLimits, time}
+use Rattle.std.specs.Prelude.{ℕ, ◌≡◌, ◌+◌, ◌≤◌, List, ◌++◌, length, sum_by, All}
+use Rattle.flow_shop.specs.Shop.{Shop, AreOf, IsWithinLimits, time}
 use Rattle.flow_shop.specs.Sequences.{jobs_left}
 use Rattle.flow_shop.specs.Ends.{front, back}
 use Rattle.flow_nodes.specs.declared.node.Node.{Node}
@@ -12,11 +12,6 @@ IsJob shop job = (1 ≤ job) × (job ≤ shop.jobs)
 -- a machine of an instance
 abbrev pub IsMachine : Shop → ℕ → Type 0
 IsMachine shop machine = (1 ≤ machine) × (machine ≤ shop.machines)
-
--- a number for each machine, that of machine 1 first
-abbrev pub AreOf : Shop → (ℕ → ℕ) → List ℕ → Type 0
-AreOf shop value numbers =
-    (machine : ℕ) → 1 ≤ machine → machine ≤ shop.machines → slice_index numbers (machine - 1) ≡ value machine
 
 -- the time, on a machine, of the jobs that a list leaves
 abbrev pub work : Shop → List ℕ → ℕ → ℕ

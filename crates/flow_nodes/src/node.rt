@@ -1,14 +1,15 @@
 //! Nodes: the front and the back on each machine, and the time of the jobs left.
 
 ghost use Rattle.std.specs.Prelude.{◌≡◌, ℕ, ◌+◌, ◌-◌, ◌≤◌, List, [], ◌∷◌, ◌++◌, All, map, slice_index, false};
-ghost use Rattle.flow_shop.specs.Shop.{IsWithinLimits, numbers, time, time_between};
+ghost use Rattle.flow_shop.specs.Shop.{AreOf, numbers, time, time_between};
 ghost use Rattle.flow_shop.specs.Front.{IsWithinFront};
 ghost use Rattle.flow_shop.specs.Least.{least};
 ghost use Rattle.flow_shop.specs.Sequences.{has};
 ghost use Rattle.flow_shop.specs.Directions.{first_with, last_with};
 ghost use Rattle.flow_shop.specs.Ends.{back, end_bound, front};
 ghost use Rattle.flow_nodes.specs.Groups.{child_bound};
-ghost use Rattle.flow_nodes.specs.Nodes.{AreOf, IsJob, IsMachine, IsNode, work};
+ghost use Rattle.flow_nodes.specs.Lanes.{capped};
+ghost use Rattle.flow_nodes.specs.Nodes.{IsJob, IsMachine, IsNode, work};
 
 use flow_limits::MAX_MACHINES;
 use flow_shop::{End, Instance};
@@ -24,34 +25,17 @@ pub struct Node {
     pub(crate) work: [u32; MAX_MACHINES],
 }
 
-/// The time of a job on the machines from one to the one before another.
-fn time_until(instance: &Instance, job: u16, from: u16, until: u16) -> u32
-    requires limits { IsWithinLimits instance.now }
-    requires job { IsJob instance.now job }
-    requires from { 1 ≤ from }
-    requires order { from ≤ until }
-    requires until { until ≤ instance.now.machines + 1 }
-    ensures { result ≡ time_between instance.now job from (until - 1) }
-{
-    let mut sum = 0;
-    for machine in from..until {
-        sum += instance.time(job, machine);
-    }
-    sum
-}
-
-/// The least time of a job of the instance on the machines from one to the one before another.
-fn least_until(instance: &Instance, from: u16, until: u16) -> u32
-    requires from { 1 ≤ from }
-    requires order { from ≤ until }
-    requires until { until ≤ instance.now.machines + 1 }
-    ensures { result ≡ least (map (λ job. time_between instance.now job from (until - 1))
-        (numbers 1 instance.now.jobs)) }
+/// The least time of a job of the instance on the machines from `first` to `last`.
+fn least_between(instance: &Instance, first: u16, last: u16) -> u32
+    requires from { 1 ≤ first }
+    requires order { first ≤ last + 1 }
+    requires to { last ≤ instance.now.machines }
+    ensures { result ≡ least (map (λ job. time_between instance.now job first last) (numbers 1 instance.now.jobs)) }
 {
     let jobs = instance.jobs();
-    let mut least = time_until(instance, 1, from, until);
+    let mut least = instance.time_between(1, first, last);
     for job in 2..jobs + 1 {
-        least = least.min(time_until(instance, job, from, until));
+        least = least.min(instance.time_between(job, first, last));
     }
     least
 }
@@ -132,8 +116,8 @@ impl Node {
         let mut work = [0; MAX_MACHINES];
         for machine in 1..machines + 1 {
             let place = machine as usize - 1;
-            front[place] = least_until(instance, 1, machine);
-            back[place] = least_until(instance, machine + 1, machines + 1);
+            front[place] = least_between(instance, 1, machine - 1);
+            back[place] = least_between(instance, machine + 1, machines);
             work[place] = time_of_all(instance, machine);
         }
         Node { front, back, work }
@@ -198,5 +182,24 @@ impl Node {
         let mut child = *self;
         child.put(instance, end, job);
         child.bound(instance)
+    }
+
+    /// The bound of the child that puts a job that is left at an end, from the lane that has this bound, or the cap where
+    /// that is less.
+    #[inline(always)]
+    pub fn bound_from_lane(&self, instance: &Instance, end: End, job: u16, lane: u32, cap: u32) -> u32
+        requires job { IsJob instance.now job }
+        requires left { (first : List ℕ) × (last : List ℕ) × IsNode instance.now first last self.now
+            × (has (first ++ last) job ≡ false) }
+        requires lane { (first last : List ℕ) → IsNode instance.now first last self.now →
+            has (first ++ last) job ≡ false → lane ≡ capped cap (child_bound instance.now end first last job) }
+        ensures { (first last : List ℕ) → IsNode instance.now first last self.now →
+            has (first ++ last) job ≡ false → result ≡ child_bound instance.now end first last job }
+    {
+        if lane < cap {
+            lane
+        } else {
+            self.child_bound(instance, end, job)
+        }
     }
 }

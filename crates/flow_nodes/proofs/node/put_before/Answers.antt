@@ -1,9 +1,8 @@
 use Rattle.std.proofs.Common.{◌≡◌, ℕ, List, ◌∷◌, ◌-◌, ◌≤◌, ◌+◌, ◌<◌, slice_index, length, arith, ◌∙◌, ap, ◌≢◌}
 use Rattle.std.proofs.lemmas.List.{get_or-set_other, length-set}
 use Rattle.flow_limits.specs.Limits.{most_machines, greatest_completion}
-use Rattle.flow_shop.specs.Shop.{time}
+use Rattle.flow_shop.specs.Shop.{time, AreOf}
 use Rattle.flow_shop.specs.Ends.{back}
-use Rattle.flow_nodes.specs.Nodes.{AreOf}
 use Rattle.flow_nodes.proofs.NodeSteps.{filled-down}
 use Rattle.flow_shop.proofs.EndSteps.{back-is}
 use Rattle.flow_nodes.proofs.node.put_before.Goals as goal

@@ -1,7 +1,7 @@
 use Rattle.std.proofs.Common.{◌≡◌, ℕ, ◌-◌, ◌≤◌, ◌+◌, ◌*◌, ◌<◌, List, ◌∷◌, slice_index, length}
+use Rattle.flow_shop.specs.Shop.{AreOf}
 use Rattle.flow_limits.specs.Limits.{most_machines, greatest_time, greatest_completion}
 use Rattle.flow_shop.specs.Ends.{back}
-use Rattle.flow_nodes.specs.Nodes.{AreOf}
 use Rattle.flow_nodes.proofs.node.put_before.Given as goal
 
 -- the machines so far are those of the longer list, and the others as they were

@@ -1,8 +1,7 @@
 use Rattle.std.proofs.Common.{◌≡◌, ℕ, ◌≤◌, ◌+◌, ◌-◌, slice_index, ap, sym, ◌∙◌, subst, arith}
-use Rattle.flow_shop.specs.Shop.{time}
+use Rattle.flow_shop.specs.Shop.{time, AreOf}
 use Rattle.flow_shop.specs.Ends.{front, back}
 use Rattle.flow_shop.specs.Directions.{first_with, last_with}
-use Rattle.flow_nodes.specs.Nodes.{AreOf}
 use Rattle.flow_nodes.proofs.KeptNodes.{fronts-within, backs-within, work-covers, child-node}
 use Rattle.flow_nodes.proofs.node.Node.put.Goals as goal
 use Rattle.flow_nodes.proofs.node.Node.put.Goals.{in-Front, in-Back}

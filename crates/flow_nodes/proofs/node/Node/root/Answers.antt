@@ -18,20 +18,18 @@ loop-machine-preserved c =
     let most : c.args.instance.now.machines ≤ most_machines = c.machines-machines.ensures.limits.machines in
     let i = c.loop-machine.invariant in
     let place : ℕ = c.loop-machine.machine - 1 in
-    let last : c.machines-machines.result + 1 - 1 ≡ c.args.instance.now.machines =
-    omega (arith, c.machines-machines.ensures.value) in
-    let back : c.least_until-in-loop-machine.result ≡ tail c.args.instance.now c.loop-machine.machine =
-    c.least_until-in-loop-machine.ensures
+    let back : c.least_between-in-loop-machine.result ≡ tail c.args.instance.now c.loop-machine.machine =
+    c.least_between-in-loop-machine.ensures
     ∙ ap (λ m. least (map (λ job. time_between c.args.instance.now job (c.loop-machine.machine + 1) m)
-    (numbers 1 c.args.instance.now.jobs))) last in
+    (numbers 1 c.args.instance.now.jobs))) c.machines-machines.ensures.value in
     record {
-      front_size = length-set c.loop-machine.front place c.least_until.result ∙ i.front_size;
-      back_size = length-set c.loop-machine.back place c.least_until-in-loop-machine.result ∙ i.back_size;
+      front_size = length-set c.loop-machine.front place c.least_between.result ∙ i.front_size;
+      back_size = length-set c.loop-machine.back place c.least_between-in-loop-machine.result ∙ i.back_size;
       work_size = length-set c.loop-machine.work place c.time_of_all.result ∙ i.work_size;
       fronts = filled-more (λ k v. v ≡ head c.args.instance.now k) c.loop-machine.front c.loop-machine.machine
-          c.least_until.result low (omega (arith, low, high, most, i.front_size)) c.least_until.ensures i.fronts;
+          c.least_between.result low (omega (arith, low, high, most, i.front_size)) c.least_between.ensures i.fronts;
       backs = filled-more (λ k v. v ≡ tail c.args.instance.now k) c.loop-machine.back c.loop-machine.machine
-          c.least_until-in-loop-machine.result low (omega (arith, low, high, most, i.back_size)) back i.backs;
+          c.least_between-in-loop-machine.result low (omega (arith, low, high, most, i.back_size)) back i.backs;
       works = filled-more (λ k v. v ≡ work c.args.instance.now [] k) c.loop-machine.work c.loop-machine.machine
           c.time_of_all.result low (omega (arith, low, high, most, i.work_size)) c.time_of_all.ensures.value i.works;
     }
