@@ -5,7 +5,7 @@ ghost use Rattle.std.specs.Option.{SomeIff};
 ghost use Rattle.flow_generator.specs.Generator.{modulus, state_after, drawn, generated, generator_fault};
 ghost use Rattle.flow_shop.specs.InstanceFaults.{but_memory};
 
-use flow_limits::{MAX_JOBS, MAX_MACHINES};
+use flow_limits::{may_have_jobs, may_have_machines};
 use flow_shop::{Instance, InstanceFault};
 use std::alloc::Global;
 use std::marker::Model;
@@ -100,10 +100,10 @@ pub fn generate(
     ensures accepted { OnOk result (generator_fault jobs machines seed ≡ None) }
     ensures refused { IfErr result (λ fault. generator_fault jobs machines seed ≡ but_memory fault) }
 {
-    if jobs < 1 || jobs as usize > MAX_JOBS {
+    if !may_have_jobs(jobs) {
         return Err(InstanceFault::Jobs);
     }
-    if machines < 1 || machines as usize > MAX_MACHINES {
+    if !may_have_machines(machines) {
         return Err(InstanceFault::Machines);
     }
     let Some(mut generator) = Taillard::new(seed) else {

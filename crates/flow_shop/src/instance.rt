@@ -10,7 +10,7 @@ ghost use Rattle.flow_shop.specs.declared.instance.InstanceFault.TheVariants.{Me
 ghost use Rattle.flow_limits.specs.Limits.{greatest_time};
 ghost use Rattle.flow_shop.specs.internal.Transposed.{transposed};
 
-use flow_limits::{MAX_JOBS, MAX_MACHINES, MAX_TIME};
+use flow_limits::{MAX_TIME, may_have_jobs, may_have_machines};
 use std::alloc::{AllocError, Global};
 use std::marker::Model;
 use thiserror::Error;
@@ -126,10 +126,10 @@ impl Instance {
         ensures accepted { OnOk result (instance_fault jobs machines times.now ≡ None) }
         ensures refused { IfErr result (λ fault. instance_fault jobs machines times.now ≡ but_memory fault) }
     {
-        if jobs < 1 || jobs as usize > MAX_JOBS {
+        if !may_have_jobs(jobs) {
             return Err(InstanceFault::Jobs);
         }
-        if machines < 1 || machines as usize > MAX_MACHINES {
+        if !may_have_machines(machines) {
             return Err(InstanceFault::Machines);
         }
         if times.len() != jobs as usize * machines as usize {

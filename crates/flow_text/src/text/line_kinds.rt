@@ -13,7 +13,7 @@ use crate::text::block::Block;
 use crate::text::fault::{LineFault, TextFault};
 use crate::text::line::{first_solid, numbers_in};
 use crate::text::progress::{Head, Progress, Want};
-use flow_limits::{MAX_JOBS, MAX_MACHINES, MAX_TIME};
+use flow_limits::{MAX_TIME, may_have_jobs, may_have_machines};
 use flow_shop::Instance;
 use std::alloc::Global;
 
@@ -43,11 +43,7 @@ fn head_of(numbers: &[u32]) -> Option<Head>
 {
     let jobs = numbers[0];
     let machines = numbers[1];
-    if jobs >= 1
-        && jobs as usize <= MAX_JOBS
-        && machines >= 1
-        && machines as usize <= MAX_MACHINES
-    {
+    if may_have_jobs(jobs) && may_have_machines(machines) {
         Some(Head {
             jobs: jobs as u16,
             machines: machines as u16,

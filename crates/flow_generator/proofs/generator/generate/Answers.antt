@@ -1,4 +1,6 @@
-use Rattle.std.proofs.Common.{arith, ap, ◌∙◌}
+use Rattle.std.proofs.Common.{arith, ap, sym, ◌∙◌}
+use Rattle.flow_limits.specs.Limits.{most_jobs, most_machines}
+use Rattle.flow_shop.proofs.InstanceLemmas.{range-in}
 use Rattle.flow_generator.specs.Generator.{drawn, drawn_time}
 use Rattle.flow_generator.specs.Generator.{least_drawn, greatest_drawn}
 use Rattle.flow_generator.proofs.GeneratorLemmas.{drawn-more, drawn-are-times}
@@ -20,11 +22,14 @@ loop-preserved c =
 pub from_times-requires : goal.from_times-requires
 from_times-requires c =
     let drawn = c.loop.invariant in
+    let jobs = range-in most_jobs c.args.jobs (sym c.may_have_jobs.ensures ∙ c.if-not-may_have_jobs.false) in
+    let machines = range-in most_machines c.args.machines
+    (sym c.may_have_machines.ensures ∙ c.if-not-may_have_machines.false) in
     record {
-      some_job = omega arith;
-      jobs = omega arith;
-      some_machine = omega arith;
-      machines = omega arith;
+      some_job = omega (arith, jobs.0);
+      jobs = omega (arith, jobs.1);
+      some_machine = omega (arith, machines.0);
+      machines = omega (arith, machines.1);
       count = omega (arith, c.loop.times.ok.0);
       times = drawn-are-times c.args.seed c.loop.counter c.as_slice-times.result.now (c.as_slice-times.ensures.value
           ∙ drawn.times);
