@@ -73,7 +73,7 @@ AnswersAs kind request origin bytes (Err fault) =
 -- what `check` answers for a block and the bytes of a text
 abbrev pub AnswersCheck : CheckRequest → Origin → List ℕ → Output → Type 0
 AnswersCheck request origin bytes answer =
-    (kind : TextKind) × IsTakenAs request.bounds bytes kind × AnswersAs kind request origin bytes answer
+    (kind : TextKind) × IsTakenAs request.two_ended bytes kind × AnswersAs kind request origin bytes answer
 
 -- what a text of a kind proves of the shop: its bounds are proved, and those of a certificate are one number
 abbrev pub ProvesAs : TextKind → Shop → Bounds → Type 0
@@ -83,7 +83,7 @@ ProvesAs kind shop bounds = AreProved shop bounds × (kind ≡ Certificate → b
 -- suffice; or the sequence has the upper one
 abbrev pub SaysProved : CheckRequest → Origin → List ℕ → Output → Type 0
 SaysProved request origin bytes (Ok text) =
-    (kind : TextKind) × IsTakenAs request.bounds bytes kind
+    (kind : TextKind) × IsTakenAs request.two_ended bytes kind
     × (bounds : Bounds) × ProvesAs kind origin.block.instance bounds × SufficesFor request bounds
     × (jobs : List ℕ) × IsSequence origin.block.instance.jobs jobs
     × (span origin.block.instance jobs ≡ bounds.upper)

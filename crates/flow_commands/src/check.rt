@@ -87,7 +87,7 @@ fn checked_text(
         ⊎ AnswersCheck request (origin_of picked.now) bytes.now (Err fault)) }
     ensures device { NamesNoDevice result }
 {
-    let kind = kind_among(bytes, request.bounds);
+    let kind = kind_among(bytes, request.two_ended);
     let shown = check_text(alloc, kind, &picked.block.instance, bytes)?;
     if falls_short(request, shown.bounds) {
         let Bounds { lower, upper } = shown.bounds;
@@ -140,7 +140,7 @@ pub fn run_check<S: Source, C: Source, K: Sink>(
         index,
         cert,
         CheckRequest {
-            bounds: false,
+            two_ended: false,
             output: CheckOutput::Proved,
             optimal: false,
         },

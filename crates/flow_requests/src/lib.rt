@@ -43,7 +43,7 @@ pub struct CertifyRequest {
 #[derive(Clone, Copy, Debug, PartialEq)]
 pub struct CheckRequest {
     /// Whether a two-ended certificate is accepted too, by its first line.
-    pub bounds: bool,
+    pub two_ended: bool,
     /// What is printed of a lawful text.
     pub output: CheckOutput,
     /// Whether a text is refused whose bounds are not one number.

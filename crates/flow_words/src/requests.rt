@@ -98,7 +98,7 @@ fn certify_of(given: &ArgMatches) -> Option<Request> {
 
 fn check_of<'a>(given: &ArgMatches<'a>) -> Option<Invocation<'a>> {
     let request = CheckRequest {
-        bounds: true,
+        two_ended: true,
         output: output_of(given)?,
         optimal: given.get_flag("optimal"),
     };

@@ -105,7 +105,7 @@ const SOLVE: SolveRequest = SolveRequest {
 
 /// `check` of certificates of all kinds.
 const CHECK: CheckRequest = CheckRequest {
-    bounds: true,
+    two_ended: true,
     output: CheckOutput::Proved,
     optimal: false,
 };

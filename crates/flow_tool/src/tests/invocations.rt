@@ -53,7 +53,7 @@ const OF_BLOCK: [(&str, Option<&str>, Request); 12] = [
         "check FILE 1 CERT",
         Some("CERT"),
         Request::Check(CheckRequest {
-            bounds: true,
+            two_ended: true,
             output: CheckOutput::Proved,
             optimal: false,
         }),
@@ -62,7 +62,7 @@ const OF_BLOCK: [(&str, Option<&str>, Request); 12] = [
         "check FILE 1 CERT --optimal --sequence",
         Some("CERT"),
         Request::Check(CheckRequest {
-            bounds: true,
+            two_ended: true,
             output: CheckOutput::Sequence,
             optimal: true,
         }),
@@ -71,7 +71,7 @@ const OF_BLOCK: [(&str, Option<&str>, Request); 12] = [
         "check FILE 1 CERT --verbose",
         Some("CERT"),
         Request::Check(CheckRequest {
-            bounds: true,
+            two_ended: true,
             output: CheckOutput::Report,
             optimal: false,
         }),

@@ -251,7 +251,7 @@ static KNOWN: [Known; 25] = [
 /// Whether `check` prints this for a two-ended certificate.
 fn is_accepted(alloc: Global, text: &[u8], certificate: &[u8], wanted: Wanted) -> bool {
     let request = CheckRequest {
-        bounds: true,
+        two_ended: true,
         output: CheckOutput::Proved,
         optimal: false,
     };

@@ -199,7 +199,7 @@ fn answers(
 fn prints(alloc: Global, row: &Row) -> bool {
     let (certificate, output, wanted) = *row;
     let request = CheckRequest {
-        bounds: true,
+        two_ended: true,
         output,
         optimal: false,
     };
@@ -306,7 +306,7 @@ SHA-256 of the certificate 53fb865b8c815fa6e737068fb0ca12f58f67dca949d97a8835c27
 fn reports(alloc: Global, row: &Reported) -> bool {
     let (text, index, certificate, wanted) = *row;
     let request = CheckRequest {
-        bounds: true,
+        two_ended: true,
         output: REPORT,
         optimal: false,
     };
@@ -350,7 +350,7 @@ static PROVED: [Proved; 5] = [
 fn is_proved(alloc: Global, row: &Proved) -> bool {
     let (certificate, line, lines) = *row;
     let request = CheckRequest {
-        bounds: true,
+        two_ended: true,
         output: LINE,
         optimal: true,
     };
@@ -382,7 +382,7 @@ static PRINTED: [Printed; 2] = [
 fn is_filled(alloc: Global, row: &Printed, room: usize) -> bool {
     let (certificate, output, text) = *row;
     let request = CheckRequest {
-        bounds: true,
+        two_ended: true,
         output,
         optimal: false,
     };
@@ -436,7 +436,7 @@ fn is_accepted<R: Threads + Wait + Sync>(
         version,
     };
     let asked = CheckRequest {
-        bounds: true,
+        two_ended: true,
         output: LINE,
         optimal: true,
     };
