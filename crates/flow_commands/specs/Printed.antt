@@ -8,6 +8,10 @@ use Rattle.flow_core.specs.Paths.{span}
 abbrev pub value_line : List ℕ → ℕ → List ℕ
 value_line words value = words ++ decimal value ++ codes "\n"
 
+-- a line of words, a value, words between, and another value
+abbrev pub values_line : List ℕ → ℕ → List ℕ → ℕ → List ℕ
+values_line words value between other = words ++ decimal value ++ between ++ decimal other ++ codes "\n"
+
 -- a makespan's line
 abbrev pub makespan_line : ℕ → List ℕ
 makespan_line value = value_line (codes "makespan ") value
@@ -18,7 +22,7 @@ optimal_line value = value_line (codes "optimal ") value
 
 -- the line of the bounds that a text proves
 abbrev pub bounds_line : ℕ → ℕ → List ℕ
-bounds_line lower upper = codes "bounds " ++ decimal lower ++ codes " " ++ decimal upper ++ codes "\n"
+bounds_line lower upper = values_line (codes "bounds ") lower (codes " ") upper
 
 -- a sequence's line: the word, a space before each job number, and the line feed
 abbrev pub sequence_line : List ℕ → List ℕ

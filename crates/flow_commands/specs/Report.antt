@@ -14,7 +14,7 @@ use Rattle.flow_check.specs.declared.bounds.Bounds.{Bounds}
 use Rattle.flow_check.specs.declared.kind.TextKind.{TextKind}
 use Rattle.flow_check.specs.declared.kind.TextKind.TheVariants.{Certificate, TwoEnded}
 use Rattle.flow_commands.specs.Block.{Origin}
-use Rattle.flow_commands.specs.Printed.{value_line}
+use Rattle.flow_commands.specs.Printed.{value_line, values_line}
 use Rattle.hex.specs.Hex.{encode_lower}
 use Rattle.sha2.specs.Sha256.{sha256}
 
@@ -67,7 +67,7 @@ sum_line words bytes = words ++ encode_lower (sha256 bytes) ++ codes "\n"
 
 -- the line of a block's number, and of how many blocks the text has
 abbrev pub block_line : ℕ → ℕ → List ℕ
-block_line index count = codes "block " ++ decimal index ++ codes " of " ++ decimal count ++ codes "\n"
+block_line index count = values_line (codes "block ") index (codes " of ") count
 
 -- the lines of the jobs and the machines
 abbrev pub size_lines : Shop → List ℕ

@@ -1,7 +1,8 @@
 //! The lines that commands print.
 
 ghost use Rattle.std.specs.Prelude.{◌≡◌, ◌++◌, IfOk, codes};
-ghost use Rattle.flow_commands.specs.Printed.{bounds_line, makespan_line, optimal_line, sequence_line, value_line};
+ghost use Rattle.flow_commands.specs.Printed.{bounds_line, makespan_line, optimal_line, sequence_line};
+ghost use Rattle.flow_commands.specs.Printed.{value_line, values_line};
 
 use itoa::Buffer;
 use std::alloc::{AllocError, Global};
@@ -24,13 +25,7 @@ pub(crate) fn optimal_line(alloc: Global, value: u64) -> Result<Vec<u8>, AllocEr
 pub(crate) fn bounds_line(alloc: Global, lower: u64, upper: u64) -> Result<Vec<u8>, AllocError>
     ensures { IfOk result (λ line. line.items ≡ bounds_line lower upper) }
 {
-    let mut buffer = Buffer::new();
-    let mut line = Vec::from_slice(alloc, b"bounds ")?;
-    line.extend_from_slice(buffer.format(lower).as_bytes())?;
-    line.push(b' ')?;
-    line.extend_from_slice(buffer.format(upper).as_bytes())?;
-    line.push(b'\n')?;
-    Ok(line)
+    values_line(alloc, b"bounds ", lower, b" ", upper)
 }
 
 /// A line of some words and a value.
@@ -39,6 +34,25 @@ pub(crate) fn value_line(alloc: Global, words: &[u8], value: u64) -> Result<Vec<
 {
     let mut buffer = Buffer::new();
     line_of(alloc, words, buffer.format(value).as_bytes())
+}
+
+/// A line of some words, a value, words between, and another value.
+pub(crate) fn values_line(
+    alloc: Global,
+    words: &[u8],
+    value: u64,
+    between: &[u8],
+    other: u64,
+) -> Result<Vec<u8>, AllocError>
+    ensures { IfOk result (λ line. line.items ≡ values_line words.now value between.now other) }
+{
+    let mut buffer = Buffer::new();
+    let mut line = Vec::from_slice(alloc, words)?;
+    line.extend_from_slice(buffer.format(value).as_bytes())?;
+    line.extend_from_slice(between)?;
+    line.extend_from_slice(buffer.format(other).as_bytes())?;
+    line.push(b'\n')?;
+    Ok(line)
 }
 
 /// A line of some words and what follows them.

@@ -8,10 +8,9 @@ ghost use Rattle.flow_commands.specs.Report.{proof_line, report_lines, size_line
 ghost use Rattle.flow_commands.specs.internal.Picked.{origin_of};
 
 use crate::block::PickedBlock;
-use crate::printed::{line_of, value_line};
+use crate::printed::{line_of, value_line, values_line};
 use flow_check::TextKind;
 use flow_core::{Block, Instance, InstanceFault, generate};
-use itoa::Buffer;
 use sha2::{Digest, Sha256};
 use std::alloc::{AllocError, Global};
 
@@ -97,13 +96,7 @@ fn sum_line(alloc: Global, words: &[u8], bytes: &[u8]) -> Result<Vec<u8>, AllocE
 fn block_line(alloc: Global, index: u32, count: usize) -> Result<Vec<u8>, AllocError>
     ensures { IfOk result (λ line. line.items ≡ block_line index count) }
 {
-    let mut buffer = Buffer::new();
-    let mut line = Vec::from_slice(alloc, b"block ")?;
-    line.extend_from_slice(buffer.format(index).as_bytes())?;
-    line.extend_from_slice(b" of ")?;
-    line.extend_from_slice(buffer.format(count).as_bytes())?;
-    line.push(b'\n')?;
-    Ok(line)
+    values_line(alloc, b"block ", u64::from(index), b" of ", count as u64)
 }
 
 /// The lines of the jobs and the machines.
