@@ -13,10 +13,10 @@ use Rattle.flow_shop.proofs.Fronts.{zeros}
 use Rattle.flow_shop.proofs.JobsLeft.{numbers-more}
 use Rattle.flow_shop.proofs.Ranges.{numbers-step}
 use Rattle.flow_shop.proofs.Recurrence.{time_between-more, time_between-none}
+use Rattle.flow_shop.proofs.Times.{times-small}
 use Rattle.flow_shop.proofs.Taken.{range-split}
 use Rattle.flow_shop.specs.TwoLeast.{least_below}
 use Rattle.flow_shop.proofs.TwoLeastSteps.{least-push, least-below-cap}
-use Rattle.flow_bound.proofs.Steps.{time_between-small}
 
 -- a value that is written for one more number
 pub done-more : (f : ℕ → ℕ) (xs : List ℕ) (k value : ℕ) → 1 ≤ k → k - 1 < length xs → value ≡ f k →
@@ -48,20 +48,6 @@ least-step cap f k low =
     ∙ ap (least_below cap) (map-map-append f (numbers 1 (k - 1)) (k ∷ []))
     ∙ least-push cap (map f (numbers 1 (k - 1))) (f k)
 
--- a job's time on some machines, parted behind one of them
-pub time_between-split : (shop : Shop) (job from here last : ℕ) → from ≤ here + 1 → here ≤ last →
-    time_between shop job from last ≡ time_between shop job from here + time_between shop job (here + 1) last
-time_between-split shop job from here last low high =
-    let len : last + 1 - from ≡ (here + 1 - from) + (last - here) = omega arith in
-    let next : from + (here + 1 - from) ≡ here + 1 = omega arith in
-    let rest : last - here ≡ last + 1 - (here + 1) = omega arith in
-    ap (λ n. sum_by (time shop job) (range_with_len from n)) len
-    ∙ ap (sum_by (time shop job)) (range-split from (here + 1 - from) (last - here))
-    ∙ sum_by-append (time shop job) (range_with_len from (here + 1 - from))
-    (range_with_len (from + (here + 1 - from)) (last - here))
-    ∙ ap (λ k. time_between shop job from here + sum_by (time shop job) (range_with_len k (last - here))) next
-    ∙ ap (λ n. time_between shop job from here + sum_by (time shop job) (range_with_len (here + 1) n)) rest
-
 -- the time on one more machine
 pub head-step : (shop : Shop) (job machine : ℕ) → 1 ≤ machine →
     time_between shop job 1 machine ≡ time_between shop job 1 (machine - 1) + time shop job machine
@@ -69,12 +55,6 @@ head-step shop job zero low = absurd (omega arith)
 head-step shop job (suc k) low =
     let e : k ≡ suc k - 1 = omega arith in
     time_between-more shop job 1 k (omega arith) ∙ ap (λ n. time_between shop job 1 n + time shop job (suc k)) e
-
-pub times-small : (shop : Shop) (job first last : ℕ) → 1 ≤ first → last ≤ shop.machines → IsWithinLimits shop →
-    time_between shop job first last ≤ most_machines * greatest_time
-times-small shop job first last low within limits =
-    let most : shop.machines ≤ most_machines = limits.machines in
-    omega (arith, time_between-small shop job first last low limits, most)
 
 pub head-small : (shop : Shop) (job machine : ℕ) → IsWithinLimits shop → machine ≤ shop.machines →
     time_between shop job 1 machine ≤ most_machines * greatest_time

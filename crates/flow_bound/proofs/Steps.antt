@@ -39,30 +39,6 @@ least_below-step cap f p (suc n) low =
     (map f
     (filter p (numbers 1 m))))) b
 
--- the times from a machine on fit
-pub time_between-small : (shop : Shop) (job a b : ℕ) → 1 ≤ a → IsWithinLimits shop →
-    time_between shop job a b ≤ b * greatest_time
-time_between-small shop job a zero low limits = omega (arith, time_between-none shop job a 0 (omega arith))
-time_between-small shop job a (suc b) low limits =
-    elim (cases_lt (suc b) a) [
-      | inl above ↦ omega (arith, time_between-none shop job a (suc b) above)
-      | inr here ↦ omega (
-        arith,
-        time_between-more shop job a b here,
-        time_between-small shop job a b low limits,
-        time-small shop job (suc b) limits,
-      )
-    ]
-
-pub time_between-step : (shop : Shop) (job a k : ℕ) → 1 ≤ a → a ≤ k →
-    time_between shop job a (k + 1 - 1) ≡ time_between shop job a (k - 1) + time shop job k
-time_between-step shop job a zero from low = absurd (omega arith)
-time_between-step shop job a (suc n) from low =
-    let e : suc n + 1 - 1 ≡ suc n = omega arith in
-    let d : n ≡ suc n - 1 = omega arith in
-    ap (time_between shop job a) e ∙ time_between-more shop job a n low
-    ∙ ap (λ m. time_between shop job a m + time shop job (suc n)) d
-
 -- where a list leaves some jobs, a sequence that extends it has jobs behind it
 module _ (shop : Shop) (scheduled sequence set : List ℕ) (is : IsSequence shop.jobs sequence)
     (extends : Extends sequence scheduled) (some : 0 < length set) (left : set ≡ jobs_left shop.jobs scheduled) where

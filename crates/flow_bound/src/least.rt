@@ -1,28 +1,10 @@
-//! The time of a job on the machines from one to another, and the least such time of a set of jobs.
+//! The least time of a set's jobs on the machines from one to another.
 
 ghost use Rattle.std.specs.Prelude.{◌≡◌, ◌+◌, ◌<◌, ◌≤◌, length};
-ghost use Rattle.flow_shop.specs.Shop.{time_between};
 ghost use Rattle.flow_shop.specs.JobSet.{members, IsSetOf};
 ghost use Rattle.flow_bound.specs.Loads.{least_between};
 
 use flow_shop::{Instance, JobSet};
-
-/// The time of a job on the machines from `first` to `last`.
-fn time_between(instance: &Instance, job: u16, first: u16, last: u16) -> u32
-    requires job_from { 1 ≤ job }
-    requires job_to { job ≤ instance.now.jobs }
-    requires from { 1 ≤ first }
-    requires order { first ≤ last + 1 }
-    requires to { last ≤ instance.now.machines }
-    ensures { result ≡ time_between instance.now job first last }
-{
-    prove!(last <= instance.machines());
-    let mut time = 0;
-    for machine in first..last + 1 {
-        time += instance.time(job, machine);
-    }
-    time
-}
 
 /// The least time of a job of a set on the machines from `first` to `last`, where none is below `floor`.
 pub(crate) fn least_between(
@@ -43,7 +25,7 @@ pub(crate) fn least_between(
     let mut least = u32::MAX;
     for job in 1..instance.jobs() + 1 {
         if set.contains(job) {
-            let time = time_between(instance, job, first, last);
+            let time = instance.time_between(job, first, last);
             if time == floor {
                 return floor;
             }

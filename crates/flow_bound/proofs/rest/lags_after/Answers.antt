@@ -5,7 +5,7 @@ use Rattle.flow_shop.specs.Shop.{time_between}
 use Rattle.flow_shop.specs.JobSet.{members}
 use Rattle.flow_shop.proofs.Recurrence.{time_between-first}
 use Rattle.flow_bound.specs.Loads.{least_between}
-use Rattle.flow_bound.proofs.Running.{times-small}
+use Rattle.flow_shop.proofs.Times.{times-small}
 use Rattle.flow_bound.proofs.Rests.{least-with, written, tail-before}
 use Rattle.flow_bound.proofs.rest.lags_after.Goals as goal
 use Rattle.flow_bound.proofs.rest.lags_after.Goals.{After-time, then-ahead-least, else-ahead-least}

@@ -1,7 +1,7 @@
 use Rattle.std.proofs.Common.{◌+◌, ◌-◌, ◌≤◌, ap, sym, ◌∙◌, arith}
 use Rattle.flow_limits.specs.Limits.{most_machines}
 use Rattle.flow_shop.proofs.Recurrence.{time_between-none}
-use Rattle.flow_bound.proofs.Steps.{time_between-step, time_between-small}
+use Rattle.flow_shop.proofs.Times.{time_between-step, time_between-small}
 use Rattle.flow_bound.proofs.sums.sum_times.Goals as goal
 
 pub loop-machine-init : goal.loop-machine-init

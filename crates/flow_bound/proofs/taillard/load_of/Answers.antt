@@ -6,7 +6,8 @@ use Rattle.flow_limits.specs.Limits.{most_machines, greatest_time}
 use Rattle.flow_shop.specs.Shop.{numbers, time, time_between}
 use Rattle.flow_shop.specs.Least.{least}
 use Rattle.flow_shop.specs.TwoLeast.{least_below}
-use Rattle.flow_bound.proofs.Running.{done-more, others-stay, head-step, head-small, tail-small, time_between-split}
+use Rattle.flow_shop.proofs.Times.{time_between-split}
+use Rattle.flow_bound.proofs.Running.{done-more, others-stay, head-step, head-small, tail-small}
 use Rattle.flow_bound.proofs.Running.{sum-step, least-step, least-of-jobs}
 use Rattle.flow_bound.proofs.taillard.load_of.Goals as goal
 
