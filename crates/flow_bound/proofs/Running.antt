@@ -1,10 +1,10 @@
 -- Running sums of times, and the least, the greatest and the sum over the first numbers.
 use Rattle.std.proofs.Common.{◌≡◌, ◌≢◌, ℕ, zero, suc, ◌+◌, ◌-◌, ◌*◌, ◌<◌, ◌≤◌, min, List, [], ◌∷◌, length}
 use Rattle.std.proofs.Common.{length-append, map, slice_index, set, replicate, ap, sym, ◌∙◌, inl, inr, arith}
-use Rattle.std.specs.List.{range_with_len, sum_by}
+use Rattle.std.specs.List.{sum_by}
 use Rattle.std.proofs.lemmas.Bool.{cases_lt}
 use Rattle.std.proofs.lemmas.List.{get_or-set_other, get_or-set_same}
-use Rattle.std.proofs.lemmas.List.Sums.{sum_by_push, sum_by-append}
+use Rattle.std.proofs.lemmas.List.Sums.{sum_by_push}
 use Rattle.flow_limits.specs.Limits.{most_machines, greatest_time}
 use Rattle.flow_shop.specs.Shop.{Shop, numbers, time, time_between, IsWithinLimits}
 use Rattle.flow_shop.specs.Least.{least}
@@ -14,7 +14,6 @@ use Rattle.flow_shop.proofs.JobsLeft.{numbers-more}
 use Rattle.flow_shop.proofs.Ranges.{numbers-step}
 use Rattle.flow_shop.proofs.Recurrence.{time_between-more, time_between-none}
 use Rattle.flow_shop.proofs.Times.{times-small}
-use Rattle.flow_shop.proofs.Taken.{range-split}
 use Rattle.flow_shop.specs.TwoLeast.{least_below}
 use Rattle.flow_shop.proofs.TwoLeastSteps.{least-push, least-below-cap}
 

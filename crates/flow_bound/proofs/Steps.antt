@@ -1,15 +1,11 @@
 -- One turn of the loop over the jobs: the least tail so far, and the times that fit.
-use Rattle.std.proofs.Common.{◌≡◌, ℕ, zero, suc, ◌+◌, ◌-◌, ◌*◌, ◌<◌, ◌≤◌, min, Bool, true, false, cond, List, [], ◌∷◌}
-use Rattle.std.proofs.Common.{◌++◌, length, map, subst, ap, ◌∙◌, inl, inr, arith}
+use Rattle.std.proofs.Common.{◌≡◌, ℕ, zero, suc, ◌+◌, ◌-◌, ◌<◌, ◌≤◌, min, Bool, true, false, cond, List, [], ◌∷◌}
+use Rattle.std.proofs.Common.{◌++◌, length, map, subst, ap, ◌∙◌, arith}
 use Rattle.std.specs.List.{filter}
-use Rattle.std.proofs.lemmas.Bool.{cases_lt}
 use Rattle.std.proofs.lemmas.List.{map_push, append-nil}
-use Rattle.flow_limits.specs.Limits.{greatest_time}
-use Rattle.flow_shop.specs.Shop.{Shop, numbers, time, time_between, IsWithinLimits}
+use Rattle.flow_shop.specs.Shop.{Shop, numbers}
 use Rattle.flow_shop.specs.TwoLeast.{least_below}
 use Rattle.flow_shop.proofs.JobsLeft.{sum_by-jobs_left, sum_by-ones, filter-more}
-use Rattle.flow_shop.proofs.Recurrence.{time_between-more, time_between-none}
-use Rattle.flow_shop.proofs.Fronts.{time-small}
 use Rattle.flow_shop.proofs.TwoLeastSteps.{least-push}
 use Rattle.flow_shop.specs.Paths.{span}
 use Rattle.flow_shop.specs.Front.{IsFrontOf}

@@ -11,7 +11,7 @@ ghost use Rattle.flow_shop.specs.Sequences.{jobs_left, IsSequence, Extends};
 ghost use Rattle.flow_shop.specs.Bound.{machine_bound};
 ghost use Rattle.flow_bound.specs.Loads.{AreLoadsOf};
 
-use crate::least::least_between;
+use crate::least::least_after;
 use flow_limits::MAX_MACHINES;
 use flow_shop::{Front, Instance, JobSet};
 use std::marker::Model;
@@ -112,12 +112,14 @@ impl Loads {
             let place = machine as usize - 1;
             let time = instance.time(job, machine);
             sums[place] = self.sums[place] - time;
-            let least = self.tails[place];
-            tails[place] = if behind == least {
-                least_between(instance, after, machine + 1, machines, least)
-            } else {
-                least
-            };
+            tails[place] = least_after(
+                instance,
+                after,
+                machine + 1,
+                machines,
+                behind,
+                self.tails[place],
+            );
             behind += time;
             machine -= 1;
         }
