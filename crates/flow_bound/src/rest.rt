@@ -52,7 +52,7 @@ fn take_lags(instance: &Instance, job: u16, machine: u16, lags: &mut Lags)
 }
 
 /// The lags of a set of jobs to a machine.
-fn lags_of(instance: &Instance, set: &JobSet, machine: u16) -> Lags
+pub(crate) fn lags_of(instance: &Instance, set: &JobSet, machine: u16) -> Lags
     requires from { 1 ≤ machine }
     requires to { machine ≤ instance.now.machines }
     requires some { 0 < length (members set.now) }

@@ -1,4 +1,4 @@
-use Rattle.std.proofs.Common.{◌≡◌, ℕ, ◌+◌, ◌-◌, ◌<◌, ◌≤◌, length, slice_index}
+use Rattle.std.proofs.Common.{◌≡◌, ℕ, ◌-◌, ◌<◌, ◌≤◌, length, slice_index}
 use Rattle.flow_limits.specs.Limits.{most_jobs}
 use Rattle.flow_bound.specs.Totals.{total}
 use Rattle.flow_bound.proofs.sums.totals_of.Given as goal
