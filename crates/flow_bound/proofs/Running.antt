@@ -17,20 +17,7 @@ use Rattle.flow_shop.proofs.Times.{times-small}
 use Rattle.flow_shop.specs.TwoLeast.{least_below}
 use Rattle.flow_shop.proofs.TwoLeastSteps.{least-push, least-below-cap}
 
--- a value that is written for one more number
-pub done-more : (f : ℕ → ℕ) (xs : List ℕ) (k value : ℕ) → 1 ≤ k → k - 1 < length xs → value ≡ f k →
-    ((j : ℕ) → 1 ≤ j → j < k → slice_index xs (j - 1) ≡ f j) → (j : ℕ) → 1 ≤ j → j < k + 1 →
-    slice_index (set xs (k - 1) value) (j - 1) ≡ f j
-done-more f xs k value from within is done j low high =
-    elim (cases_lt j k) [
-      | inl below ↦ let other : j - 1 ≢ k - 1 = omega arith in rw get_or-set_other (done j low below)
-      | inr here ↦
-          let e : j ≡ k = omega arith in
-          ap (λ n. slice_index (set xs (k - 1) value) (n - 1)) e ∙ get_or-set_same xs (k - 1) value 0 within ∙ is
-          ∙ ap f (sym e)
-    ]
-
--- and the values of the numbers behind it stay
+-- where a value is written for one number, those of the numbers behind it stay
 pub others-stay : (f : ℕ → ℕ) (xs : List ℕ) (k value last : ℕ) → 1 ≤ k →
     ((j : ℕ) → k ≤ j → j ≤ last → slice_index xs (j - 1) ≡ f j) → (j : ℕ) → k + 1 ≤ j → j ≤ last →
     slice_index (set xs (k - 1) value) (j - 1) ≡ f j

@@ -1,8 +1,8 @@
-use Rattle.std.proofs.Common.{ap, ◌∙◌, arith}
+use Rattle.std.proofs.Common.{◌≡◌, ap, ◌∙◌, arith}
 use Rattle.std.proofs.lemmas.Grind.{common_steps}
 use Rattle.flow_shop.specs.Shop.{time_between}
 use Rattle.flow_bound.specs.Totals.{total}
-use Rattle.flow_bound.proofs.Running.{done-more}
+use Rattle.flow_shop.proofs.Lists.{filled-more}
 use Rattle.flow_bound.proofs.sums.totals_of.Goals as goal
 
 pub loop-job-init : goal.loop-job-init
@@ -19,7 +19,7 @@ loop-job-preserved c =
     record {
       machines_are = is.machines_are;
       size = grind (arith, common_steps);
-      are = done-more (total shop) c.loop-job.totals c.loop-job.job c.time_between.result (omega arith) (omega arith)
+      are = filled-more (λ k number. number ≡ total shop k) c.loop-job.totals c.loop-job.job c.time_between.result (omega arith) (omega arith)
           (c.time_between.ensures ∙ ap (time_between shop c.loop-job.job 1) is.machines_are) is.are;
     }
 
