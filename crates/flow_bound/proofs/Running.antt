@@ -1,9 +1,8 @@
 -- Running sums of times, and the least, the greatest and the sum over the first numbers.
 use Rattle.std.proofs.Common.{◌≡◌, ◌≢◌, ℕ, zero, suc, ◌+◌, ◌-◌, ◌*◌, ◌<◌, ◌≤◌, min, List, [], ◌∷◌, length}
-use Rattle.std.proofs.Common.{length-append, map, slice_index, set, replicate, ap, sym, ◌∙◌, inl, inr, arith}
+use Rattle.std.proofs.Common.{length-append, map, slice_index, set, replicate, ap, sym, ◌∙◌, arith}
 use Rattle.std.specs.List.{sum_by}
-use Rattle.std.proofs.lemmas.Bool.{cases_lt}
-use Rattle.std.proofs.lemmas.List.{get_or-set_other, get_or-set_same}
+use Rattle.std.proofs.lemmas.List.{get_or-set_other}
 use Rattle.std.proofs.lemmas.List.Sums.{sum_by_push}
 use Rattle.flow_limits.specs.Limits.{most_machines, greatest_time}
 use Rattle.flow_shop.specs.Shop.{Shop, numbers, time, time_between, IsWithinLimits}
