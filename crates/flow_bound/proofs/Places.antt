@@ -5,10 +5,11 @@ use Rattle.std.proofs.Common.{refl, ap, sym, ◌∙◌, inl, inr, arith}
 use Rattle.std.specs.Prelude.{unwrap_or}
 use Rattle.std.specs.List.{insert, list_all, All}
 use Rattle.std.specs.Option.{option_map}
-use Rattle.std.proofs.lemmas.Bool.{false≢true, eq-eqb, or_left, or_right}
-use Rattle.std.proofs.lemmas.Bool.Decides.{nat_tests, eqb_tells}
+use Rattle.std.proofs.lemmas.Bool.{false≢true, eq-eqb, le-leb, lt-leb}
+use Rattle.std.proofs.lemmas.Bool.Decides.{eqb_tells}
+use Rattle.std.proofs.Math.Bool.{and-false, or_comm}
 use Rattle.std.proofs.lemmas.List.{get_or-take}
-use Rattle.std.proofs.lemmas.List.Folds.{list_all-map, list_any-append}
+use Rattle.std.proofs.lemmas.List.Folds.{list_all-map, list_any_at}
 use Rattle.std.proofs.lemmas.List.Elements.{All-append, All-cons, All-take, All-drop}
 use Rattle.flow_shop.specs.Shop.{Shop}
 use Rattle.flow_shop.specs.Least.{first_least}
@@ -16,6 +17,7 @@ use Rattle.flow_shop.specs.Paths.{span}
 use Rattle.flow_shop.specs.Sequences.{has, AreDistinct, AreJobs}
 use Rattle.flow_shop.proofs.Recurrence.{completion-is}
 use Rattle.flow_shop.proofs.JobsLeft.{or_false}
+use Rattle.flow_shop.proofs.Taken.{has-push}
 use Rattle.flow_shop.proofs.Lists.{not_eq-sym}
 use Rattle.flow_bound.specs.Neh.{insertions, inserted, all_inserted}
 
@@ -52,16 +54,6 @@ some-insertion p job (first ∷ rest) (suc at) within h =
     (list_all-map p (λ jobs. first ∷ jobs) (insertions job rest)
     ∙ some-insertion (λ jobs. p (first ∷ jobs)) job rest at (omega arith) h)
     ∙ and-false (p (job ∷ first ∷ rest))
-  where
-    and-false : (b : Bool) → (b && false) ≡ false
-    and-false true = refl
-    and-false false = refl
-
-le-true : (a b : ℕ) → a ≤ b → nat_le a b ≡ true
-le-true a b h = grind (arith, nat_tests)
-
-le-false : (a b : ℕ) → b < a → nat_le a b ≡ false
-le-false a b h = grind (arith, nat_tests)
 
 -- a place that no other undercuts, and no earlier one equals, is the first best
 first-best : (value : List ℕ → ℕ) (job : ℕ) (jobs : List ℕ) (at : ℕ) → at ≤ length jobs →
@@ -74,12 +66,12 @@ first-best value job (head ∷ rest) zero within least first =
     ap (λ b. cond b (Some (job ∷ head ∷ rest)) (first_least value (map (λ jobs. head ∷ jobs) (insertions job rest))))
     (list_all-map (λ jobs. nat_le (value (job ∷ head ∷ rest)) (value jobs)) (λ jobs. head ∷ jobs) (insertions job rest)
     ∙ all-insertions (λ jobs. nat_le (value (job ∷ head ∷ rest)) (value (head ∷ jobs))) job rest
-    (λ p low. le-true (value (job ∷ head ∷ rest)) (value (head ∷ insert rest p job)) (least (suc p) (omega arith))))
+    (λ p low. le-leb (value (job ∷ head ∷ rest)) (value (head ∷ insert rest p job)) (least (suc p) (omega arith))))
 first-best value job (head ∷ rest) (suc at) within least first =
     ap (λ b. cond b (Some (job ∷ head ∷ rest)) (first_least value (map (λ jobs. head ∷ jobs) (insertions job rest))))
     (list_all-map (λ jobs. nat_le (value (job ∷ head ∷ rest)) (value jobs)) (λ jobs. head ∷ jobs) (insertions job rest)
     ∙ some-insertion (λ jobs. nat_le (value (job ∷ head ∷ rest)) (value (head ∷ jobs))) job rest at (omega arith)
-    (le-false (value (job ∷ head ∷ rest)) (value (head ∷ insert rest at job)) (first 0 (omega arith))))
+    (lt-leb (value (job ∷ head ∷ rest)) (value (head ∷ insert rest at job)) (first 0 (omega arith))))
     ∙ first_least-map value (λ jobs. head ∷ jobs) (insertions job rest)
     ∙ ap (option_map (λ jobs. head ∷ jobs))
     (first-best (λ jobs. value (head
@@ -143,10 +135,9 @@ jobs-insert n jobs at job are low high fresh = record {
 
 -- a list has the job at each of its places
 pub has-at : (jobs : List ℕ) (place : ℕ) → place < length jobs → has jobs (slice_index jobs place) ≡ true
-has-at [] place within = absurd (omega arith)
-has-at (job ∷ jobs) zero within = or_left (nat_eq job job) (has jobs job) (eq-eqb job job refl)
-has-at (job ∷ jobs) (suc place) within =
-    or_right (nat_eq (slice_index jobs place) job) (has jobs (slice_index jobs place)) (has-at jobs place (omega arith))
+has-at jobs place within =
+    list_any_at (nat_eq (slice_index jobs place)) jobs place 0 within
+    (eq-eqb (slice_index jobs place) (slice_index jobs place) refl)
 
 -- a job of a list of distinct jobs does not stand before its place
 pub before-lacks : (jobs : List ℕ) (index : ℕ) → AreDistinct jobs → index < length jobs →
@@ -166,14 +157,8 @@ pub has-more : (jobs done : List ℕ) (at job k : ℕ) → has jobs k ≡ has do
 has-more jobs done at job k same =
     has-insert jobs at job k
     ∙ ap (λ b. nat_eq k job || b) same
-    ∙ flip (nat_eq k job) (has done k)
-    ∙ sym (list_any-append (nat_eq k) done (job ∷ []))
-  where
-    flip : (a b : Bool) → (a || b) ≡ (b || (a || false))
-    flip true true = refl
-    flip true false = refl
-    flip false true = refl
-    flip false false = refl
+    ∙ or_comm (nat_eq k job) (has done k)
+    ∙ sym (has-push done job k)
 
 -- the empty list has no time
 pub span-none : (shop : Shop) → span shop [] ≡ 0

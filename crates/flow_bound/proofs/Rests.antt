@@ -2,9 +2,9 @@
 use Rattle.std.proofs.Common.{◌≡◌, ◌≢◌, ℕ, zero, suc, ◌+◌, ◌-◌, ◌<◌, ◌≤◌, min, Bool, true, false, cond, ◌||◌, nat_eq}
 use Rattle.std.proofs.Common.{List, length, map, set, slice_index, slice_set, ap, sym, ◌∙◌, inl, inr, arith}
 use Rattle.std.specs.List.{filter, sum_by}
-use Rattle.std.proofs.lemmas.Bool.{cases_lt, eq-eqb}
+use Rattle.std.proofs.lemmas.Bool.{cases_lt, eq-eqb, ne_eqb}
 use Rattle.std.proofs.lemmas.Bool.Decides.{eqb_tells}
-use Rattle.std.proofs.lemmas.List.{get_or-set_other, get_or-set_same}
+use Rattle.std.proofs.lemmas.List.{get_or-set_other, get_or-set_same, set_past}
 use Rattle.flow_shop.specs.Shop.{Shop, numbers, time, time_between}
 use Rattle.flow_shop.specs.Least.{least}
 use Rattle.flow_shop.specs.JobSet.{contains, members}
@@ -102,15 +102,12 @@ members-with after n job low high within none =
     ∙ filter-same (contains (slice_set after (job - 1) true)) (with_job after job) n
     (λ k from to. contains-with after job k low from within)
 
-other-job : (k job : ℕ) → k ≢ job → nat_eq k job ≡ false
-other-job k job h = elim (eqb_tells k job) [ inl e ↦ absurd (h e.1) | inr d ↦ d.0 ]
-
 -- below the job that is put in nothing differs
 same-below : (after : List Bool) (job n : ℕ) → n < job → filter (with_job after job) (numbers 1 n)
     ≡ filter (contains after) (numbers 1 n)
 same-below after job n h =
     filter-same (with_job after job) (contains after) n (λ k from to. ap (λ b. b
-    || contains after k) (other-job k job (omega arith)))
+    || contains after k) (ne_eqb k job (omega arith)))
 
 sum-from : (f : ℕ → ℕ) (after : List Bool) (job : ℕ) → contains after job ≡ false → (n : ℕ) → 1 ≤ job → job ≤ n →
     kept f (with_job after job) n ≡ f job + kept f (contains after) n
@@ -135,7 +132,7 @@ sum-from f after job out (suc n) low high =
             value,
           )
       | inr below ↦
-          let same : q (suc n) ≡ p (suc n) = ap (λ b. b || p (suc n)) (other-job (suc n) job (omega arith)) in
+          let same : q (suc n) ≡ p (suc n) = ap (λ b. b || p (suc n)) (ne_eqb (suc n) job (omega arith)) in
           omega (
             arith,
             kept-more f q n,
@@ -187,7 +184,7 @@ least-from cap f after job out (suc n) low high =
           let value : f (suc n) ≡ f job = ap f e in
           omega (arith, old, new, taken, kept_out, before, value)
       | inr below ↦
-          let same : q (suc n) ≡ p (suc n) = ap (λ b. b || p (suc n)) (other-job (suc n) job (omega arith)) in
+          let same : q (suc n) ≡ p (suc n) = ap (λ b. b || p (suc n)) (ne_eqb (suc n) job (omega arith)) in
           let ih = least-from cap f after job out n low below in
           both (p (suc n)) (least_kept cap f q n) (least_kept cap f p n) (f (suc n)) ih
           (new ∙ ap (λ b. cond b (min (least_kept cap f q n) (f (suc n))) (least_kept cap f q n)) same) old
@@ -217,6 +214,26 @@ least-with cap bound f after n job small below low high within none out some =
     ap (λ xs. least_below cap (map f xs)) is ∙ least-from cap f after job out n low high
     ∙ ap (λ xs. min (f job) (least_below cap (map f xs))) (sym (members-is after n none)) in
     omega (arith, new.0, old.0, step)
+
+-- a set that has no place for a job stays as it is when the job is put in
+members-past : (after : List Bool) (job : ℕ) → length after ≤ job - 1 →
+    members (slice_set after (job - 1) true) ≡ members after
+members-past after job past = ap members (set_past after (job - 1) true past)
+
+-- once a job has left a set: the least with it is at most the new least, and is the new one where it is not the job's own
+pub least-left : (cap bound : ℕ) (f : ℕ → ℕ) (after : List Bool) (n job least_with : ℕ) → ((j : ℕ) → f j ≤ bound) →
+    bound ≤ cap → 1 ≤ job → job ≤ n → ((k : ℕ) → n < k → contains after k ≡ false) → contains after job ≡ false →
+    0 < length (members after) → least_with ≡ least (map f (members (slice_set after (job - 1) true))) →
+    (least_with ≤ least (map f (members after))) × (f job ≢ least_with → least_with ≡ least (map f (members after)))
+least-left cap bound f after n job least_with small below low high none out some is =
+    elim (cases_lt (job - 1) (length after)) [
+      | inl within ↦
+          let lower = least-with cap bound f after n job small below low high within none out some in
+          (omega (arith, is, lower), λ other. omega (arith, is, lower, other))
+      | inr past ↦
+          let same = ap (λ xs. least (map f xs)) (members-past after job (omega (arith, past))) in
+          (omega (arith, is, same), λ other. omega (arith, is, same))
+    ]
 
 -- arrays that are written from the last machine down
 

@@ -1,10 +1,9 @@
 -- Running sums of times, and the least, the greatest and the sum over the first numbers.
 use Rattle.std.proofs.Common.{◌≡◌, ◌≢◌, ℕ, zero, suc, ◌+◌, ◌-◌, ◌*◌, ◌<◌, ◌≤◌, min, List, [], ◌∷◌, length}
-use Rattle.std.proofs.Common.{length-append, map, slice_index, set, replicate, ap, sym, ◌∙◌, inl, inr, arith}
-use Rattle.std.specs.List.{range_with_len, sum_by}
-use Rattle.std.proofs.lemmas.Bool.{cases_lt}
-use Rattle.std.proofs.lemmas.List.{get_or-set_other, get_or-set_same}
-use Rattle.std.proofs.lemmas.List.Sums.{sum_by_push, sum_by-append}
+use Rattle.std.proofs.Common.{length-append, map, slice_index, set, replicate, ap, sym, ◌∙◌, arith}
+use Rattle.std.specs.List.{sum_by}
+use Rattle.std.proofs.lemmas.List.{get_or-set_other}
+use Rattle.std.proofs.lemmas.List.Sums.{sum_by_push}
 use Rattle.flow_limits.specs.Limits.{most_machines, greatest_time}
 use Rattle.flow_shop.specs.Shop.{Shop, numbers, time, time_between, IsWithinLimits}
 use Rattle.flow_shop.specs.Least.{least}
@@ -13,25 +12,11 @@ use Rattle.flow_shop.proofs.Fronts.{zeros}
 use Rattle.flow_shop.proofs.JobsLeft.{numbers-more}
 use Rattle.flow_shop.proofs.Ranges.{numbers-step}
 use Rattle.flow_shop.proofs.Recurrence.{time_between-more, time_between-none}
-use Rattle.flow_shop.proofs.Taken.{range-split}
+use Rattle.flow_shop.proofs.Times.{times-small}
 use Rattle.flow_shop.specs.TwoLeast.{least_below}
 use Rattle.flow_shop.proofs.TwoLeastSteps.{least-push, least-below-cap}
-use Rattle.flow_bound.proofs.Steps.{time_between-small}
 
--- a value that is written for one more number
-pub done-more : (f : ℕ → ℕ) (xs : List ℕ) (k value : ℕ) → 1 ≤ k → k - 1 < length xs → value ≡ f k →
-    ((j : ℕ) → 1 ≤ j → j < k → slice_index xs (j - 1) ≡ f j) → (j : ℕ) → 1 ≤ j → j < k + 1 →
-    slice_index (set xs (k - 1) value) (j - 1) ≡ f j
-done-more f xs k value from within is done j low high =
-    elim (cases_lt j k) [
-      | inl below ↦ let other : j - 1 ≢ k - 1 = omega arith in rw get_or-set_other (done j low below)
-      | inr here ↦
-          let e : j ≡ k = omega arith in
-          ap (λ n. slice_index (set xs (k - 1) value) (n - 1)) e ∙ get_or-set_same xs (k - 1) value 0 within ∙ is
-          ∙ ap f (sym e)
-    ]
-
--- and the values of the numbers behind it stay
+-- where a value is written for one number, those of the numbers behind it stay
 pub others-stay : (f : ℕ → ℕ) (xs : List ℕ) (k value last : ℕ) → 1 ≤ k →
     ((j : ℕ) → k ≤ j → j ≤ last → slice_index xs (j - 1) ≡ f j) → (j : ℕ) → k + 1 ≤ j → j ≤ last →
     slice_index (set xs (k - 1) value) (j - 1) ≡ f j
@@ -48,20 +33,6 @@ least-step cap f k low =
     ∙ ap (least_below cap) (map-map-append f (numbers 1 (k - 1)) (k ∷ []))
     ∙ least-push cap (map f (numbers 1 (k - 1))) (f k)
 
--- a job's time on some machines, parted behind one of them
-pub time_between-split : (shop : Shop) (job from here last : ℕ) → from ≤ here + 1 → here ≤ last →
-    time_between shop job from last ≡ time_between shop job from here + time_between shop job (here + 1) last
-time_between-split shop job from here last low high =
-    let len : last + 1 - from ≡ (here + 1 - from) + (last - here) = omega arith in
-    let next : from + (here + 1 - from) ≡ here + 1 = omega arith in
-    let rest : last - here ≡ last + 1 - (here + 1) = omega arith in
-    ap (λ n. sum_by (time shop job) (range_with_len from n)) len
-    ∙ ap (sum_by (time shop job)) (range-split from (here + 1 - from) (last - here))
-    ∙ sum_by-append (time shop job) (range_with_len from (here + 1 - from))
-    (range_with_len (from + (here + 1 - from)) (last - here))
-    ∙ ap (λ k. time_between shop job from here + sum_by (time shop job) (range_with_len k (last - here))) next
-    ∙ ap (λ n. time_between shop job from here + sum_by (time shop job) (range_with_len (here + 1) n)) rest
-
 -- the time on one more machine
 pub head-step : (shop : Shop) (job machine : ℕ) → 1 ≤ machine →
     time_between shop job 1 machine ≡ time_between shop job 1 (machine - 1) + time shop job machine
@@ -69,12 +40,6 @@ head-step shop job zero low = absurd (omega arith)
 head-step shop job (suc k) low =
     let e : k ≡ suc k - 1 = omega arith in
     time_between-more shop job 1 k (omega arith) ∙ ap (λ n. time_between shop job 1 n + time shop job (suc k)) e
-
-pub times-small : (shop : Shop) (job first last : ℕ) → 1 ≤ first → last ≤ shop.machines → IsWithinLimits shop →
-    time_between shop job first last ≤ most_machines * greatest_time
-times-small shop job first last low within limits =
-    let most : shop.machines ≤ most_machines = limits.machines in
-    omega (arith, time_between-small shop job first last low limits, most)
 
 pub head-small : (shop : Shop) (job machine : ℕ) → IsWithinLimits shop → machine ≤ shop.machines →
     time_between shop job 1 machine ≤ most_machines * greatest_time

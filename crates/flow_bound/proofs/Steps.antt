@@ -1,15 +1,11 @@
 -- One turn of the loop over the jobs: the least tail so far, and the times that fit.
-use Rattle.std.proofs.Common.{◌≡◌, ℕ, zero, suc, ◌+◌, ◌-◌, ◌*◌, ◌<◌, ◌≤◌, min, Bool, true, false, cond, List, [], ◌∷◌}
-use Rattle.std.proofs.Common.{◌++◌, length, map, subst, ap, ◌∙◌, inl, inr, arith}
+use Rattle.std.proofs.Common.{◌≡◌, ℕ, zero, suc, ◌+◌, ◌-◌, ◌<◌, ◌≤◌, min, Bool, true, false, cond, List, [], ◌∷◌}
+use Rattle.std.proofs.Common.{◌++◌, length, map, subst, ap, ◌∙◌, arith}
 use Rattle.std.specs.List.{filter}
-use Rattle.std.proofs.lemmas.Bool.{cases_lt}
 use Rattle.std.proofs.lemmas.List.{map_push, append-nil}
-use Rattle.flow_limits.specs.Limits.{greatest_time}
-use Rattle.flow_shop.specs.Shop.{Shop, numbers, time, time_between, IsWithinLimits}
+use Rattle.flow_shop.specs.Shop.{Shop, numbers}
 use Rattle.flow_shop.specs.TwoLeast.{least_below}
 use Rattle.flow_shop.proofs.JobsLeft.{sum_by-jobs_left, sum_by-ones, filter-more}
-use Rattle.flow_shop.proofs.Recurrence.{time_between-more, time_between-none}
-use Rattle.flow_shop.proofs.Fronts.{time-small}
 use Rattle.flow_shop.proofs.TwoLeastSteps.{least-push}
 use Rattle.flow_shop.specs.Paths.{span}
 use Rattle.flow_shop.specs.Front.{IsFrontOf}
@@ -38,30 +34,6 @@ least_below-step cap f p (suc n) low =
     ∙ ap (λ m. cond (p (suc n)) (min (least_below cap (map f (filter p (numbers 1 m)))) (f (suc n))) (least_below cap
     (map f
     (filter p (numbers 1 m))))) b
-
--- the times from a machine on fit
-pub time_between-small : (shop : Shop) (job a b : ℕ) → 1 ≤ a → IsWithinLimits shop →
-    time_between shop job a b ≤ b * greatest_time
-time_between-small shop job a zero low limits = omega (arith, time_between-none shop job a 0 (omega arith))
-time_between-small shop job a (suc b) low limits =
-    elim (cases_lt (suc b) a) [
-      | inl above ↦ omega (arith, time_between-none shop job a (suc b) above)
-      | inr here ↦ omega (
-        arith,
-        time_between-more shop job a b here,
-        time_between-small shop job a b low limits,
-        time-small shop job (suc b) limits,
-      )
-    ]
-
-pub time_between-step : (shop : Shop) (job a k : ℕ) → 1 ≤ a → a ≤ k →
-    time_between shop job a (k + 1 - 1) ≡ time_between shop job a (k - 1) + time shop job k
-time_between-step shop job a zero from low = absurd (omega arith)
-time_between-step shop job a (suc n) from low =
-    let e : suc n + 1 - 1 ≡ suc n = omega arith in
-    let d : n ≡ suc n - 1 = omega arith in
-    ap (time_between shop job a) e ∙ time_between-more shop job a n low
-    ∙ ap (λ m. time_between shop job a m + time shop job (suc n)) d
 
 -- where a list leaves some jobs, a sequence that extends it has jobs behind it
 module _ (shop : Shop) (scheduled sequence set : List ℕ) (is : IsSequence shop.jobs sequence)

@@ -1,6 +1,6 @@
 -- The remaining work of each machine, where some jobs are left.
-use Rattle.std.specs.Prelude.{ℕ, ◌≡◌, ◌+◌, ◌-◌, ◌≤◌, List, map, slice_index, sum_by}
-use Rattle.flow_shop.specs.Shop.{Shop, time, time_between}
+use Rattle.std.specs.Prelude.{ℕ, ◌≡◌, ◌+◌, List, map, sum_by}
+use Rattle.flow_shop.specs.Shop.{Shop, time, time_between, AreOf}
 use Rattle.flow_shop.specs.Least.{least}
 
 -- the remaining work: how many machines there are, and for each the time of the jobs left and their least tail
@@ -20,7 +20,5 @@ least_tail shop jobs machine = least_between shop jobs (machine + 1) shop.machin
 -- the loads of some jobs have, for each machine, the time of the jobs on it, and their least tail
 pub record AreLoadsOf (shop : Shop) (jobs : List ℕ) (loads : Remaining) : Type 0 where
   pub machines_are : loads.machines ≡ shop.machines
-  pub sums_are : (machine : ℕ) → 1 ≤ machine → machine ≤ shop.machines →
-      slice_index loads.sums (machine - 1) ≡ sum_by (λ job. time shop job machine) jobs
-  pub tails_are : (machine : ℕ) → 1 ≤ machine → machine ≤ shop.machines →
-      slice_index loads.tails (machine - 1) ≡ least_tail shop jobs machine
+  pub sums_are : AreOf shop (λ machine. sum_by (λ job. time shop job machine) jobs) loads.sums
+  pub tails_are : AreOf shop (least_tail shop jobs) loads.tails

@@ -1,28 +1,11 @@
-//! The time of a job on the machines from one to another, and the least such time of a set of jobs.
+//! The least time of a set's jobs on the machines from one to another, and what it is once a job has left the set.
 
-ghost use Rattle.std.specs.Prelude.{◌≡◌, ◌+◌, ◌<◌, ◌≤◌, length};
+ghost use Rattle.std.specs.Prelude.{◌≡◌, ℕ, ◌+◌, ◌-◌, ◌<◌, ◌≤◌, true, false, length, slice_set};
 ghost use Rattle.flow_shop.specs.Shop.{time_between};
-ghost use Rattle.flow_shop.specs.JobSet.{members, IsSetOf};
+ghost use Rattle.flow_shop.specs.JobSet.{contains, members, IsSetOf};
 ghost use Rattle.flow_bound.specs.Loads.{least_between};
 
 use flow_shop::{Instance, JobSet};
-
-/// The time of a job on the machines from `first` to `last`.
-fn time_between(instance: &Instance, job: u16, first: u16, last: u16) -> u32
-    requires job_from { 1 ≤ job }
-    requires job_to { job ≤ instance.now.jobs }
-    requires from { 1 ≤ first }
-    requires order { first ≤ last + 1 }
-    requires to { last ≤ instance.now.machines }
-    ensures { result ≡ time_between instance.now job first last }
-{
-    prove!(last <= instance.machines());
-    let mut time = 0;
-    for machine in first..last + 1 {
-        time += instance.time(job, machine);
-    }
-    time
-}
 
 /// The least time of a job of a set on the machines from `first` to `last`, where none is below `floor`.
 pub(crate) fn least_between(
@@ -43,7 +26,7 @@ pub(crate) fn least_between(
     let mut least = u32::MAX;
     for job in 1..instance.jobs() + 1 {
         if set.contains(job) {
-            let time = time_between(instance, job, first, last);
+            let time = instance.time_between(job, first, last);
             if time == floor {
                 return floor;
             }
@@ -51,4 +34,34 @@ pub(crate) fn least_between(
         }
     }
     least
+}
+
+/// The least time of a job of `after` on the machines from `first` to `last`. `after` is a set that a job has just left,
+/// whose own time there is `own`, and `least` is the least with that job. It looks for a new least only where the job
+/// had the least.
+#[inline(always)]
+pub(crate) fn least_after(
+    instance: &Instance,
+    after: &JobSet,
+    first: u16,
+    last: u16,
+    own: u32,
+    least: u32,
+) -> u32
+    requires from { 1 ≤ first }
+    requires order { first ≤ last + 1 }
+    requires to { last ≤ instance.now.machines }
+    requires some { 0 < length (members after.now) }
+    requires jobs { IsSetOf instance.now after.now }
+    requires left { (job : ℕ) × (1 ≤ job) × (job ≤ instance.now.jobs) × (contains after.now job ≡ false) ×
+        (own ≡ time_between instance.now job first last) ×
+        (least ≡ least_between instance.now (members (slice_set after.now (job - 1) true)) first last) }
+    ensures { result ≡ least_between instance.now (members after.now) first last }
+{
+    prove!(last <= instance.machines());
+    if own == least {
+        least_between(instance, after, first, last, least)
+    } else {
+        least
+    }
 }

@@ -3,7 +3,7 @@
 ghost use Rattle.std.specs.Prelude.{◌≡◌, ℕ, ◌+◌, ◌-◌, ◌*◌, ◌<◌, ◌≤◌, min, List, true, false};
 ghost use Rattle.std.specs.Prelude.{length, slice_index, slice_set};
 ghost use Rattle.flow_limits.specs.Limits.{most_jobs, most_machines, greatest_time, greatest_completion};
-ghost use Rattle.flow_shop.specs.Shop.{Shop, time, time_between};
+ghost use Rattle.flow_shop.specs.Shop.{Shop, AreOf, time, time_between};
 ghost use Rattle.flow_shop.specs.Paths.{span};
 ghost use Rattle.flow_shop.specs.Front.{IsFrontOf};
 ghost use Rattle.flow_shop.specs.JobSet.{contains, members, IsSetOf};
@@ -11,7 +11,7 @@ ghost use Rattle.flow_shop.specs.Sequences.{jobs_left, IsSequence, Extends};
 ghost use Rattle.flow_shop.specs.Bound.{machine_bound};
 ghost use Rattle.flow_bound.specs.Loads.{AreLoadsOf};
 
-use crate::least::least_between;
+use crate::least::least_after;
 use flow_limits::MAX_MACHINES;
 use flow_shop::{Front, Instance, JobSet};
 use std::marker::Model;
@@ -52,11 +52,10 @@ fn take_in(
     requires job_to { job ≤ instance.now.jobs }
     requires small { (machine : ℕ) → 1 ≤ machine → machine ≤ instance.now.machines →
         slice_index sums.old (machine - 1) ≤ most_jobs * greatest_time }
-    ensures sums { (machine : ℕ) → 1 ≤ machine → machine ≤ instance.now.machines →
-        slice_index sums.new (machine - 1) ≡ slice_index sums.old (machine - 1) + time instance.now job machine }
-    ensures tails { (machine : ℕ) → 1 ≤ machine → machine ≤ instance.now.machines →
-        slice_index tails.new (machine - 1) ≡ min (slice_index tails.old (machine - 1))
-        (time_between instance.now job (machine + 1) instance.now.machines) }
+    ensures sums { AreOf instance.now
+        (λ machine. slice_index sums.old (machine - 1) + time instance.now job machine) sums.new }
+    ensures tails { AreOf instance.now (λ machine. min (slice_index tails.old (machine - 1))
+        (time_between instance.now job (machine + 1) instance.now.machines)) tails.new }
 {
     let mut behind = 0;
     let mut machine = instance.machines();
@@ -112,12 +111,14 @@ impl Loads {
             let place = machine as usize - 1;
             let time = instance.time(job, machine);
             sums[place] = self.sums[place] - time;
-            let least = self.tails[place];
-            tails[place] = if behind == least {
-                least_between(instance, after, machine + 1, machines, least)
-            } else {
-                least
-            };
+            tails[place] = least_after(
+                instance,
+                after,
+                machine + 1,
+                machines,
+                behind,
+                self.tails[place],
+            );
             behind += time;
             machine -= 1;
         }

@@ -1,4 +1,4 @@
-//! The release of a machine, and the released bound of a front.
+//! The released bound of a front.
 
 ghost use Rattle.std.specs.Prelude.{◌≡◌, ℕ, ◌+◌, ◌^◌, ◌<◌, ◌≤◌, List, length};
 ghost use Rattle.flow_limits.specs.Limits.{greatest_completion};
@@ -9,32 +9,13 @@ ghost use Rattle.flow_shop.specs.Sequences.{jobs_left, IsSequence, Extends};
 ghost use Rattle.flow_shop.specs.Bound.{release, released_bound};
 
 use crate::least::least_between;
+use crate::rest::{lags_of, release_from_lags};
 use crate::sums::sum_of;
 use flow_shop::{Front, Instance, JobSet};
 
-/// The release of a machine, before which no job of a set starts on it: for each machine up to this one, when it is
-/// free and then the least time that a job of the set needs from there to this machine; and the greatest of these.
-fn release_of(instance: &Instance, front: &Front, unscheduled: &JobSet, machine: u16) -> u64
-    requires from { 1 ≤ machine }
-    requires to { machine ≤ instance.now.machines }
-    requires some { 0 < length (members unscheduled.now) }
-    requires jobs { IsSetOf instance.now unscheduled.now }
-    requires within { IsWithinFront instance.now front.now }
-    ensures value { result ≡ release instance.now front.now (members unscheduled.now) machine }
-    ensures limit { result ≤ greatest_completion + 2 ^ 32 }
-{
-    prove!(machine <= instance.machines());
-    let mut release: u64 = 0;
-    for from in 1..machine + 1 {
-        let least = least_between(instance, unscheduled, from, machine - 1, 0);
-        release = release.max(front.at(from) + u64::from(least));
-    }
-    release
-}
-
 /// The released bound: the release of a machine, its time for the jobs of a set, and the least time that one of them
 /// needs behind it. Where the front is that of a list, and the set has the jobs that the list leaves, no sequence that
-/// extends the list has a smaller makespan. For callers alone: the search computes its releases from lags.
+/// extends the list has a smaller makespan. For callers alone: the search keeps `Loads`, and lags of its own.
 pub fn released_bound(instance: &Instance, front: &Front, unscheduled: &JobSet, machine: u16) -> u64
     requires from { 1 ≤ machine }
     requires to { machine ≤ instance.now.machines }
@@ -48,7 +29,8 @@ pub fn released_bound(instance: &Instance, front: &Front, unscheduled: &JobSet, 
 {
     let machines = instance.machines();
     prove!(machine <= machines);
-    let release = release_of(instance, front, unscheduled, machine);
+    let lags = lags_of(instance, unscheduled, machine);
+    let release = release_from_lags(front, &lags, machine);
     let sum = sum_of(instance, unscheduled, machine);
     let least_tail = least_between(instance, unscheduled, machine + 1, machines, 0);
     release + u64::from(sum) + u64::from(least_tail)

@@ -11,7 +11,7 @@ ghost use Rattle.flow_shop.specs.Sequences.{jobs_left, IsSequence, Extends};
 ghost use Rattle.flow_shop.specs.Bound.{machine_bound, release, released_bound};
 ghost use Rattle.flow_bound.specs.Rest.{AreLags, IsRestOf};
 
-use crate::least::least_between;
+use crate::least::least_after;
 use crate::loads::Loads;
 use flow_limits::MAX_MACHINES;
 use flow_shop::{Front, Instance, JobSet};
@@ -52,7 +52,7 @@ fn take_lags(instance: &Instance, job: u16, machine: u16, lags: &mut Lags)
 }
 
 /// The lags of a set of jobs to a machine.
-fn lags_of(instance: &Instance, set: &JobSet, machine: u16) -> Lags
+pub(crate) fn lags_of(instance: &Instance, set: &JobSet, machine: u16) -> Lags
     requires from { 1 ≤ machine }
     requires to { machine ≤ instance.now.machines }
     requires some { 0 < length (members set.now) }
@@ -82,19 +82,13 @@ fn lags_after(instance: &Instance, after: &JobSet, job: u16, machine: u16, lags:
     ensures { AreLags instance.now (members after.now) machine result }
 {
     prove!(machine <= instance.machines());
-    prove!(!after.contains(job));
     let mut new_lags = *lags;
     let mut ahead = 0;
     let mut from = machine - 1;
     while from > 0 {
         let place = from as usize - 1;
         ahead += instance.time(job, from);
-        let least = lags[place];
-        new_lags[place] = if ahead == least {
-            least_between(instance, after, from, machine - 1, least)
-        } else {
-            least
-        };
+        new_lags[place] = least_after(instance, after, from, machine - 1, ahead, lags[place]);
         from -= 1;
     }
     new_lags

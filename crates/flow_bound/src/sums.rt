@@ -1,7 +1,6 @@
-//! Sums of times: of each job on several machines, and of a set of jobs on a machine.
+//! Sums of times: of each job on all machines, and of a set of jobs on a machine.
 
-ghost use Rattle.std.specs.Prelude.{◌≡◌, ℕ, ◌+◌, ◌-◌, ◌*◌, ◌≤◌, slice_index, sum_by};
-ghost use Rattle.flow_limits.specs.Limits.{most_machines, greatest_time};
+ghost use Rattle.std.specs.Prelude.{◌≡◌, ◌≤◌, sum_by};
 ghost use Rattle.flow_shop.specs.Shop.{time};
 ghost use Rattle.flow_shop.specs.JobSet.{members, IsSetOf};
 ghost use Rattle.flow_bound.specs.internal.Times.{AreTimes};
@@ -9,31 +8,16 @@ ghost use Rattle.flow_bound.specs.internal.Times.{AreTimes};
 use flow_limits::MAX_JOBS;
 use flow_shop::{Instance, JobSet};
 
-/// Adds each job's time on a machine to its sum.
-fn add_times(instance: &Instance, sums: &mut [u32; MAX_JOBS], machine: u16)
-    requires from { 1 ≤ machine }
-    requires to { machine ≤ instance.now.machines }
-    requires small { (job : ℕ) → 1 ≤ job → job ≤ instance.now.jobs →
-        slice_index sums.old (job - 1) ≤ most_machines * greatest_time }
-    ensures { (job : ℕ) → 1 ≤ job → job ≤ instance.now.jobs →
-        slice_index sums.new (job - 1) ≡ slice_index sums.old (job - 1) + time instance.now job machine }
+/// Each job's total, that of job 1 first.
+pub(crate) fn totals_of(instance: &Instance) -> [u32; MAX_JOBS]
+    ensures { AreTimes instance.now result 1 instance.now.machines }
 {
+    let machines = instance.machines();
+    let mut totals = [0; MAX_JOBS];
     for job in 1..instance.jobs() + 1 {
-        sums[job as usize - 1] += instance.time(job, machine);
+        totals[job as usize - 1] = instance.time_between(job, 1, machines);
     }
-}
-
-/// Adds to an array of zeros each job's time on the machines from `first` to the last, that of job 1 first.
-pub(crate) fn sum_times(instance: &Instance, sums: &mut [u32; MAX_JOBS], first: u16)
-    requires from { 1 ≤ first }
-    requires to { first ≤ instance.now.machines + 1 }
-    requires zeros { (job : ℕ) → 1 ≤ job → job ≤ instance.now.jobs → slice_index sums.old (job - 1) ≡ 0 }
-    ensures { AreTimes instance.now sums.new first instance.now.machines }
-{
-    let end = instance.machines() + 1;
-    for machine in first..end {
-        add_times(instance, sums, machine);
-    }
+    totals
 }
 
 /// The time of all jobs of a set on a machine.

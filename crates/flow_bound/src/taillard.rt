@@ -9,7 +9,7 @@ ghost use Rattle.flow_bound.specs.Totals.{total};
 ghost use Rattle.flow_bound.specs.internal.Times.{AreTimes};
 ghost use Rattle.flow_bound.specs.Taillard.{machine_load, taillard_bound};
 
-use crate::sums::sum_times;
+use crate::sums::totals_of;
 use flow_limits::MAX_JOBS;
 use flow_shop::Instance;
 
@@ -60,8 +60,7 @@ pub fn taillard_bound(instance: &Instance) -> u64
     ensures admissible { (sequence : List ℕ) → IsSequence instance.now.jobs sequence →
         result ≤ span instance.now sequence }
 {
-    let mut totals = [0; MAX_JOBS];
-    sum_times(instance, &mut totals, 1);
+    let totals = totals_of(instance);
     let mut most = u64::from(greatest_total(instance, &totals));
     let mut heads = [0; MAX_JOBS];
     for machine in 1..instance.machines() + 1 {

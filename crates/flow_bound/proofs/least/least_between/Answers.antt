@@ -2,7 +2,7 @@ use Rattle.std.proofs.Common.{◌≡◌, ℕ, ◌-◌, ◌*◌, min, true, false
 use Rattle.flow_limits.specs.Limits.{most_machines, greatest_time}
 use Rattle.flow_shop.specs.Shop.{time_between}
 use Rattle.flow_shop.specs.JobSet.{contains}
-use Rattle.flow_bound.proofs.Running.{times-small}
+use Rattle.flow_shop.proofs.Times.{times-small}
 use Rattle.flow_bound.proofs.Rests.{least-take, least-skip, least-whole, least-until, least_kept}
 use Rattle.flow_bound.proofs.least.least_between.Goals as goal
 use Rattle.flow_bound.proofs.least.least_between.Goals.{then-contains+else-time-floor, else-contains}

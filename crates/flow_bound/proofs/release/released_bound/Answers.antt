@@ -8,7 +8,7 @@ pub returns-clause-value : goal.returns-clause-value
 returns-clause-value c =
     omega (
       arith,
-      c.release_of-release.ensures.value,
+      c.release_from_lags-release.ensures.value c.args.instance.now (members c.args.unscheduled.now) c.lags_of-lags.ensures,
       c.from.ensures,
       c.from-2.ensures,
       c.sum_of-sum.ensures,
@@ -21,5 +21,5 @@ pub returns-clause-admissible : goal.returns-clause-admissible
 returns-clause-admissible c scheduled sequence front left is extends =
     released-members c.args.instance.now scheduled sequence c.args.front.now
     (members c.args.unscheduled.now) c.args.machine
-    (c.release_of-release.result + c.from.result + c.from-2.result)
+    (c.release_from_lags-release.result + c.from.result + c.from-2.result)
     c.requires.from c.requires.to is extends c.requires.some left front (returns-clause-value c)

@@ -4,7 +4,7 @@ use Rattle.std.proofs.lemmas.List.{get_or-replicate}
 use Rattle.flow_limits.specs.Limits.{most_machines, greatest_time}
 use Rattle.flow_shop.specs.Shop.{time_between}
 use Rattle.flow_shop.specs.JobSet.{contains}
-use Rattle.flow_bound.proofs.Running.{times-small}
+use Rattle.flow_shop.proofs.Times.{times-small}
 use Rattle.flow_bound.proofs.Rests.{least-take, least-skip, least-whole}
 use Rattle.flow_bound.proofs.rest.lags_of.Goals as goal
 use Rattle.flow_bound.proofs.rest.lags_of.Goals.{then-contains, else-contains}

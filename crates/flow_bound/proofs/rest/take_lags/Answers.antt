@@ -2,7 +2,7 @@ use Rattle.std.proofs.Common.{ℕ, ◌+◌, ◌-◌, ◌≤◌, min, slice_index
 use Rattle.std.proofs.lemmas.Grind.{common_steps}
 use Rattle.flow_shop.specs.Shop.{time_between}
 use Rattle.flow_shop.proofs.Recurrence.{time_between-none, time_between-first}
-use Rattle.flow_bound.proofs.Running.{times-small}
+use Rattle.flow_shop.proofs.Times.{times-small}
 use Rattle.flow_bound.proofs.Rests.{written, below-stay, tail-before}
 use Rattle.flow_bound.proofs.rest.take_lags.Goals as goal
 

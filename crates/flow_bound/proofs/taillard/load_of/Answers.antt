@@ -6,7 +6,9 @@ use Rattle.flow_limits.specs.Limits.{most_machines, greatest_time}
 use Rattle.flow_shop.specs.Shop.{numbers, time, time_between}
 use Rattle.flow_shop.specs.Least.{least}
 use Rattle.flow_shop.specs.TwoLeast.{least_below}
-use Rattle.flow_bound.proofs.Running.{done-more, others-stay, head-step, head-small, tail-small, time_between-split}
+use Rattle.flow_shop.proofs.Lists.{filled-more}
+use Rattle.flow_shop.proofs.Times.{time_between-split}
+use Rattle.flow_bound.proofs.Running.{others-stay, head-step, head-small, tail-small}
 use Rattle.flow_bound.proofs.Running.{sum-step, least-step, least-of-jobs}
 use Rattle.flow_bound.proofs.taillard.load_of.Goals as goal
 
@@ -55,7 +57,7 @@ loop-job-preserved c =
     before.tail in
     record {
       length = grind (arith, common_steps);
-      done = done-more (λ job. time_between shop job 1 machine) c.loop-job.heads job (slice_index_or c.loop-job.heads
+      done = filled-more (λ job head. head ≡ time_between shop job 1 machine) c.loop-job.heads job (slice_index_or c.loop-job.heads
           (job - 1) 0 + c.time-time.result) (omega arith) within value before.done;
       others = others-stay (λ job. time_between shop job 1 (machine - 1)) c.loop-job.heads job
           (slice_index_or c.loop-job.heads (job - 1) 0 + c.time-time.result) shop.jobs (omega arith) before.others;

@@ -4,14 +4,10 @@ use Rattle.flow_shop.specs.Shop.{numbers, time_between}
 use Rattle.flow_shop.specs.Least.{greatest}
 use Rattle.flow_bound.specs.Totals.{total}
 use Rattle.flow_bound.specs.Taillard.{machine_load, taillard_bound}
-use Rattle.flow_shop.proofs.Fronts.{zeros}
 use Rattle.flow_shop.proofs.Ranges.{greatest-step}
 use Rattle.flow_bound.proofs.Running.{times-none}
 use Rattle.flow_bound.proofs.MachineLoads.{taillard-below}
 use Rattle.flow_bound.proofs.taillard.taillard_bound.Goals as goal
-
-pub sum_times-requires-clause-zeros : goal.sum_times-requires-clause-zeros
-sum_times-requires-clause-zeros c job from to = zeros most_jobs (job - 1)
 
 pub loop-machine-init : goal.loop-machine-init
 loop-machine-init c =

@@ -1,14 +1,14 @@
-use Rattle.std.proofs.Common.{◌≡◌, ◌≢◌, ℕ, ◌-◌, ◌≤◌, ◌+◌, List, [], ◌∷◌, slice_index, slice_index_or, slice_set, refl}
-use Rattle.std.proofs.Common.{inl, inr, arith, sym, ◌∙◌, ap}
+use Rattle.std.proofs.Common.{◌≡◌, ◌≢◌, ℕ, ◌-◌, ◌≤◌, ◌+◌, List, [], ◌∷◌, slice_index, slice_index_or, refl}
+use Rattle.std.proofs.Common.{arith, sym, ◌∙◌, ap}
 use Rattle.std.proofs.lemmas.Grind.{common_steps}
-use Rattle.std.proofs.lemmas.Bool.{cases_lt}
-use Rattle.std.proofs.lemmas.List.{get_or-set_other, get_or-set_same}
+use Rattle.std.proofs.lemmas.List.{get_or-set_other}
 use Rattle.flow_limits.specs.Limits.{most_machines, greatest_completion}
 use Rattle.flow_shop.specs.Shop.{time}
 use Rattle.flow_shop.proofs.Fronts.{time-small}
 use Rattle.flow_bound.specs.Insertion.{tail}
 use Rattle.flow_bound.specs.internal.Tails.{AreTails}
 use Rattle.flow_bound.proofs.FrontsAndTails.{tail-past, tail-step}
+use Rattle.flow_bound.proofs.Rests.{written}
 use Rattle.flow_bound.proofs.start.insertion.push_tails.Goals as goal
 
 pub loop-place-init : goal.loop-place-init
@@ -87,26 +87,12 @@ loop-place-preserved c =
         c.max.ensures,
       );
       behind = λ jobs are. value jobs are ∙ ap (tail shop (c.args.job ∷ jobs)) (sym here);
-      done = λ jobs are machine low high. elim (cases_lt place machine) [
-        | inl later ↦ let other : machine - 1 ≢ place - 1 = omega arith in
-            rw get_or-set_other (before.done jobs are machine later high)
-        | inr not_later ↦
-            let same : machine ≡ place = omega arith in
-            ap (λ n. slice_index (slice_set c.loop-place.tails (place - 1) (c.max.result + from_time)) (n - 1)) same
-            ∙ get_or-set_same c.loop-place.tails (place - 1) (c.max.result
-            + from_time) 0 (omega (arith, before.length, before.within))
-            ∙ value jobs are ∙ ap (tail shop (c.args.job ∷ jobs)) (sym same)
-      ];
-      written = λ jobs are machine low high. elim (cases_lt place machine) [
-        | inl later ↦ let other : machine - 1 ≢ place - 1 = omega arith in
-            rw get_or-set_other (before.written jobs are machine later high)
-        | inr not_later ↦
-            let same : machine ≡ place = omega arith in
-            ap (λ n. slice_index (slice_set c.loop-place.row (place - 1) (c.max.result + from_time)) (n - 1)) same
-            ∙ get_or-set_same c.loop-place.row (place - 1) (c.max.result
-            + from_time) 0 (omega (arith, before.row_length, before.within))
-            ∙ value jobs are ∙ ap (tail shop (c.args.job ∷ jobs)) (sym same)
-      ];
+      done = λ jobs are. written (tail shop (c.args.job ∷ jobs)) c.loop-place.tails place (c.max.result + from_time)
+          shop.machines (omega arith) (omega (arith, before.length, before.within)) (value jobs are)
+          (before.done jobs are);
+      written = λ jobs are. written (tail shop (c.args.job ∷ jobs)) c.loop-place.row place (c.max.result + from_time)
+          shop.machines (omega arith) (omega (arith, before.row_length, before.within)) (value jobs are)
+          (before.written jobs are);
       others = λ k low. let other : k ≢ place - 1 = omega arith in rw get_or-set_other (before.others k (omega arith));
     }
 
