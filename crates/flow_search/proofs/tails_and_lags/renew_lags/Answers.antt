@@ -4,8 +4,8 @@ use Rattle.std.proofs.lemmas.List.{get_or-set_same, get_or-set_other, length-set
 use Rattle.flow_limits.specs.Limits.{most_machines}
 use Rattle.flow_shop.specs.Shop.{Shop}
 use Rattle.flow_shop.specs.JobSet.{members}
-use Rattle.flow_search.specs.internal.TwoLeast.{AreTwoLeast, time_to}
-use Rattle.flow_search.proofs.two_least.renew_lags.Goals as goal
+use Rattle.flow_shop.specs.TwoLeast.{AreTwoLeast, time_to}
+use Rattle.flow_search.proofs.tails_and_lags.renew_lags.Goals as goal
 
 pub loop-machine-preserved : goal.loop-machine-preserved
 loop-machine-preserved c =
