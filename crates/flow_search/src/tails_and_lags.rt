@@ -57,7 +57,8 @@ pub fn renew_lags(setting: &Setting, set: &JobSet, lags: &mut LeastLags)
     if !has_releases(setting.version) {
         return;
     }
-    for machine in 1..setting.instance.machines() + 1 {
+    // No machine is before machine 1, so no lag leads there.
+    for machine in 2..setting.instance.machines() + 1 {
         lags[machine as usize - 1] = least_lags(setting, set, machine);
     }
 }
