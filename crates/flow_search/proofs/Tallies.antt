@@ -4,11 +4,12 @@ use Rattle.std.proofs.Common.{List, [], ◌∷◌, ◌++◌, Option, Some, None,
 use Rattle.std.proofs.Common.{refl, ap, sym, subst, ◌∙◌, inl, inr, arith, unwrap_or}
 use Rattle.std.specs.List.{flat_map, prefix_len, AllByRecursion}
 use Rattle.std.specs.Option.{option_map, option_to_list}
-use Rattle.std.proofs.lemmas.List.{append-nil, take_all, take_more, length-map, get_or-map}
+use Rattle.std.proofs.lemmas.List.{append-nil, take_all, take_more, length-map, get_or-map, map_push}
 use Rattle.std.proofs.lemmas.List.Concat.{flat_map-append}
 use Rattle.std.proofs.lemmas.List.Folds.{list_all-append}
 use Rattle.std.proofs.lemmas.Bool.{cond-true, cond-false, cases_Bool, cases_lt, and_parts, leb-true, le-leb, lt-leb}
 use Rattle.std.proofs.lemmas.Bool.{lt-ltb, le-ltb}
+use Rattle.std.proofs.Math.Bool.{and-true}
 use Rattle.flow_shop.specs.Bound.{bound_of}
 use Rattle.flow_shop.specs.Paths.{span}
 use Rattle.flow_shop.specs.Sequences.{IsSequence, IsLeastMakespan}
@@ -55,10 +56,6 @@ lower-end v fs g None all below e = refl
 lower-end v fs g (Some f) all below e =
     let low : v ≤ f.value = first-bounded v fs f all e in
     cond-true (nat_lt g.value f.value) (Some g) (Some f) (lt-ltb g.value f.value (omega arith))
-
-and-true : (b : Bool) → (b && true) ≡ b
-and-true true = refl
-and-true false = refl
 
 -- one more at the end
 pub first-push : (fs : List Found) (g : Found) → first (fs ++ g ∷ []) ≡ lower (first fs) (Some g)
@@ -117,10 +114,6 @@ bests-more plan number h =
     ∙ flat_map-append f (take number (prefixes_of plan)) (prefix_of plan number ∷ [])
     ∙ ap (λ fs. bests plan number ++ fs) (append-nil (option_to_list (best_of plan number))) in
     ap first more ∙ first-more (bests plan number) (best_of plan number)
-
-map-append-one : {X Y : Type 0} (f : X → Y) (xs : List X) (x : X) → map f (xs ++ x ∷ []) ≡ map f xs ++ f x ∷ []
-map-append-one f [] x = refl
-map-append-one f (y ∷ ys) x = ap (λ zs. f y ∷ zs) (map-append-one f ys x)
 
 pub trees-count : (plan : Planned) → length (trees_of plan) ≡ length (prefixes_of plan)
 trees-count plan = length-map (prefixes_of plan) (tree plan.shop (bound_of plan.options.version) plan.start.value)
@@ -219,7 +212,7 @@ pub tally-more : (plan : Planned) (number : ℕ) (old new : Tally) (best : Optio
 tally-more plan number old new best text h is lawful best_is trees_are = record {
   trees =
       ap (map (λ tree. tree.items)) trees_are
-      ∙ map-append-one (λ tree. tree.items) old.trees.items text
+      ∙ map_push (λ tree. tree.items) old.trees.items text
       ∙ ap (λ xs. xs ++ text.items ∷ []) is.trees
       ∙ ap (λ t. take number (trees_of plan) ++ t ∷ []) lawful.1
       ∙ sym (trees-more plan number h);
@@ -345,9 +338,3 @@ done-is (Done best text) d = (best, text, refl)
 done-is outcome.OverBudget d = absurd d
 done-is NoMemory d = absurd d
 done-is NoPrefix d = absurd d
-
--- the item after some others
-pub item-behind : (os : List Outcome) (o : Outcome) (rest : List Outcome) (other : Outcome) →
-    slice_index_or (os ++ o ∷ rest) (length os) other ≡ o
-item-behind [] o rest other = refl
-item-behind (p ∷ os) o rest other = item-behind os o rest other
