@@ -13,7 +13,7 @@ use Rattle.flow_shop.proofs.Admissible.{front_of-is}
 use Rattle.flow_shop.proofs.Ranges.{greatest-next}
 use Rattle.flow_shop.proofs.Taken.{left-sum}
 use Rattle.flow_bound.proofs.Releases.{start_from, start-here}
-use Rattle.flow_bound.proofs.Running.{time_between-split}
+use Rattle.flow_shop.proofs.Times.{time_between-split}
 use Rattle.flow_search.specs.declared.eight.group.TheConstants.{GONE}
 use Rattle.flow_search.specs.declared.eight.group.MachineRow.{MachineRow}
 use Rattle.flow_search.specs.declared.eight.group.Group.{Group}

@@ -13,7 +13,7 @@ use Rattle.flow_shop.proofs.JobsLeft.{bool_cases}
 use Rattle.flow_shop.proofs.Taken.{left_from}
 use Rattle.flow_bound.specs.Loads.{AreLoadsOf}
 use Rattle.flow_search.specs.internal.Walk.{Walk, Incumbent, walk, walk_each}
-use Rattle.flow_search.specs.internal.TwoLeast.{second_tail}
+use Rattle.flow_search.specs.internal.Tails.{second_tail}
 use Rattle.flow_search.specs.internal.Nodes.{IsAt}
 use Rattle.flow_search.specs.internal.Nodes.{then_walk}
 use Rattle.flow_search.specs.internal.Frames.{IsFrame, IsChild, path, walk_from, resume}

@@ -13,7 +13,7 @@ use Rattle.flow_shop.specs.JobSet.{contains}
 use Rattle.flow_shop.specs.Sequences.{has, AreJobs, AreDistinct, IsSequence, cut}
 use Rattle.flow_shop.specs.Bound.{Bound, IsAdmissible, bound_of}
 use Rattle.flow_shop.proofs.Admissible.{bound_is_admissible, released_bound_is_admissible}
-use Rattle.flow_search.specs.Search.{Found, tree, best}
+use Rattle.flow_search.specs.Search.{Solution, tree, best}
 use Rattle.flow_search.specs.internal.Walk.{walk}
 use Rattle.flow_search.specs.Plans.{Planned, prefixes_of, prefix_of, best_of, tree_of}
 use Rattle.flow_search.specs.internal.Stored.{IsStored}
@@ -205,7 +205,7 @@ best-sequence plan number search deep h e improved =
     let range = recursion_from_All (λ job. (1 ≤ job)
     × (job ≤ plan.shop.jobs)) (prefix_of plan number) prefix.jobs.range in
     let short : length (prefix_of plan number) ≤ plan.shop.jobs = omega (arith, prefix.size, deep) in
-    let found : Found = record { value = search.value; sequence = search.best.items } in
+    let found : Solution = record { value = search.value; sequence = search.best.items } in
     let some : best_of plan number ≡ Some found = sym e ∙ cond-true search.improved (Some found) None improved in
     (best-is plan.shop plan.start.value (prefix_of plan number) (Some found)
     (range, prefix.jobs.distinct) short some).0.0.0

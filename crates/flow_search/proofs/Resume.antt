@@ -15,7 +15,7 @@ use Rattle.flow_shop.specs.Bound.{Bound, letter, front_of}
 use Rattle.flow_shop.proofs.Admissible.{front_of-is}
 use Rattle.flow_bound.specs.Loads.{AreLoadsOf}
 use Rattle.flow_search.specs.internal.Walk.{Walk, Incumbent, walk, walk_each}
-use Rattle.flow_search.specs.internal.TwoLeast.{second_tail}
+use Rattle.flow_search.specs.internal.Tails.{second_tail}
 use Rattle.flow_search.specs.internal.Nodes.{IsAt, Wrote, Entered, Left, Gave, Walked, Opens, walked, incumbent_of}
 use Rattle.flow_search.specs.internal.Nodes.{then_walk}
 use Rattle.flow_search.specs.internal.Frames.{IsFrame, IsChild, IsStack, IsWalking, path, walk_from, resume}

@@ -4,17 +4,18 @@ use Rattle.std.proofs.Common.{List, [], ◌∷◌, ◌++◌, Option, Some, None,
 use Rattle.std.proofs.Common.{refl, ap, sym, subst, ◌∙◌, inl, inr, arith, unwrap_or}
 use Rattle.std.specs.List.{flat_map, prefix_len, AllByRecursion}
 use Rattle.std.specs.Option.{option_map, option_to_list}
-use Rattle.std.proofs.lemmas.List.{append-nil, take_all, take_more, length-map, get_or-map}
+use Rattle.std.proofs.lemmas.List.{append-nil, take_all, take_more, length-map, get_or-map, map_push}
 use Rattle.std.proofs.lemmas.List.Concat.{flat_map-append}
 use Rattle.std.proofs.lemmas.List.Folds.{list_all-append}
 use Rattle.std.proofs.lemmas.Bool.{cond-true, cond-false, cases_Bool, cases_lt, and_parts, leb-true, le-leb, lt-leb}
 use Rattle.std.proofs.lemmas.Bool.{lt-ltb, le-ltb}
+use Rattle.std.proofs.Math.Bool.{and-true}
 use Rattle.flow_shop.specs.Bound.{bound_of}
 use Rattle.flow_shop.specs.Paths.{span}
 use Rattle.flow_shop.specs.Sequences.{IsSequence, IsLeastMakespan}
-use Rattle.flow_search.specs.Search.{Found, tree, best}
+use Rattle.flow_search.specs.Search.{Solution, tree, best}
 use Rattle.flow_search.specs.Plans.{Planned, IsPlan, prefixes_of, prefix_of, tree_of, best_of, trees_of, verdict_of}
-use Rattle.flow_search.specs.Outcomes.{IsLawful, AreLawful, IsDone, found_of, first_over_budget}
+use Rattle.flow_search.specs.Outcomes.{IsLawful, AreLawful, IsDone, solution_of, first_over_budget}
 use Rattle.flow_search.specs.Verdicts.{IsVerdict, IsLeast, refusal, first_refusal}
 use Rattle.flow_search.specs.internal.Tally.{IsTally, undercuts}
 use Rattle.flow_search.specs.declared.outcome.Best.{Best}
@@ -30,13 +31,13 @@ use Rattle.flow_search.proofs.Lists.{all-append}
 use Rattle.flow_search.proofs.LeastVerdict.{verdict_is_least}
 
 -- of two that may be there the lower one, on ties the earlier
-abbrev pub lower : Option Found → Option Found → Option Found
+abbrev pub lower : Option Solution → Option Solution → Option Solution
 lower None next = next
 lower (Some f) None = Some f
 lower (Some f) (Some g) = cond (nat_lt g.value f.value) (Some g) (Some f)
 
 -- the first least of a list is no lower than what bounds the list
-first-bounded : (v : ℕ) (fs : List Found) (g : Found) → none_under v fs ≡ true → first fs ≡ Some g → v ≤ g.value
+first-bounded : (v : ℕ) (fs : List Solution) (g : Solution) → none_under v fs ≡ true → first fs ≡ Some g → v ≤ g.value
 first-bounded v [] g all e = let none : None ≡ Some g = e in absurd (cc)
 first-bounded v (f ∷ fs) g all e =
     let parts = and_parts (nat_le v f.value) (none_under v fs) all in
@@ -49,26 +50,22 @@ first-bounded v (f ∷ fs) g all e =
     ]
 
 -- a lower one at the end wins
-lower-end : (v : ℕ) (fs : List Found) (g : Found) (o : Option Found) → none_under v fs ≡ true → g.value < v →
+lower-end : (v : ℕ) (fs : List Solution) (g : Solution) (o : Option Solution) → none_under v fs ≡ true → g.value < v →
     first fs ≡ o → lower o (Some g) ≡ Some g
 lower-end v fs g None all below e = refl
 lower-end v fs g (Some f) all below e =
     let low : v ≤ f.value = first-bounded v fs f all e in
     cond-true (nat_lt g.value f.value) (Some g) (Some f) (lt-ltb g.value f.value (omega arith))
 
-and-true : (b : Bool) → (b && true) ≡ b
-and-true true = refl
-and-true false = refl
-
 -- one more at the end
-pub first-push : (fs : List Found) (g : Found) → first (fs ++ g ∷ []) ≡ lower (first fs) (Some g)
+pub first-push : (fs : List Solution) (g : Solution) → first (fs ++ g ∷ []) ≡ lower (first fs) (Some g)
 first-push [] g = refl
 first-push (f ∷ fs) g =
     let ih = first-push fs g in
     let test : none_under f.value (fs ++ g ∷ []) ≡ (none_under f.value fs && nat_le f.value g.value) =
     list_all-append (λ h. nat_le f.value h.value) fs (g ∷ [])
     ∙ ap (λ b. none_under f.value fs && b) (and-true (nat_le f.value g.value)) in
-    let rest : Option Found = first (fs ++ g ∷ []) in
+    let rest : Option Solution = first (fs ++ g ∷ []) in
     elim (cases_Bool (none_under f.value fs)) [
       | inl all ↦
           let here : first (f ∷ fs) ≡ Some f = cond-true (none_under f.value fs) (Some f) (first fs) all in
@@ -95,32 +92,28 @@ first-push (f ∷ fs) g =
           ∙ sym (ap (λ o. lower o (Some g)) (cond-false (none_under f.value fs) (Some f) (first fs) some))
     ]
 
-lower-none : (o : Option Found) → lower o None ≡ o
+lower-none : (o : Option Solution) → lower o None ≡ o
 lower-none None = refl
 lower-none (Some f) = refl
 
-pub first-more : (fs : List Found) (o : Option Found) → first (fs ++ option_to_list o) ≡ lower (first fs) o
+pub first-more : (fs : List Solution) (o : Option Solution) → first (fs ++ option_to_list o) ≡ lower (first fs) o
 first-more fs None = ap first (append-nil fs) ∙ sym (lower-none (first fs))
 first-more fs (Some g) = first-push fs g
 
 -- the bests of the first prefixes
-abbrev pub bests : Planned → ℕ → List Found
+abbrev pub bests : Planned → ℕ → List Solution
 bests plan count = flat_map (λ prefix. option_to_list (best plan.shop plan.start.value prefix)) (take count
     (prefixes_of plan))
 
 pub bests-more : (plan : Planned) (number : ℕ) → number < length (prefixes_of plan) →
     first (bests plan (number + 1)) ≡ lower (first (bests plan number)) (best_of plan number)
 bests-more plan number h =
-    let f : List ℕ → List Found = λ prefix. option_to_list (best plan.shop plan.start.value prefix) in
+    let f : List ℕ → List Solution = λ prefix. option_to_list (best plan.shop plan.start.value prefix) in
     let more : bests plan (number + 1) ≡ bests plan number ++ option_to_list (best_of plan number) =
     ap (flat_map f) (take_more (prefixes_of plan) number [] h)
     ∙ flat_map-append f (take number (prefixes_of plan)) (prefix_of plan number ∷ [])
     ∙ ap (λ fs. bests plan number ++ fs) (append-nil (option_to_list (best_of plan number))) in
     ap first more ∙ first-more (bests plan number) (best_of plan number)
-
-map-append-one : {X Y : Type 0} (f : X → Y) (xs : List X) (x : X) → map f (xs ++ x ∷ []) ≡ map f xs ++ f x ∷ []
-map-append-one f [] x = refl
-map-append-one f (y ∷ ys) x = ap (λ zs. f y ∷ zs) (map-append-one f ys x)
 
 pub trees-count : (plan : Planned) → length (trees_of plan) ≡ length (prefixes_of plan)
 trees-count plan = length-map (prefixes_of plan) (tree plan.shop (bound_of plan.options.version) plan.start.value)
@@ -200,15 +193,15 @@ no-over plan w =
 
 -- Tallies.
 
-lower-is : (next least : Option Best) → option_map found_of (cond (undercuts next least) next least)
-    ≡ lower (option_map found_of least) (option_map found_of next)
+lower-is : (next least : Option Best) → option_map solution_of (cond (undercuts next least) next least)
+    ≡ lower (option_map solution_of least) (option_map solution_of next)
 lower-is None None = refl
 lower-is None (Some least) = refl
 lower-is (Some next) None = refl
 lower-is (Some next) (Some least) = pick (nat_lt next.value least.value)
   where
-    pick : (b : Bool) → option_map found_of (cond b (Some next) (Some least))
-        ≡ cond b (Some (found_of next)) (Some (found_of least))
+    pick : (b : Bool) → option_map solution_of (cond b (Some next) (Some least))
+        ≡ cond b (Some (solution_of next)) (Some (solution_of least))
     pick true = refl
     pick false = refl
 
@@ -219,15 +212,15 @@ pub tally-more : (plan : Planned) (number : ℕ) (old new : Tally) (best : Optio
 tally-more plan number old new best text h is lawful best_is trees_are = record {
   trees =
       ap (map (λ tree. tree.items)) trees_are
-      ∙ map-append-one (λ tree. tree.items) old.trees.items text
+      ∙ map_push (λ tree. tree.items) old.trees.items text
       ∙ ap (λ xs. xs ++ text.items ∷ []) is.trees
       ∙ ap (λ t. take number (trees_of plan) ++ t ∷ []) lawful.1
       ∙ sym (trees-more plan number h);
   within = within-more plan number h (subst (λ t. length t ≤ plan.options.budget) lawful.1 lawful.2) is.within;
   best =
-      ap (option_map found_of) best_is
+      ap (option_map solution_of) best_is
       ∙ lower-is best old.best
-      ∙ ap (λ o. lower o (option_map found_of best)) is.best
+      ∙ ap (λ o. lower o (option_map solution_of best)) is.best
       ∙ ap (lower (first (bests plan number))) lawful.0
       ∙ sym (bests-more plan number h);
 }
@@ -316,8 +309,8 @@ done-at number (o ∷ os) (suc i) other e h = done-at (number + 1) os i other (g
     go NoPrefix e = absurd (cc)
 
 -- A tally of all prefixes has the verdict: the least of the bests, and the start where there is none.
-pub tally-verdict : (plan : Planned) (tally : Tally) (f : Found) → IsTally plan (length (prefixes_of plan)) tally →
-    f ≡ unwrap_or (option_map found_of tally.best) plan.start →
+pub tally-verdict : (plan : Planned) (tally : Tally) (f : Solution) → IsTally plan (length (prefixes_of plan)) tally →
+    f ≡ unwrap_or (option_map solution_of tally.best) plan.start →
     IsVerdict plan (record { value = f.value; sequence = f.sequence; trees = tally.trees })
 tally-verdict plan tally f is e =
     let same : f ≡ verdict_of plan = e ∙ ap (λ o. unwrap_or o plan.start) (is.best ∙ ap first (bests-all plan)) in
@@ -339,15 +332,3 @@ verdict-least plan verdict is of =
       sequence = subst (IsSequence plan.shop.jobs) (sym of.sequence) law.0.0;
     }
 
--- an outcome that is done
-pub done-is : (o : Outcome) → IsDone o → (best : Option Best) × (text : Vec ℕ Global) × (o ≡ Done best text)
-done-is (Done best text) d = (best, text, refl)
-done-is outcome.OverBudget d = absurd d
-done-is NoMemory d = absurd d
-done-is NoPrefix d = absurd d
-
--- the item after some others
-pub item-behind : (os : List Outcome) (o : Outcome) (rest : List Outcome) (other : Outcome) →
-    slice_index_or (os ++ o ∷ rest) (length os) other ≡ o
-item-behind [] o rest other = refl
-item-behind (p ∷ os) o rest other = item-behind os o rest other

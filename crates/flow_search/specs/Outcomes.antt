@@ -1,21 +1,21 @@
 -- Outcomes of the prefixes of a plan, and when they are lawful.
 use Rattle.std.specs.Prelude.{ℕ, ◌≡◌, ◌<◌, ◌≤◌, nat_lt, List, length, position, slice_index_or, Option}
 use Rattle.std.specs.Option.{option_map}
-use Rattle.flow_search.specs.Search.{Found}
+use Rattle.flow_search.specs.Search.{Solution}
 use Rattle.flow_search.specs.Plans.{Planned, tree_of, best_of, trees_of}
 use Rattle.flow_search.specs.declared.outcome.Best.{Best}
 use Rattle.flow_search.specs.declared.outcome.Outcome.{Outcome}
 use Rattle.flow_search.specs.declared.outcome.Outcome.TheVariants.{Done, OverBudget, NoMemory, NoPrefix}
 
 -- a best, as the definitions speak of it: a sequence with its makespan
-abbrev pub found_of : Best → Found
-found_of best = record { value = best.value; sequence = best.sequence }
+abbrev pub solution_of : Best → Solution
+solution_of best = record { value = best.value; sequence = best.sequence }
 
 -- When an outcome of a prefix is lawful. `Done`: it has the best and the tree of the prefix, and the tree is within the
 -- budget. `OverBudget`: the tree is longer than the budget. `NoMemory` is always lawful, and `NoPrefix` never.
 abbrev pub IsLawful : Planned → ℕ → Outcome → Type 0
 IsLawful plan number (Done best text) =
-    (option_map found_of best ≡ best_of plan number)
+    (option_map solution_of best ≡ best_of plan number)
     × (text.items ≡ tree_of plan number)
     × (length text.items ≤ plan.options.budget)
 IsLawful plan number OverBudget = plan.options.budget < length (tree_of plan number)

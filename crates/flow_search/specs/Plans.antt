@@ -7,14 +7,14 @@ use Rattle.flow_shop.specs.Paths.{span}
 use Rattle.flow_shop.specs.Sequences.{IsSequence, cut}
 use Rattle.flow_shop.specs.Bound.{bound_of}
 use Rattle.flow_search.specs.Choices.{Choices, AreWithinLimits}
-use Rattle.flow_search.specs.Search.{Found, tree, trees, best, verdict}
+use Rattle.flow_search.specs.Search.{Solution, tree, trees, best, verdict}
 use Rattle.flow_search.specs.declared.plan.PlanFault.{PlanFault}
 use Rattle.flow_search.specs.declared.plan.PlanFault.TheVariants.{Depth, Prefixes, Memory}
 
 -- a plan: an instance, a starting sequence with its makespan, and options
 pub record Planned : Type 0 where
   pub shop : Shop
-  pub start : Found
+  pub start : Solution
   pub options : Choices
 
 -- the prefixes of a plan, numbered from 0
@@ -51,7 +51,7 @@ abbrev pub tree_of : Planned → ℕ → List ℕ
 tree_of plan number = tree plan.shop (bound_of plan.options.version) plan.start.value (prefix_of plan number)
 
 -- the best of a prefix
-abbrev pub best_of : Planned → ℕ → Option Found
+abbrev pub best_of : Planned → ℕ → Option Solution
 best_of plan number = best plan.shop plan.start.value (prefix_of plan number)
 
 -- the trees of a plan, in the order of their prefixes (law: plans_agree)
@@ -59,5 +59,5 @@ abbrev pub trees_of : Planned → List (List ℕ)
 trees_of plan = trees plan.shop (bound_of plan.options.version) plan.start.value plan.options.depth
 
 -- the verdict of a plan (law: plans_agree)
-abbrev pub verdict_of : Planned → Found
+abbrev pub verdict_of : Planned → Solution
 verdict_of plan = verdict plan.shop plan.start plan.options.depth

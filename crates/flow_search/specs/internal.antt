@@ -6,6 +6,6 @@ pub mod Stored
 pub mod Lags
 pub mod Columns
 pub mod ColumnWalks
-pub mod TwoLeast
+pub mod Tails
 pub mod Frames
 pub mod Settings

@@ -2,11 +2,11 @@
 
 ghost use Rattle.std.specs.Prelude.{◌≡◌};
 ghost use Rattle.flow_shop.specs.JobSet.{members, IsSetOf};
-ghost use Rattle.flow_search.specs.internal.TwoLeast.{AreSecondTails};
+ghost use Rattle.flow_search.specs.internal.Tails.{AreSecondTails};
 ghost use Rattle.flow_search.specs.internal.Settings.{shop_of};
 
 use crate::setting::Setting;
-use crate::two_least::least_tails;
+use crate::tails_and_lags::least_tails;
 use flow_bound::Loads;
 use flow_limits::MAX_MACHINES;
 use flow_shop::{Front, JobSet};

@@ -5,7 +5,7 @@ ghost use Rattle.std.specs.Option.{option_map};
 ghost use Rattle.flow_shop.specs.Sequences.{IsSequence};
 ghost use Rattle.flow_search.specs.Plans.{prefixes_of, tree_of, best_of};
 ghost use Rattle.flow_search.specs.internal.Nodes.{found_if};
-ghost use Rattle.flow_search.specs.Outcomes.{IsLawful, found_of};
+ghost use Rattle.flow_search.specs.Outcomes.{IsLawful, solution_of};
 
 use crate::budget::SearchFault;
 use crate::eight::ColumnMemory;
@@ -81,7 +81,7 @@ fn search_prefix(alloc: Global, plan: &Plan, number: u32) -> Result<SearchState,
 /// The best that a search found.
 fn best_found(alloc: Global, search: &SearchState) -> Result<Option<Best>, AllocError>
     requires { search.now.improved ≡ true → IsSequence (length search.now.best.items) search.now.best.items }
-    ensures { IfOk result (λ best. option_map found_of best ≡ found_if search.now) }
+    ensures { IfOk result (λ best. option_map solution_of best ≡ found_if search.now) }
 {
     if !search.improved {
         return Ok(None);

@@ -19,7 +19,7 @@ use crate::frame::Frame;
 use crate::release::{pruning_of_node_released, release_at_child};
 use crate::setting::Setting;
 use crate::state::SearchState;
-use crate::two_least::LeastLags;
+use crate::tails_and_lags::LeastLags;
 use flow_bound::Loads;
 use flow_limits::MAX_MACHINES;
 use flow_shop::{Front, Instance, JobSet, TwoLeast, has_releases};

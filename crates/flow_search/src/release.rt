@@ -14,10 +14,10 @@ ghost use Rattle.flow_search.specs.internal.Lags.{IsLagged};
 ghost use Rattle.flow_search.specs.internal.Settings.{shop_of};
 
 use crate::setting::Setting;
-use crate::two_least::{LeastPairs, lag, least_lags};
+use crate::tails_and_lags::least_lags;
 use flow_bound::{Loads, release_from_lags};
 use flow_limits::MAX_MACHINES;
-use flow_shop::{Front, JobSet, Row};
+use flow_shop::{Front, JobSet, LeastPairs, Row};
 
 /// The first machine that prunes a node by the released bound: whose released bound there reaches a value.
 pub fn pruning_of_node_released(
@@ -65,10 +65,10 @@ pub fn release_at_child(
         ((place : ℕ) → place < machine → slice_index free.now place ≡ slice_index front place) →
         result ≡ release shop front (jobs_left shop.jobs (node ++ job ∷ [])) machine }
 {
-    let last = machine as usize - 1;
-    let mut made = free[last];
-    for place in 0..last {
-        let least = lags.at(place).without(lag(row, place, machine));
+    let mut made = free[machine as usize - 1];
+    for earlier in 1..machine {
+        let place = earlier as usize - 1;
+        let least = lags.at(place).without(row.lag(earlier, machine));
         made = made.max(free[place] + least);
     }
     made

@@ -16,10 +16,10 @@ use crate::frame::Frame;
 use crate::pruning::{pruning_of_child, pruning_of_node};
 use crate::setting::Setting;
 use crate::state::SearchState;
-use crate::two_least::{LeastLags, LeastPairs, renew_lags};
+use crate::tails_and_lags::{LeastLags, renew_lags};
 use flow_bound::Loads;
 use flow_limits::MAX_MACHINES;
-use flow_shop::{Front, JobSet, front_push};
+use flow_shop::{Front, JobSet, LeastPairs, front_push};
 
 /// The first job of a set from one job to another.
 fn first_of(set: &JobSet, from: u16, last: u16) -> Option<u16>

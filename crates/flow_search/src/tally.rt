@@ -2,12 +2,11 @@
 
 ghost use Rattle.std.specs.Prelude.{◌≡◌, ℕ, ◌+◌, ◌<◌, length, IfOk, OnOk};
 ghost use Rattle.flow_search.specs.Plans.{Planned, prefixes_of};
-ghost use Rattle.flow_search.specs.Outcomes.{IsLawful};
+ghost use Rattle.flow_search.specs.Outcomes.{IsLawful, IsDone};
 ghost use Rattle.flow_search.specs.Verdicts.{IsVerdict, IsLeast};
 ghost use Rattle.flow_search.specs.internal.Tally.{IsTally, undercuts};
-ghost use Rattle.flow_search.specs.declared.outcome.Outcome.TheVariants.{Done};
 
-use crate::outcome::Best;
+use crate::outcome::{Best, Outcome};
 use crate::plan::Plan;
 use crate::verdict::Verdict;
 use flow_shop::Sequence;
@@ -44,11 +43,15 @@ impl Tally {
         })
     }
 
-    /// Adds the best and the tree of the next prefix.
-    pub fn add(&mut self, best: Option<Best>, tree: Vec<u8>) -> Result<(), AllocError>
+    /// Adds the best and the tree of the next prefix, where its outcome is `Done`.
+    pub fn add(&mut self, outcome: Outcome) -> Result<(), AllocError>
         ensures { OnOk result ((plan : Planned) (number : ℕ) → number < length (prefixes_of plan) →
-            IsTally plan number self.old → IsLawful plan number (Done best tree) → IsTally plan (number + 1) self.new) }
+            IsTally plan number self.old → IsLawful plan number outcome → IsDone outcome →
+            IsTally plan (number + 1) self.new) }
     {
+        let Outcome::Done { best, tree } = outcome else {
+            return Ok(());
+        };
         if undercuts(&best, &self.best) {
             self.best = best;
         }

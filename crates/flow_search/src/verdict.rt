@@ -67,9 +67,7 @@ pub fn conclude(alloc: Global, plan: &Plan, outcomes: Vec<Outcome>) -> Result<Ve
     }
     let mut tally = Tally::new(alloc, count as usize)?;
     for outcome in outcomes {
-        if let Outcome::Done { best, tree } = outcome {
-            tally.add(best, tree)?;
-        }
+        tally.add(outcome)?;
     }
     let verdict = tally.verdict(alloc, plan)?;
     Ok(verdict)
@@ -91,9 +89,7 @@ pub fn solve_plain(alloc: Global, plan: &Plan) -> Result<Verdict, RunFault>
         if let Some(fault) = refusal(number, &outcome) {
             return Err(fault);
         }
-        if let Outcome::Done { best, tree } = outcome {
-            tally.add(best, tree)?;
-        }
+        tally.add(outcome)?;
     }
     let verdict = tally.verdict(alloc, plan)?;
     Ok(verdict)

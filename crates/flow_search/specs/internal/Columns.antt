@@ -3,7 +3,7 @@ use Rattle.std.specs.Prelude.{ℕ, ◌≡◌, ◌≢◌, ◌⊎◌, ◌+◌, ◌
 use Rattle.std.specs.Prelude.{slice_index_or, sum_by, length, filter, nat_eq}
 use Rattle.std.specs.List.{range_with_len}
 use Rattle.flow_limits.specs.Limits.{most_machines, greatest_time, greatest_completion}
-use Rattle.flow_shop.specs.Shop.{Shop, time, time_between}
+use Rattle.flow_shop.specs.Shop.{Shop, time, time_between, AreOf}
 use Rattle.flow_shop.specs.Paths.{completion}
 use Rattle.flow_shop.specs.Front.{IsFrontOf}
 use Rattle.flow_shop.specs.Sequences.{has, jobs_left}
@@ -66,8 +66,7 @@ pub record IsRowOf (shop : Shop) (row : MachineRow) (column job machine : ℕ) :
 pub record IsFrameOf (shop : Shop) (list : List ℕ) (group : Group) (frame : ColumnFrame) : Type 0 where
   pub count : length list + length (jobs_left shop.jobs list) ≡ shop.jobs
   pub times : IsFrontOf shop list frame.front
-  pub sums : (machine : ℕ) → 1 ≤ machine → machine ≤ shop.machines →
-      slice_index frame.sum (machine - 1) ≡ sum_by (λ job. time shop job machine) (jobs_left shop.jobs list)
+  pub sums : AreOf shop (λ machine. sum_by (λ job. time shop job machine) (jobs_left shop.jobs list)) frame.sum
   pub gone : (column : ℕ) → column < most_columns → (slice_index frame.gone column ≡ 0) ⊎
       (slice_index frame.gone column ≡ GONE)
   pub small : (row : MachineRow) (machine column : ℕ) → 1 ≤ machine → machine ≤ shop.machines → column < most_columns →

@@ -7,7 +7,7 @@ use Rattle.flow_shop.specs.Bound.{Bound}
 use Rattle.flow_bound.specs.Loads.{AreLoadsOf}
 use Rattle.flow_search.specs.internal.Walk.{Walk, Incumbent, walk, walk_each}
 use Rattle.flow_search.specs.internal.Columns.{most_columns}
-use Rattle.flow_search.specs.internal.TwoLeast.{AreSecondTails}
+use Rattle.flow_search.specs.internal.Tails.{AreSecondTails}
 use Rattle.flow_search.specs.internal.Nodes.{IsAt, incumbent_of, then_walk}
 use Rattle.flow_search.specs.declared.frame.Frame.{Frame}
 use Rattle.flow_search.specs.declared.state.SearchState.{SearchState}

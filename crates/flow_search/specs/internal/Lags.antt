@@ -5,9 +5,9 @@ use Rattle.flow_shop.specs.Shop.{Shop, IsWithinLimits}
 use Rattle.flow_shop.specs.Sequences.{jobs_left}
 use Rattle.flow_shop.specs.Rows.{IsRow}
 use Rattle.flow_shop.specs.declared.row.Row.{Row}
-use Rattle.flow_search.specs.internal.TwoLeast.{AreTwoLeast, time_to}
+use Rattle.flow_shop.specs.TwoLeast.{AreTwoLeast, time_to}
 use Rattle.flow_search.specs.internal.Frames.{IsChild}
-use Rattle.flow_search.specs.declared.two_least.LeastPairs.{LeastPairs}
+use Rattle.flow_shop.specs.declared.least_pairs.LeastPairs.{LeastPairs}
 
 -- for each machine the two least lags of some jobs to it, from each earlier one
 abbrev pub AreLeastLags : Shop → List ℕ → List LeastPairs → Type 0

@@ -6,14 +6,14 @@ use Rattle.flow_shop.specs.Shop.{Shop, IsWithinLimits}
 use Rattle.flow_shop.specs.Front.{IsFrontOf}
 use Rattle.flow_shop.specs.JobSet.{contains}
 use Rattle.flow_shop.specs.Sequences.{has, jobs_left, AreJobs}
-use Rattle.flow_search.specs.Search.{Found, first_reaching}
+use Rattle.flow_search.specs.Search.{Solution, first_reaching}
 use Rattle.flow_search.specs.internal.Walk.{Walk, Incumbent, walk, walk_each}
 use Rattle.flow_shop.specs.JobSet.{IsSetOf}
 use Rattle.flow_shop.specs.Bound.{Bound, plus}
 use Rattle.flow_search.specs.declared.state.SearchState.{SearchState}
 
 -- the best so far; none where no sequence with a smaller makespan than the start was found
-abbrev pub found_if : SearchState → Option Found
+abbrev pub found_if : SearchState → Option Solution
 found_if search = cond search.improved (Some (record { value = search.value; sequence = search.best.items })) None
 
 -- the incumbent: its makespan, and the best so far

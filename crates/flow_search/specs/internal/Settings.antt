@@ -9,7 +9,7 @@ use Rattle.flow_search.specs.internal.Nodes.{IsAt, walked, children_walked, chil
 use Rattle.flow_search.specs.internal.Frames.{IsFrame}
 use Rattle.flow_search.specs.internal.Lags.{AreLeastLags}
 use Rattle.flow_search.specs.declared.frame.Frame.{Frame}
-use Rattle.flow_search.specs.declared.two_least.LeastPairs.{LeastPairs}
+use Rattle.flow_shop.specs.declared.least_pairs.LeastPairs.{LeastPairs}
 use Rattle.flow_search.specs.declared.setting.Setting.{Setting}
 use Rattle.flow_search.specs.declared.state.SearchState.{SearchState}
 

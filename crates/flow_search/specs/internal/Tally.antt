@@ -5,7 +5,7 @@ use Rattle.std.specs.List.{flat_map, AllByRecursion}
 use Rattle.flow_shop.specs.Least.{first_least}
 use Rattle.flow_search.specs.Search.{best}
 use Rattle.flow_search.specs.Plans.{Planned, prefixes_of, trees_of}
-use Rattle.flow_search.specs.Outcomes.{found_of}
+use Rattle.flow_search.specs.Outcomes.{solution_of}
 use Rattle.flow_search.specs.declared.outcome.Best.{Best}
 use Rattle.flow_search.specs.declared.tally.Tally.{Tally}
 
@@ -19,6 +19,6 @@ undercuts (Some next) (Some least) = nat_lt next.value least.value
 pub record IsTally (plan : Planned) (count : ℕ) (tally : Tally) : Type 0 where
   pub trees : map (λ tree. tree.items) tally.trees.items ≡ take count (trees_of plan)
   pub within : AllByRecursion (λ text. length text ≤ plan.options.budget) (take count (trees_of plan))
-  pub best : option_map found_of tally.best
+  pub best : option_map solution_of tally.best
       ≡ first_least (λ f. f.value)
       (flat_map (λ prefix. option_to_list (best plan.shop plan.start.value prefix)) (take count (prefixes_of plan)))

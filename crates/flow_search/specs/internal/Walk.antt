@@ -6,11 +6,11 @@ use Rattle.flow_shop.specs.Shop.{Shop}
 use Rattle.flow_shop.specs.Paths.{span}
 use Rattle.flow_shop.specs.Sequences.{jobs_left, AreJobs}
 use Rattle.flow_shop.specs.Bound.{Bound, IsAdmissible, letter, point, plus}
-use Rattle.flow_search.specs.Search.{Found, found, first_reaching, tree, best}
+use Rattle.flow_search.specs.Search.{Solution, solution, first_reaching, tree, best}
 
 -- an incumbent: a makespan, with the sequence that has it; or the makespan of the start alone
 abbrev pub Incumbent : Type 0
-Incumbent = ℕ × Option Found
+Incumbent = ℕ × Option Solution
 
 -- what a walk gives: the text that it writes, and the incumbent after it
 abbrev pub Walk : Type 0
@@ -19,7 +19,7 @@ Walk = List ℕ × Incumbent
 -- the incumbent after a sequence: that sequence, where its makespan is smaller
 abbrev pub better : Shop → Incumbent → List ℕ → Incumbent
 better shop incumbent jobs =
-    cond (nat_lt (span shop jobs) incumbent.0) (span shop jobs, Some (found shop jobs)) incumbent
+    cond (nat_lt (span shop jobs) incumbent.0) (span shop jobs, Some (solution shop jobs)) incumbent
 
 -- the walks from the children of some jobs, one after another: all their texts, and the incumbent after the last
 abbrev pub walk_each : (ℕ → Incumbent → Walk) → List ℕ → Incumbent → Walk

@@ -4,7 +4,7 @@ use Rattle.flow_shop.specs.Shop.{Shop}
 use Rattle.flow_shop.specs.JobSet.{members}
 use Rattle.flow_shop.specs.Bound.{released_bound}
 use Rattle.flow_bound.specs.Loads.{least_between}
-use Rattle.flow_search.proofs.Needs.{least-to}
+use Rattle.flow_search.proofs.Lags.{least-lag}
 use Rattle.flow_search.proofs.Nodes.{find-here, find-skip}
 use Rattle.flow_search.proofs.release.pruning_of_node_released.Goals as goal
 use Rattle.flow_search.proofs.release.pruning_of_node_released.Goals.{After-from-in-loop-machine}
@@ -25,7 +25,7 @@ bounded c =
     let within : from - 1 < machine - 1 = omega (arith, some, below) in
     let here : from - 1 + 1 ≡ from = omega (arith, some) in
     (c.least_lags-lags.ensures (from - 1) within).0
-    ∙ least-to shop machine (from - 1) jobs c.args.setting.now.are_rows.limits high within c.requires.some
+    ∙ least-lag shop machine (from - 1) jobs c.args.setting.now.are_rows.limits high c.requires.some
     ∙ ap (λ k. least_between shop jobs k (machine - 1)) here) in
     omega (
       arith,

@@ -6,7 +6,7 @@ use Rattle.flow_shop.specs.Front.{IsFrontOf}
 use Rattle.flow_shop.specs.JobSet.{members}
 use Rattle.flow_shop.specs.Bound.{bound_of}
 use Rattle.flow_bound.specs.Loads.{AreLoadsOf}
-use Rattle.flow_search.specs.internal.TwoLeast.{second_tail}
+use Rattle.flow_search.specs.internal.Tails.{second_tail}
 use Rattle.flow_search.specs.internal.Nodes.{IsAt, incumbent_of}
 use Rattle.flow_search.specs.internal.Frames.{IsFrame}
 use Rattle.flow_search.proofs.Nodes.{left-count, machine-is, pruned-here}

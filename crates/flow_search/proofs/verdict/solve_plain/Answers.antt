@@ -1,13 +1,10 @@
 use Rattle.std.proofs.Common.{◌≡◌, ◌+◌, ◌<◌, length, None, Some, subst, ap, sym, ◌∙◌, arith}
 use Rattle.flow_search.specs.Plans.{prefixes_of}
-use Rattle.flow_search.specs.Outcomes.{IsLawful, IsDone}
+use Rattle.flow_search.specs.Outcomes.{IsDone}
 use Rattle.flow_search.specs.Verdicts.{refusal}
-use Rattle.flow_search.specs.internal.Tally.{IsTally}
-use Rattle.flow_search.specs.declared.outcome.Outcome.TheVariants.{Done}
 use Rattle.flow_search.specs.declared.verdict.RunFault.TheVariants.{OverBudget}
-use Rattle.flow_search.proofs.Tallies.{done-is, first-over, no-over, refused-over, refuses-nothing, AreWithin}
+use Rattle.flow_search.proofs.Tallies.{first-over, no-over, refused-over, refuses-nothing, AreWithin}
 use Rattle.flow_search.proofs.verdict.solve_plain.Goals as goal
-use Rattle.flow_search.proofs.verdict.solve_plain.Goals.{in-Done+in_ok-add, in_default-outcome}
 
 pub returns-in-Some-clause-over : goal.returns-in-Some-clause-over
 returns-in-Some-clause-over c number e =
@@ -34,13 +31,4 @@ loop-number-preserved c =
     sym c.refusal.ensures ∙ c.in_default.is in
     let done : IsDone c.answer-outcome.result =
     refuses-nothing c.loop-number.number c.answer-outcome.result none in
-    elim c.match-outcome-3.branch [
-      | in-Done+in_ok-add w ↦
-          let lawful : IsLawful c.args.plan.now c.loop-number.number (Done w.in-Done.best w.in-Done.tree) =
-          subst (IsLawful c.args.plan.now c.loop-number.number) w.in-Done.is c.answer-outcome.ensures in
-          subst (IsTally c.args.plan.now (c.loop-number.number + 1)) (sym w.tally-is)
-          (w.in_ok-add.ensures c.args.plan.now c.loop-number.number low c.loop-number.invariant lawful)
-      | in_default-outcome w ↦
-          let is = done-is c.answer-outcome.result done in
-          absurd (w.in_default-outcome.not-Done is.0 is.1 is.2)
-    ]
+    c.in_ok-add.ensures c.args.plan.now c.loop-number.number low c.loop-number.invariant c.answer-outcome.ensures done

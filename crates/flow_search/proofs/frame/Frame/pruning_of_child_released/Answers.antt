@@ -13,7 +13,7 @@ use Rattle.flow_shop.proofs.Recurrence.{after}
 use Rattle.flow_shop.proofs.Fronts.{free_at, after-step, time-small, child-completion}
 use Rattle.flow_search.specs.internal.Frames.{IsFrame, IsChild}
 use Rattle.flow_search.specs.internal.Lags.{AreLeastLags, IsLagged}
-use Rattle.flow_search.specs.declared.two_least.LeastPairs.{LeastPairs}
+use Rattle.flow_shop.specs.declared.least_pairs.LeastPairs.{LeastPairs}
 use Rattle.flow_search.proofs.Children.{child-bound, child-released, frame-within}
 use Rattle.flow_search.proofs.ColumnsPassed.{done-more}
 use Rattle.flow_search.proofs.Nodes.{find-here, find-skip, find-past}

@@ -1,5 +1,6 @@
-use Rattle.std.proofs.Common.{◌≡◌, true, false, cond, Option, [], ◌∷◌, ◌++◌, ap, sym, ◌∙◌}
+use Rattle.std.proofs.Common.{◌≡◌, true, false, cond, Option, [], ◌∷◌, ◌++◌, ap, sym, subst, ◌∙◌}
 use Rattle.std.proofs.lemmas.Bool.{cond-true, cond-false}
+use Rattle.flow_search.specs.Outcomes.{IsLawful}
 use Rattle.flow_search.specs.internal.Tally.{undercuts}
 use Rattle.flow_search.specs.declared.outcome.Best.{Best}
 use Rattle.flow_search.specs.declared.tally.Tally.{Tally}
@@ -8,8 +9,8 @@ use Rattle.flow_search.proofs.tally.Tally.add.Goals as goal
 use Rattle.flow_search.proofs.tally.Tally.add.Goals.{then-undercuts, else-undercuts}
 
 pub returns : goal.returns
-returns c plan number h is lawful =
-    let next : Option Best = c.args.best in
+returns c plan number h is lawful done =
+    let next : Option Best = c.in-Done.best in
     let least : Option Best = c.args.self.now.best in
     let best : c.if-undercuts.self.best ≡ cond (undercuts next least) next least = elim c.if-undercuts.branch [
       | then-undercuts w ↦
@@ -24,5 +25,6 @@ returns c plan number h is lawful =
       | then-undercuts w ↦ ap (λ s. s.trees.items) w.self-is
       | else-undercuts w ↦ ap (λ s. s.trees.items) w.self-is
     ] in
-    tally-more plan number c.args.self.now after next c.args.tree h is lawful best (c.in_ok-push.ensures.items
-    ∙ ap (λ xs. xs ++ c.args.tree ∷ []) trees)
+    tally-more plan number c.args.self.now after next c.in-Done.tree h is
+    (subst (IsLawful plan number) c.in-Done.is lawful) best (c.in_ok-push.ensures.items
+    ∙ ap (λ xs. xs ++ c.in-Done.tree ∷ []) trees)

@@ -1,15 +1,15 @@
 use Rattle.std.proofs.Common.{◌≡◌, ap, ap₂, sym, ◌∙◌, unwrap_or}
 use Rattle.std.specs.Option.{option_map}
-use Rattle.flow_search.specs.Search.{Found}
-use Rattle.flow_search.specs.Outcomes.{found_of}
-use Rattle.flow_search.proofs.OnePlan.{found_with}
+use Rattle.flow_search.specs.Search.{Solution}
+use Rattle.flow_search.specs.Outcomes.{solution_of}
+use Rattle.flow_search.proofs.OnePlan.{solution_with}
 use Rattle.flow_search.proofs.Tallies.{tally-verdict, verdict-least}
 use Rattle.flow_search.proofs.tally.Tally.verdict.Goals as goal
 
 pub returns-in-Some-clause-verdict : goal.returns-in-Some-clause-verdict
 returns-in-Some-clause-verdict c =
-    tally-verdict c.args.plan.now c.args.self (found_of c.in-Some.field-0) c.requires
-    (sym (ap (λ o. unwrap_or (option_map found_of o) c.args.plan.now.start) c.in-Some.is))
+    tally-verdict c.args.plan.now c.args.self (solution_of c.in-Some.field-0) c.requires
+    (sym (ap (λ o. unwrap_or (option_map solution_of o) c.args.plan.now.start) c.in-Some.is))
 
 pub returns-in-Some-clause-least : goal.returns-in-Some-clause-least
 returns-in-Some-clause-least c =
@@ -17,12 +17,12 @@ returns-in-Some-clause-least c =
 
 pub returns-clause-verdict : goal.returns-clause-verdict
 returns-clause-verdict c =
-    let start : Found = found_with c.start_value.result c.in_ok-of_known.field-0 in
+    let start : Solution = solution_with c.start_value.result c.in_ok-of_known.field-0 in
     let same : start ≡ c.args.plan.now.start =
-    ap₂ found_with c.start_value.ensures.value
+    ap₂ solution_with c.start_value.ensures.value
     (c.in_ok-of_known.ensures ∙ (c.jobs.ensures.value ∙ c.start-start.ensures.value)) in
     tally-verdict c.args.plan.now c.args.self start c.requires
-    (same ∙ sym (ap (λ o. unwrap_or (option_map found_of o) c.args.plan.now.start) c.in_default.is))
+    (same ∙ sym (ap (λ o. unwrap_or (option_map solution_of o) c.args.plan.now.start) c.in_default.is))
 
 pub returns-clause-least : goal.returns-clause-least
 returns-clause-least c =

@@ -1,18 +1,24 @@
-use Rattle.std.proofs.Common.{◌≡◌, ◌≢◌, ℕ, ◌-◌, ◌≤◌, set, slice_index_or, sym, subst, ◌∙◌, inl, inr, arith}
+use Rattle.std.proofs.Common.{rules, ◌≡◌, ◌≢◌, ℕ, ◌-◌, ◌≤◌, set, slice_index_or, sym, subst, ◌∙◌, inl, inr, arith}
 use Rattle.std.proofs.lemmas.Bool.{cases_lt}
 use Rattle.std.proofs.lemmas.List.{get_or-set_same, get_or-set_other, length-set}
 use Rattle.flow_limits.specs.Limits.{most_machines}
 use Rattle.flow_shop.specs.Shop.{Shop}
 use Rattle.flow_shop.specs.JobSet.{members}
-use Rattle.flow_search.specs.internal.TwoLeast.{AreTwoLeast, time_to}
-use Rattle.flow_search.proofs.two_least.renew_lags.Goals as goal
+use Rattle.flow_shop.specs.TwoLeast.{AreTwoLeast, time_to}
+use Rattle.flow_search.proofs.tails_and_lags.renew_lags.Goals as goal
+
+pub loop-machine-init : goal.loop-machine-init
+loop-machine-init c = record {
+  size = search rules;
+  done = λ k other from to place low. absurd (omega (arith, from, to, low));
+}
 
 pub loop-machine-preserved : goal.loop-machine-preserved
 loop-machine-preserved c =
     let shop : Shop = c.args.setting.now.instance.now in
     let machine : ℕ = c.loop-machine.machine in
     let i = c.loop-machine.invariant in
-    let low : 1 ≤ machine = c.loop-machine.auto.machine in
+    let low : 1 ≤ machine = omega (arith, c.loop-machine.auto.machine) in
     let high : machine ≤ shop.machines = omega (arith, c.loop-machine-test.true, c.machines-machine-end.ensures.value)
     in
     let most : shop.machines ≤ most_machines = c.args.setting.now.are_rows.limits.machines in

@@ -1,9 +1,9 @@
 use Rattle.std.proofs.Common.{◌≡◌, ℕ, ◌-◌, ◌<◌, ◌≤◌, length, slice_index_or}
 use Rattle.flow_limits.specs.Limits.{most_machines}
 use Rattle.flow_shop.specs.JobSet.{members}
-use Rattle.flow_search.specs.internal.TwoLeast.{AreTwoLeast, time_to}
-use Rattle.flow_search.specs.declared.two_least.LeastPairs.{LeastPairs}
-use Rattle.flow_search.proofs.two_least.renew_lags.Given as goal
+use Rattle.flow_shop.specs.TwoLeast.{AreTwoLeast, time_to}
+use Rattle.flow_shop.specs.declared.least_pairs.LeastPairs.{LeastPairs}
+use Rattle.flow_search.proofs.tails_and_lags.renew_lags.Given as goal
 
 -- the lags to the machines so far
 abbrev pub invariant-loop-machine : goal.invariant-loop-machine

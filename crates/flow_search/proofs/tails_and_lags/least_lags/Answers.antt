@@ -3,18 +3,18 @@ use Rattle.std.specs.List.{filter}
 use Rattle.flow_shop.specs.Shop.{numbers}
 use Rattle.flow_shop.specs.JobSet.{contains}
 use Rattle.flow_shop.proofs.JobSetLemmas.{members-is}
-use Rattle.flow_search.specs.internal.TwoLeast.{AreTwoLeast, time_to}
+use Rattle.flow_shop.specs.TwoLeast.{AreTwoLeast, time_to}
 use Rattle.flow_search.proofs.Children.{filter-take, filter-leave}
-use Rattle.flow_search.proofs.two_least.least_lags.Goals as goal
-use Rattle.flow_search.proofs.two_least.least_lags.Goals.{then-contains, else-contains}
+use Rattle.flow_search.proofs.tails_and_lags.least_lags.Goals as goal
+use Rattle.flow_search.proofs.tails_and_lags.least_lags.Goals.{then-contains, else-contains}
 
 pub loop-job-init : goal.loop-job-init
 loop-job-init c =
     c.none-lags.ensures (time_to c.args.setting.now.instance.now c.args.machine) (c.args.machine - 1)
     (omega (arith, c.args.setting.now.are_rows.limits.machines, c.requires.to))
 
-pub times_to-times-requires-clause-row : goal.times_to-times-requires-clause-row
-times_to-times-requires-clause-row c = (
+pub lags_to-own-requires-clause-row : goal.lags_to-own-requires-clause-row
+lags_to-own-requires-clause-row c = (
   c.args.setting.now.instance.now,
   c.loop-job.job,
   c.args.setting.now.are_rows.limits,
@@ -40,7 +40,8 @@ loop-job-preserved c =
           (subst (λ js. AreTwoLeast (time_to shop c.args.machine) count js w.take.new.self) (sym (filter-take
           (contains set) job c.loop-job.auto.job there))
           (w.take.ensures (time_to shop c.args.machine) (filter (contains set) (numbers 1 (job - 1))) job
-          (w.times_to-times.ensures shop job row c.requires.to) c.loop-job.invariant))
+          (λ place low. w.lags_to-own.ensures shop job row c.requires.to place (omega (arith, low)))
+          c.loop-job.invariant))
       | else-contains w ↦
           let out : contains set job ≡ false = sym c.contains.ensures.value ∙ w.if-contains.false in
           subst (λ l. AreTwoLeast (time_to shop c.args.machine) count

@@ -4,10 +4,11 @@ use Rattle.std.specs.List.{filter}
 use Rattle.flow_shop.specs.Shop.{numbers}
 use Rattle.flow_shop.specs.JobSet.{contains, members}
 use Rattle.flow_shop.proofs.JobSetLemmas.{members-is}
-use Rattle.flow_search.specs.internal.TwoLeast.{AreTwoLeast, tail_at}
+use Rattle.flow_shop.specs.TwoLeast.{AreTwoLeast}
+use Rattle.flow_search.specs.internal.Tails.{tail_at}
 use Rattle.flow_search.proofs.Children.{filter-take, filter-leave}
-use Rattle.flow_search.proofs.two_least.least_tails.Goals as goal
-use Rattle.flow_search.proofs.two_least.least_tails.Goals.{then-contains, else-contains}
+use Rattle.flow_search.proofs.tails_and_lags.least_tails.Goals as goal
+use Rattle.flow_search.proofs.tails_and_lags.least_tails.Goals.{then-contains, else-contains}
 
 pub loop-job-init : goal.loop-job-init
 loop-job-init c =
