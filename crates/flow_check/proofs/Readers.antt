@@ -11,7 +11,7 @@ use Rattle.flow_check.specs.internal.Links.{AreLinks, IsPlace}
 use Rattle.flow_check.specs.internal.Nodes.{IsListNode, IsAt, left_before, left_here}
 use Rattle.flow_check.specs.internal.Reader.{frame_at, here, above, Stands, IsBack, Opened, Closed}
 use Rattle.flow_check.specs.declared.node.ListNode.{ListNode}
-use Rattle.flow_check.specs.declared.release.TwoLeastLags.{TwoLeastLags}
+use Rattle.flow_shop.specs.declared.least_pairs.LeastPairs.{LeastPairs}
 use Rattle.flow_check.specs.declared.reader.ListFrame.{ListFrame}
 use Rattle.flow_check.specs.declared.reader.TreeReader.{TreeReader}
 use Rattle.flow_check.proofs.Links.{next-some, links-out, links-back}
@@ -35,10 +35,10 @@ at-same shop list node other links same left right e f g at =
     (IsAt shop list other same) (sym g) at))
 
 -- where no lags are known, those that are kept are any list's
-pub none-kept : (shop : Shop) (list : List ℕ) (kept : List (Option TwoLeastLags)) → AreUnknown kept →
+pub none-kept : (shop : Shop) (list : List ℕ) (kept : List (Option LeastPairs)) → AreUnknown kept →
     AreKept shop list kept
 none-kept shop list kept none machine from within =
-    subst (λ (o : Option TwoLeastLags). IfSome o (λ two. AreTwoLeastLagsTo shop list machine two))
+    subst (λ (o : Option LeastPairs). IfSome o (λ two. AreTwoLeastLagsTo shop list machine two))
     (sym (none (machine - 1) (omega (arith, from, within)))) tt
 
 -- the list's node may know more

@@ -6,9 +6,9 @@ ghost use Rattle.flow_check.specs.internal.Reader.{Stands, Opened, Closed, frame
 ghost use Rattle.flow_shop.specs.Limits.{most_jobs};
 
 use crate::node::ListNode;
-use crate::release::{TwoLeastLags, forget, unknown_lags};
+use crate::release::{forget, unknown_lags};
 use crate::trees_text::TreesText;
-use flow_shop::{Instance, has_releases};
+use flow_shop::{Instance, LeastPairs, has_releases};
 use std::alloc::{AllocError, Global};
 
 /// A place in the text of the trees.
@@ -42,7 +42,7 @@ pub(crate) struct TreeReader {
     pub(crate) frames: Vec<ListFrame>,
     /// In version 2 the two least lags of the list's jobs left to each machine, where they are found; in version 1
     /// there are none.
-    pub(crate) lags: Vec<Option<TwoLeastLags>>,
+    pub(crate) lags: Vec<Option<LeastPairs>>,
     /// How many jobs are left at each child of the list: the place of the list's frame.
     pub(crate) child_left: usize,
 }
