@@ -1,9 +1,9 @@
 -- How a reader goes to a child and back.
 use Rattle.std.proofs.Common.{◌≡◌, ◌≢◌, ℕ, zero, suc, ◌+◌, ◌-◌, ◌<◌, ◌≤◌, List, [], ◌∷◌, ◌++◌, length, slice_index}
-use Rattle.std.proofs.Common.{slice_set, set, get_or, Option, Some, None, false, refl, ap, sym, subst, ◌∙◌, arith}
+use Rattle.std.proofs.Common.{slice_set, slice_index_or, replicate, set, get_or, Option, Some, None, false, refl, ap, sym, subst, ◌∙◌, arith}
 use Rattle.std.proofs.Common.{IfSome}
 use Rattle.std.proofs.lemmas.List.{get_or_default, get_or-set_same, get_or-set_other, length-set, set-append_left}
-use Rattle.std.proofs.lemmas.List.{set-append_right}
+use Rattle.std.proofs.lemmas.List.{set-append_right, get_or-replicate, length-replicate}
 use Rattle.flow_shop.specs.Shop.{Shop}
 use Rattle.flow_shop.specs.Sequences.{has}
 use Rattle.flow_check.specs.internal.Lags.{AreTwoLeastLagsTo, AreKept, AreUnknown}
@@ -33,6 +33,21 @@ pub at-same : (shop : Shop) (list : List ℕ) (node other : ListNode) (links sam
 at-same shop list node other links same left right e f g at =
     subst (λ n. IsAt shop list n links left) (sym e) (subst (λ l. IsAt shop list other l left) (sym f) (subst
     (IsAt shop list other same) (sym g) at))
+
+-- what is no known pair is none
+pub only-none : (P : Option LeastPairs → Type 0) → ((known : LeastPairs) → ¬ P (Some known)) →
+    (lags : Option LeastPairs) → P lags → lags ≡ None
+only-none P unknown None is = refl
+only-none P unknown (Some known) is = absurd (unknown known is)
+
+-- lags of which none is known
+pub all-unknown : (count : ℕ) (kept : List (Option LeastPairs)) → kept ≡ replicate count None → AreUnknown kept
+all-unknown count kept is place low =
+    ap (λ ks. slice_index_or ks place None) is
+    ∙ get_or-replicate count place None None (omega (arith, low, ap length is, length-replicate count none))
+  where
+    none : Option LeastPairs
+    none = None
 
 -- where no lags are known, those that are kept are any list's
 pub none-kept : (shop : Shop) (list : List ℕ) (kept : List (Option LeastPairs)) → AreUnknown kept →

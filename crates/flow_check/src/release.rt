@@ -14,21 +14,6 @@ ghost use Rattle.flow_check.specs.internal.Lags.{AreTwoLeastLagsTo, AreKept, Are
 use crate::node::{ListNode, bound};
 use crate::trees_text::TreesText;
 use flow_shop::{LeastPairs, has_releases};
-use std::alloc::{AllocError, Global};
-
-/// So many places for lags, none of them known.
-pub(crate) fn unknown_lags(
-    alloc: Global,
-    count: u16,
-) -> Result<Vec<Option<LeastPairs>>, AllocError>
-    ensures { IfOk result (λ lags. AreUnknown lags.items) }
-{
-    let mut lags = Vec::with_capacity(alloc, count as usize)?;
-    'lags: while lags.len() < count as usize {
-        lags.push(None)?;
-    }
-    Ok(lags)
-}
 
 /// Forgets all lags that are known. Most places are not known, and those are not written.
 pub(crate) fn forget(lags: &mut [Option<LeastPairs>])
