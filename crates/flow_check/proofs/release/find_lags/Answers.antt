@@ -2,8 +2,9 @@ use Rattle.std.proofs.Common.{ℕ, ◌+◌, ◌≤◌, List, [], ◌∷◌, ◌+
 use Rattle.std.proofs.Common.{sym, ◌∙◌, subst, arith}
 use Rattle.flow_shop.specs.Limits.{most_machines}
 use Rattle.flow_shop.specs.TwoLeast.{AreTwoLeast, time_to}
-use Rattle.flow_check.specs.internal.Links.{IsNext, children}
-use Rattle.flow_check.proofs.Links.{children-none, children-next, next-some, next-place, start-place}
+use Rattle.flow_check.specs.internal.Links.{IsNext}
+use Rattle.flow_shop.proofs.Taken.{left_from}
+use Rattle.flow_check.proofs.Links.{left-none, left-next, next-some, next-place, start-place}
 use Rattle.flow_check.proofs.release.find_lags.Goals as goal
 
 pub jobs-init : goal.jobs-init
@@ -29,7 +30,7 @@ returns-then-job-eq0 c list are =
     let n : ℕ = c.args.text.now.shop.now.jobs in
     let next : IsNext n list c.jobs.last (slice_index c.args.links.now c.jobs.last) =
     are.each c.jobs.last (c.jobs.invariant.place list are) in
-    let none = children-none n list c.jobs.last (slice_index c.args.links.now c.jobs.last) next c.if-job-eq0.true in
+    let none = left-none n list c.jobs.last (slice_index c.args.links.now c.jobs.last) next c.if-job-eq0.true in
     let taken = c.jobs.invariant.taken list are in
     let all = sym (append-nil taken.0) ∙ ap (λ js. taken.0 ++ js) (sym none) ∙ taken.1 in
     subst (λ jobs. AreTwoLeast (time_to c.args.text.now.shop.now c.args.machine) c.args.machine jobs c.jobs.lags) all
@@ -63,8 +64,8 @@ jobs-preserved c =
           let taken = c.jobs.invariant.taken list are in
           let row = c.args.text.now.are_rows.each job _ some.1 some.2 in (
             taken.0 ++ job ∷ [],
-            append_assoc taken.0 (job ∷ []) (children n list (job + 1))
-                ∙ ap (λ js. taken.0 ++ js) (sym (children-next n list c.jobs.last job next c.if-job-eq0.false))
+            append_assoc taken.0 (job ∷ []) (left_from n list (job + 1))
+                ∙ ap (λ js. taken.0 ++ js) (sym (left-next n list c.jobs.last job next c.if-job-eq0.false))
                 ∙ taken.1,
             c.take.ensures (time_to shop c.args.machine) taken.0 job
                 (λ place low. c.lags_to-to_machine.ensures shop job row c.requires.machine.1 place low) taken.2,
