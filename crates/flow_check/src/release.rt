@@ -27,7 +27,8 @@ pub(crate) fn forget(lags: &mut [Option<LeastPairs>])
     }
 }
 
-/// Finds the two least lags of the jobs left to a machine, from each machine up to it.
+/// Finds the two least lags of the jobs left to a machine, from each machine up to it. A job's lag from a machine to
+/// another is its time on the machines from there to the one before the other.
 fn find_lags(text: &TreesText, links: &[u16], machine: u16) -> LeastPairs
     requires links { (list : List ℕ) × AreLinks text.now.shop.now.jobs list links.now }
     requires machine { IsMachine text.now.shop.now machine }

@@ -1,11 +1,10 @@
 -- Where a reader of trees stands, and what the text that it reads gives.
-use Rattle.std.specs.Prelude.{ℕ, zero, suc, ◌≡◌, ◌+◌, ◌-◌, ◌≤◌, ◌<◌, false, List, [], ◌∷◌, ◌++◌, length}
-use Rattle.std.specs.Prelude.{drop, slice_index, slice_index_or, slice_set, Result, Ok}
-use Rattle.std.specs.List.{flat_map}
+use Rattle.std.specs.Prelude.{ℕ, zero, suc, ◌≡◌, ◌+◌, ◌<◌, false, List, [], ◌∷◌, ◌++◌, length}
+use Rattle.std.specs.Prelude.{slice_index, slice_index_or, slice_set, Result}
 use Rattle.flow_shop.specs.Shop.{Shop}
 use Rattle.flow_shop.specs.Bound.{bound_of}
-use Rattle.flow_shop.specs.Sequences.{has, jobs_left, extensions}
-use Rattle.flow_check.specs.internal.ReadTrees.{read_tree, each_tree, then_read}
+use Rattle.flow_shop.specs.Sequences.{has, jobs_left}
+use Rattle.flow_check.specs.internal.ReadTrees.{read_tree, each_tree}
 use Rattle.flow_check.specs.internal.Lags.{AreKept, AreUnknown}
 use Rattle.flow_check.specs.internal.Nodes.{IsListNode, IsAt}
 use Rattle.flow_check.specs.declared.fault.CheckFault.{CheckFault}

@@ -69,8 +69,7 @@ overflow_add-free-in-loop-from c =
 pub lag-requires-clause-row : goal.lag-requires-clause-row
 lag-requires-clause-row c =
     let shop = c.args.text.now.shop.now in
-    let job = c.requires.at.4 in
-    (
+    let job = c.requires.at.4 in (
       shop,
       c.args.job,
       c.args.text.now.are_rows.limits,
