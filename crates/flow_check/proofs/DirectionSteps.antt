@@ -16,6 +16,7 @@ use Rattle.flow_nodes.specs.Groups.{child_bound}
 use Rattle.flow_check.specs.declared.fault.CheckFault.TheVariants.{Low, Tree}
 use Rattle.flow_check.specs.internal.ReadTrees.{then_read, each_tree}
 use Rattle.flow_check.specs.internal.ReadDirections.{Reading, first_end, read_at, read_node}
+use Rattle.flow_check.proofs.Links.{left-take}
 
 -- the jobs left from one on
 
@@ -24,12 +25,6 @@ pub left-skip : (n : ℕ) (list : List ℕ) (job : ℕ) → job ≤ n → has li
 left-skip n list job high there =
     ap (filter (λ k. not (has list k))) (numbers-first job n high)
     ∙ ap (λ b. cond (not b) (job ∷ left_from n list (job + 1)) (left_from n list (job + 1))) there
-
-pub left-take : (n : ℕ) (list : List ℕ) (job : ℕ) → job ≤ n → has list job ≡ false →
-    left_from n list job ≡ job ∷ left_from n list (job + 1)
-left-take n list job high fresh =
-    ap (filter (λ k. not (has list k))) (numbers-first job n high)
-    ∙ ap (λ b. cond (not b) (job ∷ left_from n list (job + 1)) (left_from n list (job + 1))) fresh
 
 pub left-past : (n : ℕ) (list : List ℕ) (job : ℕ) → n < job → left_from n list job ≡ []
 left-past n list job past =

@@ -22,6 +22,7 @@ pub mod CertificateLines
 pub mod HeadingLines
 pub mod Exits
 pub mod Readers
+pub mod Stacks
 pub mod TreeReading
 pub mod ReaderSteps
 pub mod LineSteps

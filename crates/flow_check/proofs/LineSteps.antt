@@ -6,24 +6,25 @@ use Rattle.flow_shop.specs.Shop.{Shop}
 use Rattle.flow_shop.specs.Bound.{bound_of}
 use Rattle.flow_shop.specs.Sequences.{extensions}
 use Rattle.flow_check.specs.internal.ReadTrees.{read_tree, after_tree, trees_value}
-use Rattle.flow_check.specs.internal.Links.{children, IsNext}
-use Rattle.flow_check.specs.internal.Reader.{awaited}
+use Rattle.flow_check.specs.internal.Links.{IsNext}
+use Rattle.flow_shop.proofs.Taken.{left_from}
+use Rattle.flow_check.proofs.Stacks.{awaited}
 use Rattle.flow_check.specs.internal.PartsGive.{TreeGives, LineEnds, LinesGive}
 use Rattle.flow_check.specs.declared.fault.CheckFault.{CheckFault}
 use Rattle.flow_check.specs.declared.fault.CheckFault.TheVariants.{Memory, Header, Size, Value, Sequence, NotAttained}
 use Rattle.flow_check.specs.declared.fault.CheckFault.TheVariants.{Tree, Weak, Low, End}
 use Rattle.flow_check.specs.declared.reader.Spot.{Spot}
-use Rattle.flow_check.proofs.Links.{children-next, children-none}
+use Rattle.flow_check.proofs.Links.{left-next, left-none}
 
 pub awaited-start : (n more : ℕ) (list : List ℕ) → more ≢ 0 → extensions n more list ≡ awaited n more list 1
 awaited-start n zero list some = absurd (some refl)
 awaited-start n (suc more) list some = let e : more ≡ suc more - 1 = omega arith in
-    ap (λ m. flat_map (λ j. extensions n m (list ++ j ∷ [])) (children n list 1)) e
+    ap (λ m. flat_map (λ j. extensions n m (list ++ j ∷ [])) (left_from n list 1)) e
 
 pub awaited-none : (n more : ℕ) (list : List ℕ) (last job : ℕ) → IsNext n list last job → job ≡ 0 →
     awaited n more list (last + 1) ≡ []
 awaited-none n more list last job is none =
-    ap (flat_map (λ j. extensions n (more - 1) (list ++ j ∷ []))) (children-none n list last job is none)
+    ap (flat_map (λ j. extensions n (more - 1) (list ++ j ∷ []))) (left-none n list last job is none)
 
 pub awaited-next : (n more : ℕ) (list : List ℕ) (last job : ℕ) (rest : List (List ℕ)) → IsNext n list last job →
     job ≢ 0 →
@@ -31,7 +32,7 @@ pub awaited-next : (n more : ℕ) (list : List ℕ) (last job : ℕ) (rest : Lis
     ++ (awaited n more list (job + 1) ++ rest)
 awaited-next n more list last job rest is some =
     ap (λ js. flat_map (λ j. extensions n (more - 1) (list ++ j ∷ [])) js
-    ++ rest) (children-next n list last job is some)
+    ++ rest) (left-next n list last job is some)
     ∙ append_assoc (extensions n (more - 1) (list ++ job ∷ [])) (awaited n more list (job + 1)) rest
 
 -- the trees of the next child come first

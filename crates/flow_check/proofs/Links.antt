@@ -7,10 +7,11 @@ use Rattle.std.proofs.lemmas.List.{get_or_append_left, get_or_at}
 use Rattle.std.proofs.lemmas.Bool.Decides.{eqb_tells}
 use Rattle.std.proofs.lemmas.Bool.{cases_lt, false≢true}
 use Rattle.flow_shop.specs.Sequences.{has}
-use Rattle.flow_shop.proofs.Taken.{has-other, has-same, has-more}
-use Rattle.flow_check.specs.internal.Links.{children, IsNext, IsPlace, AreLinks}
+use Rattle.flow_shop.proofs.Ranges.{numbers-first}
+use Rattle.flow_shop.proofs.Taken.{has-other, has-same, has-more, left_from}
+use Rattle.flow_check.specs.internal.Links.{IsNext, IsPlace, AreLinks}
 
--- the children from one on
+-- the jobs left from one on
 
 skip : (p : ℕ → Bool) (a e d : ℕ) → ((k : ℕ) → a ≤ k → k < a + e → p k ≡ false) →
     filter p (range_with_len a (e + d)) ≡ filter p (range_with_len (a + e) d)
@@ -25,30 +26,25 @@ skip p a (suc e) d h =
     ∙ skip p (a + 1) e d (λ k low high. h k (omega arith) (omega arith))
     ∙ ap (λ k. filter p (range_with_len k d)) m
 
-pub children-none : (n : ℕ) (list : List ℕ) (last job : ℕ) → IsNext n list last job → job ≡ 0 →
-    children n list (last + 1) ≡ []
-children-none n list last (suc job) is e = absurd (omega (arith, e))
-children-none n list last zero is e =
+pub left-none : (n : ℕ) (list : List ℕ) (last job : ℕ) → IsNext n list last job → job ≡ 0 →
+    left_from n list (last + 1) ≡ []
+left-none n list last (suc job) is e = absurd (omega (arith, e))
+left-none n list last zero is e =
     let p : ℕ → Bool = λ k. not (has list k) in
     let len : n + 1 - (last + 1) ≡ (n - last) + 0 = omega arith in
     ap (λ m. filter p (range_with_len (last + 1) m)) len
     ∙ skip p (last + 1) (n - last) 0 (λ k low high. ap not (is k (omega arith) (omega arith)))
 
-pub children-here : (n : ℕ) (list : List ℕ) (job : ℕ) → job ≤ n → has list job ≡ false →
-    children n list job ≡ job ∷ children n list (job + 1)
-children-here n list job high fresh =
-    let p : ℕ → Bool = λ k. not (has list k) in
-    let len : n + 1 - job ≡ suc (n - job) = omega arith in
-    let rest : n - job ≡ n + 1 - (job + 1) = omega arith in
-    ap (λ m. filter p (range_with_len job m)) len
-    ∙ ap (λ b. cond b (job ∷ filter p (range_with_len (job + 1) (n - job))) (filter p (range_with_len (job
-    + 1) (n - job)))) (ap not fresh)
-    ∙ ap (λ m. job ∷ filter p (range_with_len (job + 1) m)) rest
+pub left-take : (n : ℕ) (list : List ℕ) (job : ℕ) → job ≤ n → has list job ≡ false →
+    left_from n list job ≡ job ∷ left_from n list (job + 1)
+left-take n list job high fresh =
+    ap (filter (λ k. not (has list k))) (numbers-first job n high)
+    ∙ ap (λ b. cond (not b) (job ∷ left_from n list (job + 1)) (left_from n list (job + 1))) fresh
 
-pub children-from : (n : ℕ) (list : List ℕ) (last job : ℕ) → IsNext n list last job → job ≢ 0 →
-    children n list (last + 1) ≡ children n list job
-children-from n list last zero is some = absurd (some refl)
-children-from n list last (suc job) is some =
+pub left-after : (n : ℕ) (list : List ℕ) (last job : ℕ) → IsNext n list last job → job ≢ 0 →
+    left_from n list (last + 1) ≡ left_from n list job
+left-after n list last zero is some = absurd (some refl)
+left-after n list last (suc job) is some =
     let p : ℕ → Bool = λ k. not (has list k) in
     let len : n + 1 - (last + 1) ≡ (suc job - (last + 1)) + (n + 1 - suc job) = omega (arith, is.0, is.1) in
     let start : last + 1 + (suc job - (last + 1)) ≡ suc job = omega (arith, is.0) in
@@ -62,11 +58,11 @@ pub next-some : (n : ℕ) (list : List ℕ) (last job : ℕ) → IsNext n list l
 next-some n list last zero is some = absurd (some refl)
 next-some n list last (suc job) is some = (is.0, omega arith, is.1, is.2)
 
-pub children-next : (n : ℕ) (list : List ℕ) (last job : ℕ) → IsNext n list last job → job ≢ 0 →
-    children n list (last + 1) ≡ job ∷ children n list (job + 1)
-children-next n list last job is some =
+pub left-next : (n : ℕ) (list : List ℕ) (last job : ℕ) → IsNext n list last job → job ≢ 0 →
+    left_from n list (last + 1) ≡ job ∷ left_from n list (job + 1)
+left-next n list last job is some =
     let h = next-some n list last job is some in
-    children-from n list last job is some ∙ children-here n list job h.2 h.3
+    left-after n list last job is some ∙ left-take n list job h.2 h.3
 
 -- a link's job is a place
 pub next-place : (n : ℕ) (list : List ℕ) (last job : ℕ) → IsNext n list last job → IsPlace n list job

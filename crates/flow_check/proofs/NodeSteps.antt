@@ -5,7 +5,7 @@ use Rattle.std.proofs.Common.{set, length-append, map}
 use Rattle.std.specs.List.{sum_by}
 use Rattle.std.proofs.lemmas.List.{get_or-set_same, get_or-set_other, get_or-replicate, length-set}
 use Rattle.flow_shop.specs.Limits.{most_jobs, most_machines, greatest_time}
-use Rattle.flow_shop.specs.Shop.{Shop, time, time_between, IsWithinLimits}
+use Rattle.flow_shop.specs.Shop.{Shop, AreOf, time, time_between, IsWithinLimits}
 use Rattle.flow_shop.specs.Paths.{completion}
 use Rattle.flow_shop.specs.Front.{IsFrontOf, IsWithinFront}
 use Rattle.flow_shop.specs.Sequences.{has, jobs_left}
@@ -17,10 +17,9 @@ use Rattle.flow_shop.proofs.JobsLeft.{kept-small, none-has}
 use Rattle.std.proofs.lemmas.Bool.Decides.{eqb_tells}
 use Rattle.flow_shop.specs.TwoLeast.{tails, least_below, second_below, least_of_none, IsLeastWithout}
 use Rattle.flow_check.specs.internal.Nodes.{IsListNode, AreKnown, AreTwoLeastTails}
-use Rattle.flow_check.specs.internal.Links.{children}
 use Rattle.flow_check.specs.declared.node.ListNode.{ListNode}
 use Rattle.flow_shop.specs.declared.two_least.TwoLeast.{TwoLeast}
-use Rattle.flow_shop.proofs.Taken.{left-sum, left-count, left-split, left-without, left_under}
+use Rattle.flow_shop.proofs.Taken.{left-sum, left-count, left-split, left-without, left_under, left_from}
 use Rattle.flow_shop.proofs.TwoLeastSteps.{without-one, same-without, least-below-cap}
 
 -- the sum of the times of the jobs left fits
@@ -90,8 +89,7 @@ known-more shop list node left machine two limits is from to low = record {
 
 -- the empty list
 pub root-node : (shop : Shop) (node : ListNode) → IsWithinLimits shop → IsFrontOf shop [] node.front →
-    ((machine : ℕ) → 1 ≤ machine → machine ≤ shop.machines →
-    slice_index node.work (machine - 1) ≡ sum_by (λ job. time shop job machine) (jobs_left shop.jobs [])) →
+    AreOf shop (λ machine. sum_by (λ job. time shop job machine) (jobs_left shop.jobs [])) node.work →
     length node.work ≡ most_machines → node.least ≡ replicate most_machines least_of_none →
     node.second ≡ replicate most_machines least_of_none → IsListNode shop [] node shop.jobs
 root-node shop node limits times work size least second =
@@ -151,7 +149,7 @@ pub without-left : (f : ℕ → ℕ) (n : ℕ) (list : List ℕ) (job y p q m : 
     m ≡ least_below least_of_none (map f (jobs_left n (list ++ job ∷ [])))
 without-left f n list job y p q m low high fresh is_p is_q is_y picked =
     let us : List ℕ = left_under list job in
-    let vs : List ℕ = children n list (job + 1) in
+    let vs : List ℕ = left_from n list (job + 1) in
     let whole : map f (jobs_left n list) ≡ map f us ++ f job ∷ map f vs =
     ap (map f) (left-split n list job low high fresh) ∙ map-map-append f us (job ∷ vs) in
     let rest : map f (jobs_left n (list ++ job ∷ [])) ≡ map f us ++ map f vs =

@@ -3,8 +3,10 @@ use Rattle.std.proofs.Common.{◌≡◌, ◌≢◌, ℕ, suc, ◌+◌, ◌-◌, 
 use Rattle.std.proofs.Common.{slice_set, Result, refl, ap, sym, subst, ◌∙◌, arith}
 use Rattle.flow_shop.specs.Shop.{Shop}
 use Rattle.flow_check.specs.internal.Nodes.{IsListNode, IsAt}
-use Rattle.flow_check.specs.internal.Reader.{frame_at, here, above, path, put_back, Stands, IsBack, Opened, Closed}
-use Rattle.flow_check.specs.internal.Reader.{IsReading, children_read}
+use Rattle.flow_check.specs.internal.Reader.{frame_at, here, above, Stands, IsBack, Opened, Closed}
+use Rattle.flow_check.proofs.Stacks.{path, put_back}
+use Rattle.flow_check.specs.internal.Reader.{children_read}
+use Rattle.flow_check.proofs.Stacks.{IsReading}
 use Rattle.flow_check.specs.declared.fault.CheckFault.{CheckFault}
 use Rattle.flow_check.specs.declared.reader.ListFrame.{ListFrame}
 use Rattle.flow_check.specs.declared.reader.TreeReader.{TreeReader}

@@ -1,9 +1,9 @@
 -- How a reader goes to a child and back.
 use Rattle.std.proofs.Common.{◌≡◌, ◌≢◌, ℕ, zero, suc, ◌+◌, ◌-◌, ◌<◌, ◌≤◌, List, [], ◌∷◌, ◌++◌, length, slice_index}
-use Rattle.std.proofs.Common.{slice_set, set, get_or, Option, Some, None, false, refl, ap, sym, subst, ◌∙◌, arith}
+use Rattle.std.proofs.Common.{slice_set, slice_index_or, replicate, set, get_or, Option, Some, None, false, refl, ap, sym, subst, ◌∙◌, arith}
 use Rattle.std.proofs.Common.{IfSome}
 use Rattle.std.proofs.lemmas.List.{get_or_default, get_or-set_same, get_or-set_other, length-set, set-append_left}
-use Rattle.std.proofs.lemmas.List.{set-append_right}
+use Rattle.std.proofs.lemmas.List.{set-append_right, get_or-replicate, length-replicate}
 use Rattle.flow_shop.specs.Shop.{Shop}
 use Rattle.flow_shop.specs.Sequences.{has}
 use Rattle.flow_check.specs.internal.Lags.{AreTwoLeastLagsTo, AreKept, AreUnknown}
@@ -11,7 +11,7 @@ use Rattle.flow_check.specs.internal.Links.{AreLinks, IsPlace}
 use Rattle.flow_check.specs.internal.Nodes.{IsListNode, IsAt, left_before, left_here}
 use Rattle.flow_check.specs.internal.Reader.{frame_at, here, above, Stands, IsBack, Opened, Closed}
 use Rattle.flow_check.specs.declared.node.ListNode.{ListNode}
-use Rattle.flow_check.specs.declared.release.TwoLeastLags.{TwoLeastLags}
+use Rattle.flow_shop.specs.declared.least_pairs.LeastPairs.{LeastPairs}
 use Rattle.flow_check.specs.declared.reader.ListFrame.{ListFrame}
 use Rattle.flow_check.specs.declared.reader.TreeReader.{TreeReader}
 use Rattle.flow_check.proofs.Links.{next-some, links-out, links-back}
@@ -34,11 +34,26 @@ at-same shop list node other links same left right e f g at =
     subst (λ n. IsAt shop list n links left) (sym e) (subst (λ l. IsAt shop list other l left) (sym f) (subst
     (IsAt shop list other same) (sym g) at))
 
+-- what is no known pair is none
+pub only-none : (P : Option LeastPairs → Type 0) → ((known : LeastPairs) → ¬ P (Some known)) →
+    (lags : Option LeastPairs) → P lags → lags ≡ None
+only-none P unknown None is = refl
+only-none P unknown (Some known) is = absurd (unknown known is)
+
+-- lags of which none is known
+pub all-unknown : (count : ℕ) (kept : List (Option LeastPairs)) → kept ≡ replicate count None → AreUnknown kept
+all-unknown count kept is place low =
+    ap (λ ks. slice_index_or ks place None) is
+    ∙ get_or-replicate count place None None (omega (arith, low, ap length is, length-replicate count none))
+  where
+    none : Option LeastPairs
+    none = None
+
 -- where no lags are known, those that are kept are any list's
-pub none-kept : (shop : Shop) (list : List ℕ) (kept : List (Option TwoLeastLags)) → AreUnknown kept →
+pub none-kept : (shop : Shop) (list : List ℕ) (kept : List (Option LeastPairs)) → AreUnknown kept →
     AreKept shop list kept
 none-kept shop list kept none machine from within =
-    subst (λ (o : Option TwoLeastLags). IfSome o (λ two. AreTwoLeastLagsTo shop list machine two))
+    subst (λ (o : Option LeastPairs). IfSome o (λ two. AreTwoLeastLagsTo shop list machine two))
     (sym (none (machine - 1) (omega (arith, from, within)))) tt
 
 -- the list's node may know more

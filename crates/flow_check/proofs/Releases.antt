@@ -1,76 +1,43 @@
 -- Lags of jobs, and the release of a machine.
-use Rattle.std.proofs.Common.{◌≡◌, cond, nat_eq, nat_le, Bool, true, inl, inr, ℕ, zero, suc, ◌+◌, ◌-◌, ◌*◌, ◌<◌}
-use Rattle.std.proofs.Common.{◌≤◌, List, [], ◌∷◌, ◌++◌, length, map, false, refl}
-use Rattle.std.proofs.Common.{slice_index, slice_index_or, ap, ap₂, sym, ◌∙◌, arith}
+use Rattle.std.proofs.Common.{◌≡◌, cond, nat_eq, nat_le, Bool, true, inl, inr, ℕ, suc, ◌+◌, ◌-◌, ◌*◌, ◌<◌}
+use Rattle.std.proofs.Common.{◌≤◌, List, [], ◌∷◌, ◌++◌, length, map, false}
+use Rattle.std.proofs.Common.{slice_index, ap, ap₂, sym, ◌∙◌, arith}
 use Rattle.std.proofs.lemmas.Bool.{cases_Bool, le-leb, lt-leb, leb-true, leb-false}
 use Rattle.flow_shop.specs.Limits.{most_machines, greatest_time}
-use Rattle.flow_shop.specs.Shop.{Shop, IsWithinLimits, numbers, time, time_between}
-use Rattle.flow_shop.specs.Rows.{AreRows}
-use Rattle.flow_shop.specs.declared.row.Row.{Row}
+use Rattle.flow_shop.specs.Shop.{Shop, IsWithinLimits, numbers, time_between}
 use Rattle.flow_shop.specs.Least.{greatest, least}
 use Rattle.flow_shop.specs.Sequences.{has, jobs_left}
 use Rattle.flow_shop.specs.Bound.{bound_at, released_bound_at, bound_of, front_of, release}
-use Rattle.flow_shop.specs.TwoLeast.{least_below, least_of_none, IsLeastWithout}
+use Rattle.flow_shop.specs.TwoLeast.{least_below, second_below, least_of_none, IsLeastWithout}
 use Rattle.flow_shop.proofs.Admissible.{front_of-is, front-le-release, released_bound_is_stronger}
-use Rattle.flow_shop.proofs.Fronts.{free_at, child-completion, time-small, tail-small}
+use Rattle.flow_shop.proofs.Fronts.{free_at, child-completion}
 use Rattle.flow_shop.proofs.Ranges.{greatest-same}
-use Rattle.flow_shop.proofs.Recurrence.{after, time_between-first, time_between-none}
+use Rattle.flow_shop.proofs.Recurrence.{after}
 use Rattle.flow_shop.proofs.Taken.{left-count}
+use Rattle.flow_shop.proofs.Times.{times-small}
 use Rattle.flow_shop.proofs.TwoLeastSteps.{least-below-cap}
-use Rattle.flow_check.specs.internal.Lags.{AreTwoLeastLagsTo, lags}
+use Rattle.flow_check.specs.internal.Lags.{AreTwoLeastLagsTo}
 use Rattle.flow_check.specs.internal.Nodes.{IsListNode}
 use Rattle.flow_check.specs.declared.node.ListNode.{ListNode}
-use Rattle.flow_check.specs.declared.release.TwoLeastLags.{TwoLeastLags}
+use Rattle.flow_shop.specs.declared.least_pairs.LeastPairs.{LeastPairs}
 use Rattle.flow_check.proofs.NodeSteps.{without-left}
 
--- the times up to a machine, and those from there on
-between-split : (shop : Shop) (job d a k m : ℕ) → k ≡ a + d → k ≤ suc m → 1 ≤ a →
-    time_between shop job a (k - 1) + time_between shop job k m ≡ time_between shop job a m
-between-split shop job zero a k m e within some =
-    let none = time_between-none shop job a (k - 1) (omega (arith, e, some)) in
-    let same : k ≡ a = omega (arith, e) in
-    omega (arith, none, ap (λ i. time_between shop job i m) same)
-between-split shop job (suc d) a k m e within some =
-    omega (
-      arith,
-      time_between-first shop job a (k - 1) (omega (arith, e)),
-      time_between-first shop job a m (omega (arith, e, within)),
-      between-split shop job d (a + 1) k m (omega (arith, e)) within (omega arith),
+-- the lags of some jobs from a machine to another
+abbrev pub lags : Shop → ℕ → ℕ → List ℕ → List ℕ
+lags shop from machine jobs = map (λ job. time_between shop job from (machine - 1)) jobs
+
+-- the two least lags from one of the machines
+pub lags-from : (shop : Shop) (list : List ℕ) (from machine : ℕ) (two : LeastPairs) →
+    AreTwoLeastLagsTo shop list machine two → 1 ≤ from → from ≤ machine →
+    (slice_index two.least (from - 1) ≡ least_below least_of_none (lags shop from machine (jobs_left shop.jobs list)))
+    × (slice_index two.second (from - 1)
+    ≡ second_below least_of_none least_of_none (lags shop from machine (jobs_left shop.jobs list)))
+lags-from shop list from machine two are low up =
+    let next : from - 1 + 1 ≡ from = omega (arith, low) in
+    let here = are (from - 1) (omega (arith, low, up)) in (
+      here.0 ∙ ap (λ k. least_below least_of_none (lags shop k machine (jobs_left shop.jobs list))) next,
+      here.1 ∙ ap (λ k. second_below least_of_none least_of_none (lags shop k machine (jobs_left shop.jobs list))) next,
     )
-
--- a job's lag, from its times and tails
-pub lag-is : (shop : Shop) (job from machine t u x y : ℕ) → IsWithinLimits shop → 1 ≤ from → from ≤ machine →
-    machine ≤ shop.machines → t ≡ time shop job from → u ≡ time_between shop job (from + 1) shop.machines →
-    x ≡ time shop job machine → y ≡ time_between shop job (machine + 1) shop.machines →
-    (t + u ≡ time_between shop job from (machine - 1) + (x + y)) × (t + u ≤ most_machines * greatest_time)
-lag-is shop job from machine t u x y limits low up high is_t is_u is_x is_y =
-    let most : shop.machines ≤ most_machines = limits.machines in
-    let whole = time_between-first shop job from shop.machines (omega (arith, up, high)) in
-    let behind = time_between-first shop job machine shop.machines high in
-    let split = between-split shop job (machine - from) from machine shop.machines (omega (arith, up)) (omega
-    (arith, high)) low in
-    let tail = tail-small shop job (shop.machines - from) from limits (omega (arith, up, high)) in
-    let here = time-small shop job from limits in
-    (omega (arith, whole, behind, split, is_t, is_u, is_x, is_y), omega (arith, is_t, is_u, tail, here, most, low))
-
--- a job's lag, from its row
-pub row-lag : (shop : Shop) (rows : List Row) (job from machine : ℕ) (other : Row) → AreRows shop rows → 1 ≤ job →
-    job ≤ shop.jobs → 1 ≤ from → from ≤ machine → machine ≤ shop.machines →
-    let row : Row = slice_index_or rows (job - 1) other in
-    (slice_index row.times (from - 1) + slice_index row.tails (from - 1) ≡ time_between shop job from (machine - 1)
-    + (slice_index row.times (machine - 1) + slice_index row.tails (machine - 1)))
-    × (slice_index row.times (from - 1) + slice_index row.tails (from - 1) ≤ most_machines * greatest_time)
-row-lag shop rows job from machine other are first last low up high =
-    let here = are.each job other first last from low (omega (arith, up, high)) in
-    let there = are.each job other first last machine (omega (arith, low, up)) high in
-    lag-is shop job from machine _ _ _ _ are.limits low up high here.0 here.1 there.0 there.1
-
--- a lag is small
-pub lag-small : (shop : Shop) (job from machine : ℕ) → IsWithinLimits shop → 1 ≤ from → from ≤ machine →
-    machine ≤ shop.machines → time_between shop job from (machine - 1) ≤ most_machines * greatest_time
-lag-small shop job from machine limits low up high =
-    let is = lag-is shop job from machine _ _ _ _ limits low up high refl refl refl refl in
-    omega (arith, is.0, is.1)
 
 -- where jobs are left, the number that stands for none takes no part
 pub least-lags : (shop : Shop) (from machine : ℕ) (jobs : List ℕ) → IsWithinLimits shop → 1 ≤ from →
@@ -79,10 +46,10 @@ pub least-lags : (shop : Shop) (from machine : ℕ) (jobs : List ℕ) → IsWith
 least-lags shop from machine jobs limits low up high some =
     (least-below-cap least_of_none (most_machines * greatest_time) (λ job. time_between shop job from
     (machine - 1)) jobs some
-    (λ job. lag-small shop job from machine limits low up high) (omega arith)).0
+    (λ job. times-small shop job from (machine - 1) low (omega (arith, high)) limits) (omega arith)).0
 
 -- the release for the jobs left of a list
-pub own-release : (shop : Shop) (list : List ℕ) (node : ListNode) (left machine : ℕ) (two : TwoLeastLags) →
+pub own-release : (shop : Shop) (list : List ℕ) (node : ListNode) (left machine : ℕ) (two : LeastPairs) →
     IsWithinLimits shop →
     IsListNode shop list node (suc left) → machine ≤ shop.machines → AreTwoLeastLagsTo shop list machine two →
     greatest (map (λ from. slice_index node.front (from - 1) + slice_index two.least (from - 1)) (numbers 1 machine))
@@ -93,12 +60,12 @@ own-release shop list node left machine two limits is high are =
     machine (λ from low up.
     let within : from ≤ shop.machines = omega (arith, up, high) in
     let front = is.times from low within ∙ sym (front_of-is shop list from low within) in
-    let lag = (are from low up).0
+    let lag = (lags-from shop list from machine two are low up).0
     ∙ least-lags shop from machine (jobs_left shop.jobs list) limits low up high (omega (arith, is.some)) in
     ap₂ (λ a b. a + b) front lag)
 
 -- the greatest that is found for a list is the release, which is at least the front
-pub own-late : (shop : Shop) (list : List ℕ) (node : ListNode) (left machine : ℕ) (two : TwoLeastLags) (late end : ℕ) →
+pub own-late : (shop : Shop) (list : List ℕ) (node : ListNode) (left machine : ℕ) (two : LeastPairs) (late end : ℕ) →
     IsWithinLimits shop → IsListNode shop list node (suc left) → 1 ≤ machine → machine ≤ shop.machines →
     AreTwoLeastLagsTo shop list machine two → late ≡ greatest (map (λ from. slice_index node.front (from - 1)
     + slice_index two.least (from - 1)) (numbers 1 end)) → end ≡ machine →
@@ -129,17 +96,18 @@ child-release shop list node left job machine is high =
     ∙ sym (front_of-is shop (list ++ job ∷ []) from low within)))
 
 -- the least lag of the jobs left of a list's child
-pub child-lag : (shop : Shop) (list : List ℕ) (node : ListNode) (left job from machine y m : ℕ) (two : TwoLeastLags) →
-    IsWithinLimits shop → IsListNode shop list node (suc (suc left)) → 1 ≤ job → job ≤ shop.jobs →
+pub child-lag : (shop : Shop) (list : List ℕ) (node : ListNode) (left job from machine y p q m : ℕ)
+    (two : LeastPairs) → IsWithinLimits shop → IsListNode shop list node (suc (suc left)) → 1 ≤ job → job ≤ shop.jobs →
     has list job ≡ false → AreTwoLeastLagsTo shop list machine two → 1 ≤ from → from ≤ machine →
-    machine ≤ shop.machines → y ≡ time_between shop job from (machine - 1) →
-    IsLeastWithout y (slice_index two.least (from - 1)) (slice_index two.second (from - 1)) m →
+    machine ≤ shop.machines → y ≡ time_between shop job from (machine - 1) → p ≡ slice_index two.least (from - 1) →
+    q ≡ slice_index two.second (from - 1) → IsLeastWithout y p q m →
     m ≡ least (lags shop from machine (jobs_left shop.jobs (list ++ job ∷ [])))
-child-lag shop list node left job from machine y m two limits is first last fresh are low up high lag picked =
-    let here = are from low up in
+child-lag shop list node left job from machine y p q m two limits is first last fresh are low up high lag is_p is_q
+    picked =
+    let here = lags-from shop list from machine two are low up in
     let count = left-count shop.jobs list job first last fresh in
-    without-left (λ j. time_between shop j from (machine - 1)) shop.jobs list job y (slice_index two.least (from - 1))
-    (slice_index two.second (from - 1)) m first last fresh here.0 here.1 lag picked
+    without-left (λ j. time_between shop j from (machine - 1)) shop.jobs list job y p q m first last fresh
+    (is_p ∙ here.0) (is_q ∙ here.1) lag picked
     ∙ least-lags shop from machine (jobs_left shop.jobs (list ++ job ∷ [])) limits low up high (omega
     (arith, is.some, count))
 

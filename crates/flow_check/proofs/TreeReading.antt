@@ -6,16 +6,18 @@ use Rattle.flow_shop.specs.Shop.{Shop}
 use Rattle.flow_shop.specs.Bound.{bound_of}
 use Rattle.flow_shop.specs.Sequences.{has, jobs_left}
 use Rattle.flow_check.specs.internal.ReadTrees.{read_tree, each_tree, then_read}
-use Rattle.flow_check.specs.internal.Links.{children, AreLinks}
+use Rattle.flow_check.specs.internal.Links.{AreLinks}
+use Rattle.flow_shop.proofs.Taken.{left_from}
 use Rattle.flow_check.specs.internal.Nodes.{IsListNode, IsAt}
-use Rattle.flow_check.specs.internal.Reader.{children_read, path, resume, IsStack, IsReading}
+use Rattle.flow_check.specs.internal.Reader.{children_read}
+use Rattle.flow_check.proofs.Stacks.{path, resume, IsStack, IsReading}
 use Rattle.flow_check.specs.internal.PartsGive.{LetterGives, TreeGives}
 use Rattle.flow_check.specs.declared.fault.CheckFault.{CheckFault}
 use Rattle.flow_check.specs.declared.fault.CheckFault.TheVariants.{Memory, Header, Size, Value, Sequence, NotAttained}
 use Rattle.flow_check.specs.declared.fault.CheckFault.TheVariants.{Tree, Weak, Low, End}
 use Rattle.flow_check.specs.declared.node.ListNode.{ListNode}
 use Rattle.flow_check.specs.declared.reader.ListFrame.{ListFrame}
-use Rattle.flow_check.proofs.Links.{children-next, children-none, next-some, next-place, start-place, links-out}
+use Rattle.flow_check.proofs.Links.{left-next, left-none, next-some, next-place, start-place, links-out}
 use Rattle.flow_check.proofs.Links.{links-back}
 
 then-assoc : (r : Result (List ℕ) CheckFault) (f g : List ℕ → Result (List ℕ) CheckFault) →
@@ -102,7 +104,7 @@ child-read : {shop : Shop} {version value place : ℕ} {root : List ℕ} {whole 
     whole ≡ then_read (then_read (read_tree shop (bound_of version) value place child_left
     (path root frames ++ slice_index links last
     ∷ []) bs) (each_tree (λ j. read_tree shop (bound_of version) value place child_left (path root frames ++ j
-    ∷ [])) (children shop.jobs (path root frames) (slice_index links last
+    ∷ [])) (left_from shop.jobs (path root frames) (slice_index links last
     + 1)))) (resume shop version value place root (suc child_left) frames)
 child-read {shop} {version} {value} {place} {root} {whole} {node} {links} {child_left} {last} {at} {bytes} {frames} bs
     i some
@@ -111,10 +113,10 @@ child-read {shop} {version} {value} {place} {root} {whole} {node} {links} {child
     λ j. read_tree shop (bound_of version) value place child_left (path root frames ++ j ∷ []) in
     let k : List ℕ → Result (List ℕ) CheckFault = resume shop version value place root (suc child_left) frames in
     i.answer
-    ∙ ap (λ js. then_read (each_tree read js (drop at bytes)) k) (children-next shop.jobs (path root frames) last
+    ∙ ap (λ js. then_read (each_tree read js (drop at bytes)) k) (left-next shop.jobs (path root frames) last
     (slice_index links last) (i.here.are_links.each last i.after_last) some)
     ∙ ap (λ b. then_read (each_tree read (slice_index links last
-    ∷ children shop.jobs (path root frames) (slice_index links last + 1)) b) k) dropped
+    ∷ left_from shop.jobs (path root frames) (slice_index links last + 1)) b) k) dropped
 
 pub reading-fault : {shop : Shop} {version value place : ℕ} {root : List ℕ} {whole : Result
     (List ℕ) CheckFault} {node : ListNode} {links : List ℕ} {child_left last at : ℕ} {bytes : List ℕ}
@@ -132,7 +134,7 @@ reading-fault {shop} {version} {value} {place} {root} {whole} {node} {links} {ch
     child-read bs i some dropped
     ∙ ap (λ r. then_read (then_read r (each_tree (λ j. read_tree shop (bound_of version) value place child_left
     (path root frames ++ j
-    ∷ [])) (children shop.jobs (path root frames) (slice_index links last
+    ∷ [])) (left_from shop.jobs (path root frames) (slice_index links last
     + 1)))) (resume shop version value place root (suc child_left) frames)) bad
 
 pub reading-leaf : {shop : Shop} {version value place : ℕ} {root : List ℕ} {whole : Result
@@ -156,7 +158,7 @@ reading-leaf {shop} {version} {value} {place} {root} {whole} {node} {links} {chi
           child-read (drop at bytes) i some refl
           ∙ ap (λ r. then_read (then_read r (each_tree (λ j. read_tree shop (bound_of version) value place child_left
           (path root frames
-          ++ j ∷ [])) (children shop.jobs (path root frames) (slice_index links last
+          ++ j ∷ [])) (left_from shop.jobs (path root frames) (slice_index links last
           + 1)))) (resume shop version value place root (suc child_left) frames)) good;
     }
 
@@ -180,7 +182,7 @@ reading-dive {shop} {version} {value} {place} {root} {whole} {node} {links} {chi
     (slice_index links job) i.here.are_links i.after_last refl some refl in
     let back : slice_set less last job ≡ links = ap (λ l. slice_set l last job) out
     ∙ links-back links last job (slice_index links job) refl in
-    let js : List ℕ = children shop.jobs (path root frames) (job + 1) in
+    let js : List ℕ = left_from shop.jobs (path root frames) (job + 1) in
     let goal : IsReading shop version value place root whole child less lower 0 (at
     + 1) bytes (record { node = node; job = job; last = last } ∷ frames) = record {
       here = record {
@@ -231,7 +233,7 @@ reading-none {shop} {version} {value} {place} {root} {whole} {node} {links} {chi
     i.answer
     ∙ ap (λ js. then_read (each_tree (λ j. read_tree shop (bound_of version) value place child_left
     (path root frames ++ j
-    ∷ [])) js (drop at bytes)) (resume shop version value place root (suc child_left) frames)) (children-none shop.jobs
+    ∷ [])) js (drop at bytes)) (resume shop version value place root (suc child_left) frames)) (left-none shop.jobs
     (path root frames) last (slice_index links last) (i.here.are_links.each last i.after_last) none)
 
 pub reading-done : {shop : Shop} {version value place : ℕ} {root : List ℕ} {whole : Result

@@ -6,9 +6,9 @@ ghost use Rattle.flow_check.specs.internal.Reader.{Stands, Opened, Closed, frame
 ghost use Rattle.flow_shop.specs.Limits.{most_jobs};
 
 use crate::node::ListNode;
-use crate::release::{TwoLeastLags, forget, unknown_lags};
+use crate::release::forget;
 use crate::trees_text::TreesText;
-use flow_shop::{Instance, has_releases};
+use flow_shop::{Instance, LeastPairs, has_releases};
 use std::alloc::{AllocError, Global};
 
 /// A place in the text of the trees.
@@ -21,7 +21,7 @@ pub(crate) struct Spot {
 }
 
 /// A list of jobs, and which of its children is being read.
-#[derive(Drop)]
+#[derive(Clone, Copy)]
 pub(crate) struct ListFrame {
     /// What is kept of the list.
     pub(crate) node: ListNode,
@@ -42,7 +42,7 @@ pub(crate) struct TreeReader {
     pub(crate) frames: Vec<ListFrame>,
     /// In version 2 the two least lags of the list's jobs left to each machine, where they are found; in version 1
     /// there are none.
-    pub(crate) lags: Vec<Option<TwoLeastLags>>,
+    pub(crate) lags: Vec<Option<LeastPairs>>,
     /// How many jobs are left at each child of the list: the place of the list's frame.
     pub(crate) child_left: usize,
 }
@@ -61,23 +61,6 @@ fn all_links(alloc: Global, jobs: u16) -> Result<Vec<u16>, AllocError>
     Ok(links)
 }
 
-/// A frame for each job, all with the same node.
-fn all_frames(alloc: Global, jobs: u16, node: &ListNode) -> Result<Vec<ListFrame>, AllocError>
-    ensures size { IfOk result (λ frames. length frames.items ≡ jobs) }
-    ensures each { IfOk result (λ frames. (place : ℕ) → place < jobs →
-        (frame_at frames.items place).node ≡ node.now) }
-{
-    let mut frames = Vec::with_capacity(alloc, jobs as usize)?;
-    'frames: while frames.len() < jobs as usize {
-        frames.push(ListFrame {
-            node: *node,
-            job: 0,
-            last: 0,
-        })?;
-    }
-    Ok(frames)
-}
-
 impl TreeReader {
     /// A reader of a version that stands at the empty list.
     pub(crate) fn new(
@@ -89,13 +72,18 @@ impl TreeReader {
     {
         let jobs = instance.jobs();
         let links = all_links(alloc, jobs)?;
-        let frames = all_frames(alloc, jobs, &ListNode::root(instance))?;
+        let root = ListFrame {
+            node: ListNode::root(instance),
+            job: 0,
+            last: 0,
+        };
+        let frames = vec![in alloc; root; jobs as usize]?;
         let places = if has_releases(version) {
             instance.machines()
         } else {
             0
         };
-        let lags = unknown_lags(alloc, places)?;
+        let lags = vec![in alloc; None; places as usize]?;
         Ok(TreeReader {
             links,
             frames,

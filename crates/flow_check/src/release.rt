@@ -9,41 +9,14 @@ ghost use Rattle.flow_shop.specs.Bound.{bound_at, bound_of, front_of, release};
 ghost use Rattle.flow_check.specs.internal.Links.{AreLinks};
 ghost use Rattle.flow_nodes.specs.Nodes.{IsMachine, IsJob};
 ghost use Rattle.flow_check.specs.internal.Nodes.{IsListNode, IsAt, IsChild, grown, left_before};
-ghost use Rattle.flow_check.specs.internal.Lags.{AreTwoLeastLagsTo, AreKept, AreUnknown, TakesIn};
+ghost use Rattle.flow_check.specs.internal.Lags.{AreTwoLeastLagsTo, AreKept, AreUnknown};
 
 use crate::node::{ListNode, bound};
 use crate::trees_text::TreesText;
-use flow_limits::MAX_MACHINES;
-use flow_shop::{TwoLeast, has_releases};
-use std::alloc::{AllocError, Global};
-
-/// The two least lags of the jobs left to one machine, from each machine up to it. A job's lag from a machine to
-/// another is its time on the machines from there to the one before the other. Where two jobs have the least lag, both
-/// are the same. The greatest number stands for a lag where there is no such job.
-#[derive(Clone, Copy)]
-pub(crate) struct TwoLeastLags {
-    /// The least, from machine 1 on.
-    least: [u32; MAX_MACHINES],
-    /// The second least. The child that takes the job with the least lag needs it.
-    second: [u32; MAX_MACHINES],
-}
-
-/// So many places for lags, none of them known.
-pub(crate) fn unknown_lags(
-    alloc: Global,
-    count: u16,
-) -> Result<Vec<Option<TwoLeastLags>>, AllocError>
-    ensures { IfOk result (λ lags. AreUnknown lags.items) }
-{
-    let mut lags = Vec::with_capacity(alloc, count as usize)?;
-    'lags: while lags.len() < count as usize {
-        lags.push(None)?;
-    }
-    Ok(lags)
-}
+use flow_shop::{LeastPairs, has_releases};
 
 /// Forgets all lags that are known. Most places are not known, and those are not written.
-pub(crate) fn forget(lags: &mut [Option<TwoLeastLags>])
+pub(crate) fn forget(lags: &mut [Option<LeastPairs>])
     ensures size { length lags.new ≡ length lags.old }
     ensures none { AreUnknown lags.new }
 {
@@ -54,58 +27,23 @@ pub(crate) fn forget(lags: &mut [Option<TwoLeastLags>])
     }
 }
 
-/// A job's lag from a machine to another.
-fn lag(text: &TreesText, job: u16, from: u16, machine: u16) -> u32
-    requires job { IsJob text.now.shop.now job }
-    requires from { 1 ≤ from }
-    requires up { from ≤ machine }
-    requires to { machine ≤ text.now.shop.now.machines }
-    ensures { result ≡ time_between text.now.shop.now job from (machine - 1) }
-{
-    let row = &text.rows[job as usize - 1];
-    let first = from as usize - 1;
-    let last = machine as usize - 1;
-    row.times[first] + row.tails[first] - (row.times[last] + row.tails[last])
-}
-
-impl TwoLeastLags {
-    /// Takes in the lags of one more job.
-    fn take_in(&mut self, text: &TreesText, job: u16, machine: u16)
-        requires job { IsJob text.now.shop.now job }
-        requires to { machine ≤ text.now.shop.now.machines }
-        ensures { TakesIn text.now.shop.now job machine self.old self.new }
-    {
-        for from in 1..machine + 1 {
-            let place = from as usize - 1;
-            let two = TwoLeast {
-                least: self.least[place],
-                second: self.second[place],
-            };
-            let more = two.with(lag(text, job, from, machine));
-            self.least[place] = more.least;
-            self.second[place] = more.second;
-        }
-    }
-}
-
-/// Finds the two least lags of the jobs left to a machine.
-fn find_lags(text: &TreesText, links: &[u16], machine: u16) -> TwoLeastLags
+/// Finds the two least lags of the jobs left to a machine, from each machine up to it. A job's lag from a machine to
+/// another is its time on the machines from there to the one before the other.
+fn find_lags(text: &TreesText, links: &[u16], machine: u16) -> LeastPairs
     requires links { (list : List ℕ) × AreLinks text.now.shop.now.jobs list links.now }
-    requires to { machine ≤ text.now.shop.now.machines }
+    requires machine { IsMachine text.now.shop.now machine }
     ensures { (list : List ℕ) → AreLinks text.now.shop.now.jobs list links.now →
         AreTwoLeastLagsTo text.now.shop.now list machine result }
 {
-    let mut lags = TwoLeastLags {
-        least: [u32::MAX; MAX_MACHINES],
-        second: [u32::MAX; MAX_MACHINES],
-    };
+    let mut lags = LeastPairs::none();
     let mut last = 0;
     'jobs: loop {
         let job = links[last as usize];
         if job == 0 {
             return lags;
         }
-        lags.take_in(text, job, machine);
+        let to_machine = text.rows[job as usize - 1].lags_to(machine);
+        lags.take(&to_machine, machine as usize);
         last = job;
     }
 }
@@ -114,10 +52,10 @@ fn find_lags(text: &TreesText, links: &[u16], machine: u16) -> TwoLeastLags
 /// there is a place for them.
 fn lags_of(
     text: &TreesText,
-    kept: &mut [Option<TwoLeastLags>],
+    kept: &mut [Option<LeastPairs>],
     links: &[u16],
     machine: u16,
-) -> TwoLeastLags
+) -> LeastPairs
     requires at { (list : List ℕ) × AreLinks text.now.shop.now.jobs list links.now
         × AreKept text.now.shop.now list kept.old }
     requires machine { IsMachine text.now.shop.now machine }
@@ -140,7 +78,7 @@ fn lags_of(
 }
 
 /// How much later than its front a machine is released for the jobs left of a list.
-fn own_gain(text: &TreesText, node: &ListNode, lags: &TwoLeastLags, machine: u16) -> u64
+fn own_gain(text: &TreesText, node: &ListNode, lags: &LeastPairs, machine: u16) -> u64
     requires at { (list : List ℕ) × (left : ℕ) × IsListNode text.now.shop.now list node.now (suc left)
         × AreTwoLeastLagsTo text.now.shop.now list machine lags.now }
     requires machine { IsMachine text.now.shop.now machine }
@@ -160,7 +98,7 @@ fn own_gain(text: &TreesText, node: &ListNode, lags: &TwoLeastLags, machine: u16
 
 /// How much later than its front a machine is released for the jobs left of a list's child that has this job at its
 /// end.
-fn child_gain(text: &TreesText, node: &ListNode, lags: &TwoLeastLags, job: u16, machine: u16) -> u64
+fn child_gain(text: &TreesText, node: &ListNode, lags: &LeastPairs, job: u16, machine: u16) -> u64
     requires at { (list : List ℕ) × (left : ℕ) × IsListNode text.now.shop.now list node.now (suc (suc left))
         × AreTwoLeastLagsTo text.now.shop.now list machine lags.now
         × IsChild text.now.shop.now.jobs list (Some job) }
@@ -178,12 +116,8 @@ fn child_gain(text: &TreesText, node: &ListNode, lags: &TwoLeastLags, job: u16, 
     for from in 1..machine + 1 {
         let place = from as usize - 1;
         free = node.front[place].max(free) + u64::from(row.times[place]);
-        let own = lag(text, job, from, machine);
-        let two = TwoLeast {
-            least: lags.least[place],
-            second: lags.second[place],
-        };
-        release = release.max(free + u64::from(two.without(own)));
+        let behind = lags.at(place).without(row.lag(from, machine));
+        release = release.max(free + u64::from(behind));
     }
     release - free
 }
@@ -192,7 +126,7 @@ fn child_gain(text: &TreesText, node: &ListNode, lags: &TwoLeastLags, job: u16, 
 fn gain(
     text: &TreesText,
     node: &ListNode,
-    kept: &mut [Option<TwoLeastLags>],
+    kept: &mut [Option<LeastPairs>],
     links: &[u16],
     child: Option<u16>,
     machine: u16,
@@ -227,7 +161,7 @@ fn gain(
 pub(crate) fn reaches(
     text: &TreesText,
     node: &mut ListNode,
-    kept: &mut [Option<TwoLeastLags>],
+    kept: &mut [Option<LeastPairs>],
     links: &[u16],
     child: Option<u16>,
     machine: u16,

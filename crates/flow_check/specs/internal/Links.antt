@@ -1,11 +1,6 @@
 -- The jobs left, linked: from 0 and from each job left a link leads to the next job left.
-use Rattle.std.specs.Prelude.{ℕ, zero, suc, ◌≡◌, ◌+◌, ◌≤◌, ◌<◌, true, false, not, List, length, filter, slice_index}
-use Rattle.flow_shop.specs.Shop.{numbers}
+use Rattle.std.specs.Prelude.{ℕ, zero, suc, ◌≡◌, ◌+◌, ◌≤◌, ◌<◌, true, false, List, length, slice_index}
 use Rattle.flow_shop.specs.Sequences.{has}
-
--- the jobs from one on that a list does not have
-abbrev pub children : ℕ → List ℕ → ℕ → List ℕ
-children n list from = filter (λ job. not (has list job)) (numbers from n)
 
 -- the next job after one that a list does not have; 0 where there is none
 abbrev pub IsNext : ℕ → List ℕ → ℕ → ℕ → Type 0

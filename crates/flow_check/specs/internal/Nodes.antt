@@ -3,7 +3,7 @@ use Rattle.std.specs.Prelude.{ℕ, suc, ◌≡◌, ◌+◌, ◌-◌, ◌≤◌, 
 use Rattle.std.specs.Prelude.{slice_index}
 use Rattle.std.specs.Prelude.{Option, Some, None}
 use Rattle.flow_shop.specs.Limits.{most_machines}
-use Rattle.flow_shop.specs.Shop.{Shop, time}
+use Rattle.flow_shop.specs.Shop.{Shop, AreOf, time}
 use Rattle.flow_shop.specs.Front.{IsFrontOf}
 use Rattle.flow_shop.specs.Sequences.{has, jobs_left}
 use Rattle.flow_shop.specs.TwoLeast.{tails, least_below, second_below, least_of_none}
@@ -29,8 +29,7 @@ pub record AreKnown (shop : Shop) (list least second : List ℕ) : Type 0 where
 -- what is kept of a list with so many jobs left: its front, and the time of the jobs left on each machine
 pub record IsListNode (shop : Shop) (list : List ℕ) (node : ListNode) (left : ℕ) : Type 0 where
   pub times : IsFrontOf shop list node.front
-  pub work : (machine : ℕ) → 1 ≤ machine → machine ≤ shop.machines →
-      slice_index node.work (machine - 1) ≡ sum_by (λ job. time shop job machine) (jobs_left shop.jobs list)
+  pub work : AreOf shop (λ machine. sum_by (λ job. time shop job machine) (jobs_left shop.jobs list)) node.work
   pub size : length node.work ≡ most_machines
   pub known : AreKnown shop list node.least node.second
   pub count : length list + left ≡ shop.jobs

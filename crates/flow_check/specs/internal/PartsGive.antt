@@ -4,9 +4,10 @@ use Rattle.std.specs.Prelude.{drop, Result, Ok, Err}
 use Rattle.flow_shop.specs.Shop.{Shop}
 use Rattle.flow_shop.specs.Characters.{line_feed}
 use Rattle.flow_shop.specs.Bound.{bound_of, plus}
+use Rattle.flow_check.specs.CertificateFaults.{UnlessMemory}
 use Rattle.flow_check.specs.internal.ReadTrees.{read_tree, after_tree, trees_value}
 use Rattle.flow_check.specs.declared.fault.CheckFault.{CheckFault}
-use Rattle.flow_check.specs.declared.fault.CheckFault.TheVariants.{Memory, Tree}
+use Rattle.flow_check.specs.declared.fault.CheckFault.TheVariants.{Tree}
 use Rattle.flow_check.specs.declared.reader.Spot.{Spot}
 
 -- what the byte at a place says: that the trees of the children follow, or that the tree is whole, or its fault
@@ -22,18 +23,16 @@ LetterGives shop version value line left list at bytes (Err fault) =
 -- the place after what was read from a place on, or its fault
 abbrev pub TreeGives : ℕ → List ℕ → Result ℕ CheckFault → Result (List ℕ) CheckFault → Type 0
 TreeGives from bytes (Ok end) read = (read ≡ Ok (drop end bytes)) × (from ≤ end) × (end ≤ length bytes)
-TreeGives from bytes (Err Memory) read = Unit {0}
-TreeGives from bytes (Err fault) read = read ≡ Err fault
+TreeGives from bytes (Err fault) read = UnlessMemory (λ f. read ≡ Err f) fault
 
 -- what the trees of some prefixes give, whatever prefixes follow them
 abbrev pub LinesGive : Shop → ℕ → ℕ → ℕ → List (List ℕ) → ℕ → ℕ → List ℕ → Result Spot CheckFault → Type 0
 LinesGive shop version value left prefixes line from bytes (Ok spot) =
     (rest : List (List ℕ)) → trees_value shop (bound_of version) value left (prefixes ++ rest) line (drop from bytes)
     ≡ trees_value shop (bound_of version) value left rest spot.line (drop spot.at bytes)
-LinesGive shop version value left prefixes line from bytes (Err Memory) = Unit {0}
 LinesGive shop version value left prefixes line from bytes (Err fault) =
-    (rest : List (List ℕ)) → trees_value shop (bound_of version) value left (prefixes ++ rest) line (drop from bytes)
-    ≡ Err fault
+    UnlessMemory (λ f. (rest : List (List ℕ)) →
+    trees_value shop (bound_of version) value left (prefixes ++ rest) line (drop from bytes) ≡ Err f) fault
 
 -- what the byte after a tree says: that the line ends, or its fault
 abbrev pub LineEnds : Spot → List ℕ → Result Spot CheckFault → Type 0

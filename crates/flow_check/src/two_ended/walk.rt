@@ -83,23 +83,6 @@ fn open_children<V: Lanes>(
     node.mark_below(end, groups, left, limit, below);
 }
 
-/// A frame for each job, all with the same node.
-fn all_frames(alloc: Global, jobs: u16, node: Node) -> Result<Vec<NodeFrame>, AllocError>
-    ensures size { IfOk result (λ frames. length frames.items ≡ jobs) }
-    ensures each { IfOk result (λ frames. (place : ℕ) → place < jobs → (frame_at frames.items place).node ≡ node) }
-{
-    let mut frames = Vec::with_capacity(alloc, jobs as usize)?;
-    'frames: while frames.len() < jobs as usize {
-        frames.push(NodeFrame {
-            node,
-            end: End::Front,
-            below: Marks::none(),
-            job: 0,
-        })?;
-    }
-    Ok(frames)
-}
-
 impl Path {
     /// The path of a root, at which all jobs are left, with memory for so many nodes as there are jobs.
     fn new(alloc: Global, jobs: u16, node: Node) -> Result<Path, AllocError>
@@ -110,8 +93,14 @@ impl Path {
         ensures marked { IfOk result (λ path. (job : ℕ) → 1 ≤ job → job ≤ jobs → job_mark path.left job ≡ 1) }
         ensures others { IfOk result (λ path. (job : ℕ) → jobs < job → job_mark path.left job ≡ 0) }
     {
+        let root = NodeFrame {
+            node,
+            end: End::Front,
+            below: Marks::none(),
+            job: 0,
+        };
         Ok(Path {
-            frames: all_frames(alloc, jobs, node)?,
+            frames: vec![in alloc; root; jobs as usize]?,
             depth: 0,
             left: Marks::first(jobs),
         })

@@ -1,8 +1,9 @@
 use Rattle.std.proofs.Common.{◌≡◌, ℕ, ◌+◌, min, max, slice_index, ap, sym, ◌∙◌, arith}
 use Rattle.flow_shop.specs.Shop.{time_between}
 use Rattle.flow_shop.specs.TwoLeast.{tails, least_below, second_below}
-use Rattle.flow_check.specs.internal.Links.{IsNext, children}
-use Rattle.flow_check.proofs.Links.{children-none, children-next, next-place, next-some}
+use Rattle.flow_check.specs.internal.Links.{IsNext}
+use Rattle.flow_shop.proofs.Taken.{left_from}
+use Rattle.flow_check.proofs.Links.{left-none, left-next, next-place, next-some}
 use Rattle.flow_check.proofs.node.find_tails.Goals as goal
 
 pub bounds-links-last : goal.bounds-links-last
@@ -15,7 +16,7 @@ returns-then-job-eq0 c list are =
     let n : ℕ = c.args.text.now.shop.now.jobs in
     let next : IsNext n list c.jobs.last (slice_index c.args.links.now c.jobs.last) =
     are.each c.jobs.last (c.jobs.invariant.place list are) in
-    let none = children-none n list c.jobs.last (slice_index c.args.links.now c.jobs.last) next c.if-job-eq0.true in (
+    let none = left-none n list c.jobs.last (slice_index c.args.links.now c.jobs.last) next c.if-job-eq0.true in (
       sym (c.jobs.invariant.least list are
           ∙ ap (λ js. least_below c.jobs.two.least (tails c.args.text.now.shop.now c.args.machine js)) none),
       sym (c.jobs.invariant.second list are
@@ -44,17 +45,17 @@ jobs-preserved c =
           let next : IsNext n list c.jobs.last job = are.each c.jobs.last (c.jobs.invariant.place list are) in
           c.jobs.invariant.least list are
           ∙ ap (λ js. least_below c.jobs.two.least (tails c.args.text.now.shop.now c.args.machine js))
-          (children-next n list c.jobs.last job next c.if-job-eq0.false)
-          ∙ ap (λ m. least_below m (tails c.args.text.now.shop.now c.args.machine (children n list (job
+          (left-next n list c.jobs.last job next c.if-job-eq0.false)
+          ∙ ap (λ m. least_below m (tails c.args.text.now.shop.now c.args.machine (left_from n list (job
           + 1)))) (sym e);
       second = λ list are.
           let next : IsNext n list c.jobs.last job = are.each c.jobs.last (c.jobs.invariant.place list are) in
           c.jobs.invariant.second list are
           ∙ ap (λ js. second_below c.jobs.two.least c.jobs.two.second (tails c.args.text.now.shop.now c.args.machine
           js))
-          (children-next n list c.jobs.last job next c.if-job-eq0.false)
+          (left-next n list c.jobs.last job next c.if-job-eq0.false)
           ∙ ap (λ m. second_below m (min c.jobs.two.second (max c.jobs.two.least tail))
-          (tails c.args.text.now.shop.now c.args.machine (children n list (job + 1)))) (sym e)
+          (tails c.args.text.now.shop.now c.args.machine (left_from n list (job + 1)))) (sym e)
           ∙ ap (λ m. second_below c.with-two.result.least m (tails c.args.text.now.shop.now c.args.machine
-          (children n list (job + 1)))) (sym g);
+          (left_from n list (job + 1)))) (sym g);
     }

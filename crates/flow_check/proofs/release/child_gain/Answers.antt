@@ -9,9 +9,8 @@ use Rattle.flow_shop.proofs.Admissible.{front_of-is}
 use Rattle.flow_shop.proofs.Recurrence.{after}
 use Rattle.flow_shop.proofs.Fronts.{free_at, after-step, child-completion, time-small}
 use Rattle.flow_shop.proofs.Ranges.{greatest-step}
-use Rattle.flow_check.specs.internal.Lags.{lags}
 use Rattle.flow_check.proofs.NodeSteps.{node-within}
-use Rattle.flow_check.proofs.Releases.{child-lag, child-release}
+use Rattle.flow_check.proofs.Releases.{lags, child-lag, child-release}
 use Rattle.flow_check.proofs.release.child_gain.Goals as goal
 use Rattle.flow_check.proofs.release.child_gain.Goals.{After-from}
 
@@ -67,6 +66,17 @@ overflow_add-free-in-loop-from c =
     let is = here (goal.at.overflow_add-free-in-loop-from c).After-from c.loop-from-test.true in
     omega (arith, is.1, is.3, most, c.requires.machine.1, c.from-in-loop-from.ensures)
 
+pub lag-requires-clause-row : goal.lag-requires-clause-row
+lag-requires-clause-row c =
+    let shop = c.args.text.now.shop.now in
+    let job = c.requires.at.4 in (
+      shop,
+      c.args.job,
+      c.args.text.now.are_rows.limits,
+      c.args.text.now.are_rows.each c.args.job _ job.0 job.1,
+      c.requires.machine.1,
+    )
+
 pub loop-from-preserved : goal.loop-from-preserved
 loop-from-preserved c =
     let shop = c.args.text.now.shop.now in
@@ -83,9 +93,11 @@ loop-from-preserved c =
           + least (lags shop from c.args.machine jobs) in
           let most : c.max-release.result ≡ max c.loop-from.release (free + c.from-in-loop-from.result) =
           omega (arith, c.max-release.ensures) in
-          let lag = child-lag shop list c.args.node.now left c.args.job c.loop-from.from c.args.machine c.lag-own.result
-          c.without.result c.args.lags.now c.args.text.now.are_rows.limits is kid.0 kid.1 kid.2 are at.0 at.1
-          c.requires.machine.1 c.lag-own.ensures c.without.ensures in
+          let lag = child-lag shop list c.args.node.now left c.args.job c.loop-from.from c.args.machine c.lag.result
+          c.at.result.least c.at.result.second c.without-behind.result c.args.lags.now c.args.text.now.are_rows.limits
+          is kid.0 kid.1 kid.2 are at.0 at.1 c.requires.machine.1
+          (c.lag.ensures shop c.args.job (c.args.text.now.are_rows.each c.args.job _ kid.0 kid.1)
+          c.requires.machine.1) c.at.ensures.least c.at.ensures.second c.without-behind.ensures in
           let value : free + c.from-in-loop-from.result ≡ f c.loop-from.from =
           ap₂ (λ a b. a + b) at.2 (c.from-in-loop-from.ensures ∙ lag) in
           most ∙ ap₂ max (c.loop-from.invariant.release list left is are kid) value

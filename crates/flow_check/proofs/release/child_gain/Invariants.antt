@@ -5,7 +5,8 @@ use Rattle.flow_shop.specs.Least.{greatest, least}
 use Rattle.flow_shop.specs.Sequences.{jobs_left}
 use Rattle.flow_shop.proofs.Recurrence.{after}
 use Rattle.flow_shop.proofs.Fronts.{free_at}
-use Rattle.flow_check.specs.internal.Lags.{AreTwoLeastLagsTo, lags}
+use Rattle.flow_check.specs.internal.Lags.{AreTwoLeastLagsTo}
+use Rattle.flow_check.proofs.Releases.{lags}
 use Rattle.flow_check.specs.internal.Nodes.{IsListNode, IsChild}
 use Rattle.flow_check.proofs.release.child_gain.Given as goal
 

@@ -1,25 +1,18 @@
-use Rattle.std.proofs.Common.{◌≡◌, ℕ, ◌+◌, ◌-◌, ◌≤◌, List, slice_index}
+use Rattle.std.proofs.Common.{◌≡◌, ℕ, ◌+◌, ◌-◌, List, ◌++◌}
 use Rattle.flow_shop.specs.Sequences.{jobs_left}
-use Rattle.flow_shop.specs.TwoLeast.{least_below, second_below, least_of_none}
-use Rattle.flow_check.specs.internal.Lags.{lags}
-use Rattle.flow_check.specs.internal.Links.{AreLinks, IsPlace, children}
+use Rattle.flow_shop.specs.TwoLeast.{AreTwoLeast, time_to}
+use Rattle.flow_check.specs.internal.Links.{AreLinks, IsPlace}
+use Rattle.flow_shop.proofs.Taken.{left_from}
 use Rattle.flow_check.proofs.release.find_lags.Given as goal
 
+-- the lags of the jobs left up to the last one are taken in
 abbrev pub invariant-jobs : goal.invariant-jobs
 invariant-jobs l = record {
-  place : (list : List ℕ) → AreLinks l.text.shop.now.jobs list l.links →
-      IsPlace l.text.shop.now.jobs list l.last;
-  least : (list : List ℕ) → AreLinks l.text.shop.now.jobs list l.links → (from : ℕ) → 1 ≤ from →
-      from ≤ l.machine →
-      least_below least_of_none (lags l.text.shop.now from l.machine (jobs_left l.text.shop.now.jobs list))
-      ≡ least_below (slice_index l.lags.least (from - 1)) (lags l.text.shop.now from l.machine
-      (children l.text.shop.now.jobs list (l.last + 1)));
-  second : (list : List ℕ) → AreLinks l.text.shop.now.jobs list l.links → (from : ℕ) → 1 ≤ from →
-      from ≤ l.machine →
-      second_below least_of_none least_of_none (lags l.text.shop.now from l.machine (jobs_left l.text.shop.now.jobs
-      list))
-      ≡ second_below (slice_index l.lags.least (from - 1)) (slice_index l.lags.second (from - 1))
-      (lags l.text.shop.now from l.machine (children l.text.shop.now.jobs list (l.last + 1)));
+  place : (list : List ℕ) → AreLinks l.text.shop.now.jobs list l.links → IsPlace l.text.shop.now.jobs list l.last;
+  taken : (list : List ℕ) → AreLinks l.text.shop.now.jobs list l.links →
+      (jobs : List ℕ)
+      × (jobs ++ left_from l.text.shop.now.jobs list (l.last + 1) ≡ jobs_left l.text.shop.now.jobs list)
+      × AreTwoLeast (time_to l.text.shop.now l.machine) l.machine jobs l.lags;
 }
 
 abbrev pub decreases-jobs : goal.decreases-jobs

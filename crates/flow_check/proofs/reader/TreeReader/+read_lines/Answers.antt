@@ -5,7 +5,8 @@ use Rattle.flow_shop.specs.Bound.{bound_of}
 use Rattle.flow_shop.specs.Sequences.{extensions}
 use Rattle.flow_check.specs.internal.ReadTrees.{trees_value}
 use Rattle.flow_check.specs.internal.Links.{IsNext, IsPlace}
-use Rattle.flow_check.specs.internal.Reader.{Stands, IsBack, Opened, awaited}
+use Rattle.flow_check.specs.internal.Reader.{Stands, IsBack, Opened}
+use Rattle.flow_check.proofs.Stacks.{awaited}
 use Rattle.flow_check.proofs.Exits.{exit, no_value}
 use Rattle.flow_check.specs.internal.Gives.{IsSpotOf}
 use Rattle.flow_check.proofs.Links.{start-place, next-place, next-some}

@@ -3,7 +3,8 @@ use Rattle.flow_shop.specs.Bound.{bound_of}
 use Rattle.flow_shop.specs.Sequences.{extensions}
 use Rattle.flow_check.specs.internal.ReadTrees.{trees_value}
 use Rattle.flow_check.specs.internal.Links.{IsPlace}
-use Rattle.flow_check.specs.internal.Reader.{Stands, IsBack, awaited}
+use Rattle.flow_check.specs.internal.Reader.{Stands, IsBack}
+use Rattle.flow_check.proofs.Stacks.{awaited}
 use Rattle.flow_check.proofs.reader.TreeReader.+read_lines.Given as goal
 
 abbrev pub invariant-children : goal.invariant-children

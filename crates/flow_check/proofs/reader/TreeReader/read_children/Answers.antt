@@ -3,7 +3,8 @@ use Rattle.std.proofs.Common.{Bool, Some, Ok, Err, true, false, refl, sym, ap, s
 use Rattle.std.proofs.lemmas.Grind.{get_or_default_zero}
 use Rattle.flow_check.specs.internal.Lags.{AreKept}
 use Rattle.flow_check.specs.internal.Nodes.{IsAt, IsChild}
-use Rattle.flow_check.specs.internal.Reader.{children_read, put_back, path, frame_at, here, Stands, IsStack, Opened}
+use Rattle.flow_check.specs.internal.Reader.{children_read, frame_at, here, Stands, Opened}
+use Rattle.flow_check.proofs.Stacks.{put_back, path, IsStack}
 use Rattle.flow_check.specs.internal.PartsGive.{LetterGives}
 use Rattle.flow_shop.specs.Bound.{bound_of}
 use Rattle.flow_check.specs.internal.ReadTrees.{read_tree}

@@ -1,6 +1,7 @@
 use Rattle.std.proofs.Common.{◌≡◌, ℕ, ◌+◌, ◌-◌, ◌*◌, ◌<◌, ◌≤◌, List, length, drop}
 use Rattle.flow_check.specs.internal.Lags.{AreKept}
-use Rattle.flow_check.specs.internal.Reader.{Stands, children_read, put_back, frame_at, above}
+use Rattle.flow_check.specs.internal.Reader.{Stands, children_read, frame_at, above}
+use Rattle.flow_check.proofs.Stacks.{put_back}
 use Rattle.flow_check.proofs.ReaderSteps.{Reads, reached}
 use Rattle.flow_check.proofs.reader.TreeReader.read_children.Given as goal
 
