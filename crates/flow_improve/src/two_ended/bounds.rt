@@ -47,6 +47,7 @@ fn write_lanes<V: Lanes>(numbers: &mut [u32; MAX_JOBS], group: usize, lanes: V)
 }
 
 /// What the plain rule compares of the children at an end.
+#[derive(Clone, Copy)]
 struct Totals {
     /// How many of them are below a number.
     below: u32,
