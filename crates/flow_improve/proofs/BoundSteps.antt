@@ -47,7 +47,8 @@ lane-written list cap width shop entry end group names vectors lanes numbers pla
     let at : job - 1 ≡ group * 16 + lane = omega (arith, there) in
     let name : slice_index names lane ≡ job = omega (arith, are lane few, at, least, most) in
     let bound = bounds shop first last names lane node of_group within (ap (has (first ++ last)) name ∙ fresh) in
-    ap (slice_index numbers) at ∙ written lane _ few bound ∙ ap (λ j. capped cap (child_bound shop end first last j)) name
+    ap (slice_index numbers) at ∙ written lane _ few bound
+    ∙ ap (λ j. capped cap (child_bound shop end first last j)) name
 
 -- a job among those between the lists of an entry
 pub left-at : (jobs : List ℕ) (first place before : ℕ) → first ≤ place → place < before → before ≤ length jobs →

@@ -46,8 +46,10 @@ IsCappedBound shop node end job cap number =
 -- that is less
 abbrev pub HasBoundsAt : Shop → Entry → ChildBounds → ℕ → Type 0
 HasBoundsAt shop entry bounds place =
-    IsCappedBound shop entry.node Front (job_at entry place) bounds.cap (slice_index bounds.front (job_at entry place - 1))
-    × IsCappedBound shop entry.node Back (job_at entry place) bounds.cap (slice_index bounds.back (job_at entry place - 1))
+    IsCappedBound shop entry.node Front (job_at entry place) bounds.cap
+    (slice_index bounds.front (job_at entry place - 1))
+    × IsCappedBound shop entry.node Back (job_at entry place) bounds.cap
+    (slice_index bounds.back (job_at entry place - 1))
 
 -- the bounds of all children of an entry's node
 abbrev pub HasBounds : Shop → Entry → ChildBounds → Type 0
