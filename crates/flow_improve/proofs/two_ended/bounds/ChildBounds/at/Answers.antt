@@ -39,14 +39,14 @@ bound_from_lane-requires-clause-lane c first last node fresh =
     ∙ elim c.match-end.branch [
       | in-Front w ↦
           ap (λ b. slice_index b.now (job_at c.args.entry.now c.args.place - 1)) w.bounds-is
-              ∙ known.0 first last node left
-              ∙ ap (λ e. capped bounds.cap (child_bound shop e first last (job_at c.args.entry.now c.args.place)))
-              (sym w.in-Front.is)
+          ∙ known.0 first last node left
+          ∙ ap (λ e. capped bounds.cap (child_bound shop e first last (job_at c.args.entry.now c.args.place)))
+          (sym w.in-Front.is)
       | in-Back w ↦
           ap (λ b. slice_index b.now (job_at c.args.entry.now c.args.place - 1)) w.bounds-is
-              ∙ known.1 first last node left
-              ∙ ap (λ e. capped bounds.cap (child_bound shop e first last (job_at c.args.entry.now c.args.place)))
-              (sym w.in-Back.is)
+          ∙ known.1 first last node left
+          ∙ ap (λ e. capped bounds.cap (child_bound shop e first last (job_at c.args.entry.now c.args.place)))
+          (sym w.in-Back.is)
     ]
     ∙ back
 
