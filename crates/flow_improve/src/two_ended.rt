@@ -190,7 +190,7 @@ fn best_within(
     ensures reached { IfOk result (HasMakespan instance.now) }
     ensures least { IfOk result (λ reached. reached.value ≤ span instance.now start.now) }
 {
-    let mut reached = Reached::new(alloc, instance, start, false)?;
+    let mut reached = Reached::new(alloc, instance, start)?;
     let rows = rows(alloc, instance)?;
     // No bound is the sum of more times than these, so each is below the number `above`.
     let most = u64::from(instance.jobs()) + u64::from(instance.machines());
