@@ -3,6 +3,8 @@ use Rattle.std.proofs.Common.{◌≡◌, ℕ, zero, suc, ◌≤◌, nat_le, List
 use Rattle.std.proofs.Common.{sym, ◌∙◌, inl, inr, arith}
 use Rattle.std.specs.List.{AllZip, concat, flat_map, AllByRecursion}
 use Rattle.std.proofs.lemmas.Bool.{cases_Bool, leb-true, leb-false}
+use Rattle.std.proofs.lemmas.List.Concat.{concat_is}
+use Rattle.std.proofs.lemmas.List.Folds.{flat_map-map}
 use Rattle.std.proofs.lemmas.Option.{none-some}
 use Rattle.flow_shop.specs.Shop.{Shop}
 use Rattle.flow_shop.specs.Sequences.{jobs_left, AreJobs}
@@ -14,10 +16,6 @@ use Rattle.flow_directions.specs.Search.{DirectionsProve, child_visits}
 use Rattle.flow_directions.proofs.VisitSteps.{none-each, signs-flat_map}
 use Rattle.flow_directions.proofs.VisitSteps.{visits-high, visits-whole, visits-open}
 use Rattle.flow_directions.proofs.NodeLists.{IsChild, each-child}
-
-concat-map : (f : ℕ → List ℕ) (jobs : List ℕ) → concat (map f jobs) ≡ flat_map f jobs
-concat-map f [] = refl
-concat-map f (job ∷ jobs) = ap (λ xs. f job ++ xs) (concat-map f jobs)
 
 -- of two facts of each job follows a third, of the job and its text
 each-zip : (P Q : ℕ → Type 0) (R : ℕ → List ℕ → Type 0) (text : ℕ → List ℕ) (jobs : List ℕ) →
@@ -77,7 +75,7 @@ module _ (shop : Shop) (number : ℕ) where
           low,
           ap signs step
               ∙ ap (λ s. sign end ∷ s) (signs-flat_map (child_visits shop number end first last) jobs none_below
-              ∙ sym (concat-map text jobs)),
+              ∙ sym (concat_is (map text jobs) ∙ flat_map-map (λ x. x) text jobs)),
           child-proved end first last left
               (λ job child none. proved left (first_with end first job) (last_with end last job) child.0 child.1 none)
               are count none_below,

@@ -11,6 +11,7 @@ use Rattle.flow_shop.specs.declared.end.End.{End}
 use Rattle.flow_shop.specs.declared.end.End.TheVariants.{Front, Back}
 use Rattle.flow_shop.specs.Ends.{end_bound}
 use Rattle.flow_shop.specs.Directions.{first_with, last_with}
+use Rattle.flow_shop.proofs.Lists.{all-at}
 use Rattle.flow_shop.proofs.EndBounds.{end_bound_is_exact}
 use Rattle.flow_shop.proofs.DirectionsSound.{directions_are_sound}
 use Rattle.flow_directions.specs.Search.{end_taken, first_reached, directions_of, first_below, IsOfNode, child_visits}
@@ -19,12 +20,6 @@ use Rattle.flow_directions.proofs.VisitSteps.{none-or-reached, reached-flat_map}
 use Rattle.flow_directions.proofs.VisitSteps.{visits-high, visits-whole, visits-open}
 use Rattle.flow_directions.proofs.NodeLists.{IsChild, each-child, whole-node}
 use Rattle.flow_directions.proofs.SearchProves.{directions_prove}
-
--- a fact of each job is one of a job among them
-all-at : (P : ℕ → Type 0) (before : List ℕ) (job : ℕ) (after : List ℕ) → AllByRecursion P (before ++ job ∷ after) →
-    P job
-all-at P [] job after all = all.0
-all-at P (first ∷ before) job after all = all-at P before job after all.1
 
 -- the lists of a node without jobs left are a sequence of it
 of-whole : (shop : Shop) (first last jobs : List ℕ) → first ++ last ≡ jobs → IsSequence shop.jobs (first ++ last) →

@@ -41,12 +41,9 @@ fn sum_of_group<V: Lanes>(
     let mut sum = 0;
     for lane in 0..LANES {
         if left >> lane & 1 == 1 {
-            let bound = bounds.at(lane);
-            if bound < V::CAP {
-                sum += u64::from(bound);
-            } else {
-                sum += u64::from(node.child_bound(instance, end, names[lane]));
-            }
+            let bound =
+                node.bound_from_lane(instance, end, names[lane], bounds.at(lane), V::CAP);
+            sum += u64::from(bound);
         }
     }
     sum

@@ -12,7 +12,7 @@ use Rattle.flow_shop.specs.declared.end.End.{End}
 use Rattle.flow_nodes.specs.Lanes.{capped, HasLane}
 use Rattle.flow_nodes.specs.Nodes.{IsJob, IsNode}
 use Rattle.flow_nodes.specs.Groups.{AreNames, IsGroup, child_bound}
-use Rattle.flow_improve.specs.internal.Beams.{IsEntry, first_of, job_at, last_of}
+use Rattle.flow_improve.specs.internal.Beams.{IsCappedBound, IsEntry, first_of, job_at, last_of}
 use Rattle.flow_improve.specs.internal.Opens.{bound_at_end, left_of}
 use Rattle.flow_improve.specs.declared.two_ended.entry.Entry.{Entry}
 use Rattle.flow_improve.proofs.EntrySteps.{is-left}
@@ -34,10 +34,9 @@ pub lane-written : {V : Type 0} (list : V → List ℕ) (cap width : ℕ) (shop 
     HasLane cap width (list lanes) lane (child_bound shop end first last (slice_index jobs lane))) →
     ((lane value : ℕ) → lane < 16 → HasLane cap width (list lanes) lane value →
     slice_index numbers (group * 16 + lane) ≡ capped cap value) →
-    slice_index numbers (job_at entry place - 1)
-    ≡ capped cap (child_bound shop end (first_of entry) (last_of entry) (job_at entry place))
+    IsCappedBound shop entry.node end (job_at entry place) cap (slice_index numbers (job_at entry place - 1))
 lane-written list cap width shop entry end group names vectors lanes numbers place wide is from low there are of_group
-    bounds written =
+    bounds written first last node fresh =
     let job = job_at entry place in
     let lane = (job - 1) % 16 in
     let known = is-job shop entry place is low in
@@ -47,10 +46,9 @@ lane-written list cap width shop entry end group names vectors lanes numbers pla
     let within : lane < width = omega (arith, few, wide) in
     let at : job - 1 ≡ group * 16 + lane = omega (arith, there) in
     let name : slice_index names lane ≡ job = omega (arith, are lane few, at, least, most) in
-    let bound = bounds shop (first_of entry) (last_of entry) names lane is.node of_group within
-    (is-left shop entry place (slice_index names lane) is from low name) in
+    let bound = bounds shop first last names lane node of_group within (ap (has (first ++ last)) name ∙ fresh) in
     ap (slice_index numbers) at ∙ written lane _ few bound
-    ∙ ap (λ j. capped cap (child_bound shop end (first_of entry) (last_of entry) j)) name
+    ∙ ap (λ j. capped cap (child_bound shop end first last j)) name
 
 -- a job among those between the lists of an entry
 pub left-at : (jobs : List ℕ) (first place before : ℕ) → first ≤ place → place < before → before ≤ length jobs →

@@ -27,7 +27,6 @@ impl Reached {
         alloc: Global,
         instance: &Instance,
         sequence: &Sequence,
-        whole: bool,
     ) -> Result<Reached, AllocError>
         requires { length sequence.now ≡ instance.now.jobs }
         ensures reached { IfOk result (HasMakespan instance.now) }
@@ -36,7 +35,7 @@ impl Reached {
         Ok(Reached {
             sequence: Sequence::of_known(alloc, sequence.jobs())?,
             value: makespan(instance, sequence),
-            whole,
+            whole: false,
         })
     }
 

@@ -69,41 +69,30 @@ impl Limits {
         self.aim.is_some_and(|number| makespan < number)
     }
 
-    /// The first pass of a width. Where all children are below a number that is aimed at, their bounds say little, and
-    /// the deficit decides.
-    fn first(&self, width: u32) -> PassPlan {
-        match self.aim {
-            Some(number) => PassPlan {
-                width,
-                mode: Mode::Deficit,
-                fewer: number,
-                below: number,
-            },
-            None => PassPlan {
-                width,
-                mode: Mode::Bound,
-                fewer: 0,
-                below: u64::MAX,
-            },
+    /// A pass of a width in a mode. Where all children are below a number that is aimed at, their bounds say little, and
+    /// the deficit decides in any mode.
+    fn plan(&self, width: u32, mode: Mode, fewer: u64) -> PassPlan {
+        let mode = if self.aim.is_some() {
+            Mode::Deficit
+        } else {
+            mode
+        };
+        PassPlan {
+            width,
+            mode,
+            fewer,
+            below: self.aim.unwrap_or(u64::MAX),
         }
+    }
+
+    /// The first pass of a width.
+    fn first(&self, width: u32) -> PassPlan {
+        self.plan(width, Mode::Bound, self.aim.unwrap_or(0))
     }
 
     /// The second pass of a width.
     fn second(&self, width: u32) -> PassPlan {
-        match self.aim {
-            Some(number) => PassPlan {
-                width,
-                mode: Mode::Deficit,
-                fewer: 0,
-                below: number,
-            },
-            None => PassPlan {
-                width,
-                mode: Mode::Sum,
-                fewer: 0,
-                below: u64::MAX,
-            },
-        }
+        self.plan(width, Mode::Sum, 0)
     }
 }
 
@@ -201,7 +190,7 @@ fn best_within(
     ensures reached { IfOk result (HasMakespan instance.now) }
     ensures least { IfOk result (λ reached. reached.value ≤ span instance.now start.now) }
 {
-    let mut reached = Reached::new(alloc, instance, start, false)?;
+    let mut reached = Reached::new(alloc, instance, start)?;
     let rows = rows(alloc, instance)?;
     // No bound is the sum of more times than these, so each is below the number `above`.
     let most = u64::from(instance.jobs()) + u64::from(instance.machines());

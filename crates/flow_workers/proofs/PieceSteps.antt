@@ -1,6 +1,6 @@
 -- What pieces stand for, where they are joined, and where a search made them.
 use Rattle.std.proofs.Common.{◌≡◌, ◌≢◌, ℕ, suc, ◌<◌, List, [], ◌∷◌, ◌++◌, length, slice_index_or, slice_set, Some, None}
-use Rattle.std.proofs.lemmas.Bool.{cases_lt}
+use Rattle.std.proofs.lemmas.Bool.{cases_eq}
 use Rattle.std.proofs.lemmas.List.{get_or-set_other, get_or-set_same}
 use Rattle.std.proofs.Common.{refl, ap, sym, ◌∙◌, ◌+◌, inl, inr, map, arith, false}
 use Rattle.flow_shop.specs.Shop.{Shop}
@@ -133,24 +133,15 @@ module _ (shop : Shop) (number : ℕ) where
       (k : ℕ) (d : Dealt) → k < length first →
       dealt_met shop number (slice_index_or (slice_set now reply.place one) k d)
       ≡ dealt_met shop number (slice_index_or first k d)
-  reply-put first now reply one is same place stands each k d within = elim (cases_lt k reply.place) [
-    | inl before ↦ apart (omega arith)
-    | inr not_before ↦ elim (cases_lt reply.place k) [
-      | inl after ↦ apart (omega arith)
-      | inr not_after ↦
-          let at : k ≡ reply.place = omega arith in
-          ap (λ i. dealt_met shop number (slice_index_or (slice_set now reply.place one) i d)) at
-          ∙ ap (dealt_met shop number) (get_or-set_same now reply.place one d (omega (arith, same, place)))
-          ∙ ap (dealt_met shop number) is ∙ stands d
-          ∙ sym (ap (λ i. dealt_met shop number (slice_index_or first i d)) at)
-    ]
+  reply-put first now reply one is same place stands each k d within = elim (cases_eq k reply.place) [
+    | inl at ↦
+        ap (λ i. dealt_met shop number (slice_index_or (slice_set now reply.place one) i d)) at
+            ∙ ap (dealt_met shop number) (get_or-set_same now reply.place one d (omega (arith, same, place)))
+            ∙ ap (dealt_met shop number) is ∙ stands d
+            ∙ sym (ap (λ i. dealt_met shop number (slice_index_or first i d)) at)
+    | inr apart ↦
+        ap (dealt_met shop number) (get_or-set_other now reply.place k one d apart) ∙ each k d within
   ]
-    where
-      apart : k ≢ reply.place →
-          dealt_met shop number (slice_index_or (slice_set now reply.place one) k d)
-          ≡ dealt_met shop number (slice_index_or first k d)
-      apart other =
-          ap (dealt_met shop number) (get_or-set_other now reply.place k one d other) ∙ each k d within
 
   -- parts that are left
   pub parts-met : (parts : List Part) →

@@ -47,6 +47,7 @@ fn write_lanes<V: Lanes>(numbers: &mut [u32; MAX_JOBS], group: usize, lanes: V)
 }
 
 /// What the plain rule compares of the children at an end.
+#[derive(Clone, Copy)]
 struct Totals {
     /// How many of them are below a number.
     below: u32,
@@ -109,11 +110,10 @@ impl ChildBounds {
             End::Front => &self.front,
             End::Back => &self.back,
         };
-        let bound = bounds[usize::from(job) - 1];
-        if bound < self.cap {
-            return bound;
-        }
-        entry.node.child_bound(instance, end, job)
+        let lane = bounds[usize::from(job) - 1];
+        entry
+            .node
+            .bound_from_lane(instance, end, job, lane, self.cap)
     }
 
     /// How many children at an end are below a number, and the sum of the bounds of all of them.

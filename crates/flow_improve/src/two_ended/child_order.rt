@@ -1,6 +1,6 @@
 //! The order in which the children of a list of nodes are kept.
 
-ghost use Rattle.std.specs.Prelude.{◌≤◌};
+ghost use Rattle.std.specs.Prelude.{◌<◌, ◌≤◌};
 ghost use Rattle.flow_limits.specs.Limits.{most_machines};
 
 use flow_limits::MAX_MACHINES;
@@ -109,32 +109,57 @@ impl ChildOrder {
         }
     }
 
-    /// The deficit of a front.
-    fn front_deficit(&self, front: &MachineTimes) -> u64 {
-        let cap = self.cap();
-        let mut deficit: u64 = 0;
-        for place in 1..self.machines {
-            deficit = deficit.wrapping_add(lack(cap, front[place], front[place - 1]));
-        }
-        deficit
-    }
-
-    /// The deficit of a back.
-    fn back_deficit(&self, back: &MachineTimes) -> u64 {
-        let cap = self.cap();
-        let mut deficit: u64 = 0;
-        for place in 1..self.machines {
-            deficit = deficit.wrapping_add(lack(cap, back[place - 1], back[place]));
-        }
-        deficit
-    }
-
     /// The deficit of the end of a node at which no job is put.
     pub(crate) fn kept_deficit(&self, node: &Node, end: End) -> u64 {
-        match end {
-            End::Front => self.back_deficit(node.backs()),
-            End::Back => self.front_deficit(node.fronts()),
+        let (later, earlier) = match end {
+            End::Front => (&node.backs()[..], &node.backs()[1..]),
+            End::Back => (&node.fronts()[1..], &node.fronts()[..]),
+        };
+        let cap = self.cap();
+        let mut deficit: u64 = 0;
+        for place in 1..self.machines {
+            deficit = deficit.wrapping_add(lack(cap, later[place - 1], earlier[place - 1]));
         }
+        deficit
+    }
+
+    /// The place of a machine that has so many machines before it, counted from an end.
+    #[inline(always)]
+    fn place_from(&self, end: End, count: usize) -> usize
+        requires { count < self.now.machines }
+        ensures { result < self.now.machines }
+    {
+        match end {
+            End::Front => count,
+            End::Back => self.machines - 1 - count,
+        }
+    }
+
+    /// The deficit of an end with these fronts or backs at which a job with these times is put; or a part of it that is
+    /// above the most.
+    #[inline(always)]
+    fn deficit_with(
+        &self,
+        end: End,
+        starts: &MachineTimes,
+        times: &MachineTimes,
+        most: u64,
+    ) -> u64 {
+        let cap = self.cap();
+        let mut deficit: u64 = 0;
+        let mut earlier: u32 = 0;
+        for count in 0..self.machines {
+            let place = self.place_from(end, count);
+            let free = starts[place].max(earlier).wrapping_add(times[place]);
+            if count > 0 {
+                deficit = deficit.wrapping_add(lack(cap, free, earlier));
+            }
+            if deficit > most {
+                break;
+            }
+            earlier = free;
+        }
+        deficit
     }
 
     /// The deficit of the end of a node at which a job with these times is put; or a part of it that is above the most.
@@ -145,38 +170,10 @@ impl ChildOrder {
         times: &MachineTimes,
         most: u64,
     ) -> u64 {
-        let machines = self.machines;
-        let cap = self.cap();
-        let mut deficit: u64 = 0;
-        let mut earlier: u32 = 0;
+        // One loop for each end, so that its step is known.
         match end {
-            End::Front => {
-                let fronts = node.fronts();
-                for place in 0..machines {
-                    let free = fronts[place].max(earlier).wrapping_add(times[place]);
-                    if place > 0 {
-                        deficit = deficit.wrapping_add(lack(cap, free, earlier));
-                    }
-                    if deficit > most {
-                        break;
-                    }
-                    earlier = free;
-                }
-            }
-            End::Back => {
-                let backs = node.backs();
-                for place in (0..machines).rev() {
-                    let free = backs[place].max(earlier).wrapping_add(times[place]);
-                    if place + 1 < machines {
-                        deficit = deficit.wrapping_add(lack(cap, free, earlier));
-                    }
-                    if deficit > most {
-                        break;
-                    }
-                    earlier = free;
-                }
-            }
+            End::Front => self.deficit_with(End::Front, node.fronts(), times, most),
+            End::Back => self.deficit_with(End::Back, node.backs(), times, most),
         }
-        deficit
     }
 }

@@ -8,8 +8,7 @@ use Rattle.flow_nodes.specs.Marks.{picked}
 use Rattle.flow_directions.proofs.BoundSums.{lane-picked, lane-passed, none-picked}
 use Rattle.flow_nodes.proofs.ChildBounds.{child-bound-small}
 use Rattle.flow_directions.proofs.open.sum_of_group.Goals as goal
-use Rattle.flow_directions.proofs.open.sum_of_group.Goals.{then-left-lane-eq1+then-bound-CAP}
-use Rattle.flow_directions.proofs.open.sum_of_group.Goals.{then-left-lane-eq1+else-bound-CAP, else-left-lane-eq1}
+use Rattle.flow_directions.proofs.open.sum_of_group.Goals.{then-left-lane-eq1, else-left-lane-eq1}
 
 pub loop-lane-preserved : goal.loop-lane-preserved
 loop-lane-preserved g c =
@@ -20,31 +19,7 @@ loop-lane-preserved g c =
     let wide : lane < g.V.Lanes.WIDTH = omega (arith, low, c.requires.wide) in
     let within : lane < length names = omega (arith, low, c.requires.names) in
     elim c.if-left-lane-eq1.branch [
-      | then-left-lane-eq1+then-bound-CAP w ↦
-          let bit : bit_at c.args.left lane ≡ 1 = sym (shr_and_one c.args.left lane) ∙ w.if-left-lane-eq1.true in
-          let at = c.requires.at in
-          let few : child_bound shop c.args.end at.0 at.1 (slice_index names lane) < 4294967295 =
-          child-bound-small shop c.args.end at.0 at.1 (slice_index names lane) c.args.node.now at.2
-          (at.3.each lane wide) (at.4 lane low bit) in
-          let least = w.at-bound.ensures (child_bound shop c.args.end at.0 at.1 (slice_index names lane))
-          (c.child_bounds-bounds.ensures shop at.0 at.1 names lane at.2 at.3 wide (at.4 lane low bit)) in
-          record {
-            small = omega (arith, w.sum-is, w.from-sum.ensures, c.loop-lane.invariant.small, few, least);
-            rest = λ first last is group fresh.
-                let bound = w.at-bound.ensures (child_bound shop c.args.end first last (slice_index names lane))
-                (c.child_bounds-bounds.ensures shop first last names lane is group wide (fresh lane low bit)) in
-                omega (
-                  arith,
-                  c.loop-lane.invariant.rest first last is group fresh,
-                  lane-picked (child_bound shop c.args.end first last) c.args.left lane names within bit,
-                  bound,
-                  w.if-bound-CAP.true,
-                  w.CAP,
-                  w.sum-is,
-                  w.from-sum.ensures,
-                );
-          }
-      | then-left-lane-eq1+else-bound-CAP w ↦
+      | then-left-lane-eq1 w ↦
           let bit : bit_at c.args.left lane ≡ 1 = sym (shr_and_one c.args.left lane) ∙ w.if-left-lane-eq1.true in
           let at = c.requires.at in
           let few : child_bound shop c.args.end at.0 at.1 (slice_index names lane) < 4294967295 =
@@ -54,18 +29,18 @@ loop-lane-preserved g c =
             small = omega (
               arith,
               w.sum-is,
-              w.from-sum-else-bound-CAP.ensures,
+              w.from-sum.ensures,
               c.loop-lane.invariant.small,
               few,
-              w.child_bound.ensures at.0 at.1 at.2 (at.4 lane low bit),
+              w.bound_from_lane-bound.ensures at.0 at.1 at.2 (at.4 lane low bit),
             );
             rest = λ first last is group fresh. omega (
               arith,
               c.loop-lane.invariant.rest first last is group fresh,
               lane-picked (child_bound shop c.args.end first last) c.args.left lane names within bit,
-              w.child_bound.ensures first last is (fresh lane low bit),
+              w.bound_from_lane-bound.ensures first last is (fresh lane low bit),
               w.sum-is,
-              w.from-sum-else-bound-CAP.ensures,
+              w.from-sum.ensures,
             );
           }
       | else-left-lane-eq1 w ↦

@@ -5,7 +5,7 @@ use Rattle.std.proofs.lemmas.List.{length-take, length-drop}
 use Rattle.flow_shop.specs.declared.end.End.TheVariants.{Front, Back}
 use Rattle.flow_nodes.specs.Lanes.{capped}
 use Rattle.flow_nodes.specs.Groups.{IsGroup, child_bound}
-use Rattle.flow_improve.specs.internal.Beams.{first_of, job_at, last_of}
+use Rattle.flow_improve.specs.internal.Beams.{job_at}
 use Rattle.flow_improve.proofs.BoundSteps.{lane-written, left-at}
 use Rattle.flow_improve.proofs.two_ended.bounds.ChildBounds.fill.Goals as goal
 use Rattle.flow_improve.proofs.two_ended.bounds.ChildBounds.fill.Goals.{then-used-group, else-used-group}
@@ -51,12 +51,16 @@ loop-group-preserved g c =
                   | inl before ↦
                       let apart : (job - 1) / 16 ≢ group = omega (arith, before) in
                       let old = c.loop-group.invariant.done place from low before in (
-                        ap (λ b. slice_index b.front (job - 1)) w.self-is
-                            ∙ w.write_lanes.ensures.others (job - 1) apart ∙ old.0
-                            ∙ ap (λ n. capped n (child_bound shop Front (first_of entry) (last_of entry) job)) cap,
-                        ap (λ b. slice_index b.back (job - 1)) w.self-is
-                            ∙ w.write_lanes-then-used-group.ensures.others (job - 1) apart ∙ old.1
-                            ∙ ap (λ n. capped n (child_bound shop Back (first_of entry) (last_of entry) job)) cap,
+                        λ first last node fresh.
+                            ap (λ b. slice_index b.front (job - 1)) w.self-is
+                            ∙ w.write_lanes.ensures.others (job - 1) apart
+                            ∙ old.0 first last node fresh
+                            ∙ ap (λ n. capped n (child_bound shop Front first last job)) cap,
+                        λ first last node fresh.
+                            ap (λ b. slice_index b.back (job - 1)) w.self-is
+                            ∙ w.write_lanes-then-used-group.ensures.others (job - 1) apart
+                            ∙ old.1 first last node fresh
+                            ∙ ap (λ n. capped n (child_bound shop Back first last job)) cap,
                       )
                   | inr above ↦
                       let there : (job - 1) / 16 ≡ group = omega (arith, above, under) in
@@ -67,31 +71,33 @@ loop-group-preserved g c =
                       subst (IsGroup g.V.Lanes.list g.V.Lanes.CAP g.V.Lanes.WIDTH shop named.0) (sym vectors) named.2 in
                       let full : g.V.Lanes.CAP ≡ c.if-used-group.self.cap =
                       sym c.requires.cap ∙ sym c.loop-group.invariant.cap ∙ cap in (
-                        ap (λ b. slice_index b.front (job - 1)) w.self-is
+                        λ first last node fresh.
+                            ap (λ b. slice_index b.front (job - 1)) w.self-is
                             ∙ lane-written g.V.Lanes.list g.V.Lanes.CAP g.V.Lanes.WIDTH shop entry Front group named.0
                             w.as_slice-times.result.now w.child_bounds-fronts.result w.write_lanes.new.numbers place
                             c.requires.wide c.requires.entry from low there named.1 of_group
-                            w.child_bounds-fronts.ensures w.write_lanes.ensures.here
-                            ∙ ap (λ n. capped n (child_bound shop Front (first_of entry) (last_of entry) job)) full,
-                        ap (λ b. slice_index b.back (job - 1)) w.self-is
+                            w.child_bounds-fronts.ensures w.write_lanes.ensures.here first last node fresh
+                            ∙ ap (λ n. capped n (child_bound shop Front first last job)) full,
+                        λ first last node fresh.
+                            ap (λ b. slice_index b.back (job - 1)) w.self-is
                             ∙ lane-written g.V.Lanes.list g.V.Lanes.CAP g.V.Lanes.WIDTH shop entry Back group named.0
                             w.as_slice-times.result.now w.child_bounds-backs.result
                             w.write_lanes-then-used-group.new.numbers place c.requires.wide c.requires.entry from low
                             there named.1 of_group w.child_bounds-backs.ensures
-                            w.write_lanes-then-used-group.ensures.here
-                            ∙ ap (λ n. capped n (child_bound shop Back (first_of entry) (last_of entry) job)) full,
+                            w.write_lanes-then-used-group.ensures.here first last node fresh
+                            ∙ ap (λ n. capped n (child_bound shop Back first last job)) full,
                       )
                 ]
             | else-used-group w ↦
                 elim (cases_lt ((job - 1) / 16) group) [
                   | inl before ↦
                       let old = c.loop-group.invariant.done place from low before in (
-                        ap (λ b. slice_index b.front (job - 1)) w.self-is ∙ old.0
-                            ∙ ap (λ b. capped b.cap (child_bound shop Front (first_of entry) (last_of entry) job))
-                            (sym w.self-is),
-                        ap (λ b. slice_index b.back (job - 1)) w.self-is ∙ old.1
-                            ∙ ap (λ b. capped b.cap (child_bound shop Back (first_of entry) (last_of entry) job))
-                            (sym w.self-is),
+                        λ first last node fresh.
+                            ap (λ b. slice_index b.front (job - 1)) w.self-is ∙ old.0 first last node fresh
+                            ∙ ap (λ b. capped b.cap (child_bound shop Front first last job)) (sym w.self-is),
+                        λ first last node fresh.
+                            ap (λ b. slice_index b.back (job - 1)) w.self-is ∙ old.1 first last node fresh
+                            ∙ ap (λ b. capped b.cap (child_bound shop Back first last job)) (sym w.self-is),
                       )
                   | inr above ↦
                       let there : (job - 1) / 16 ≡ group = omega (arith, above, under) in
