@@ -4,10 +4,10 @@
 mod budgets;
 mod certified;
 mod most;
-mod search;
 mod searches;
 mod shared;
+mod steps;
 
 pub use certified::Certified;
 pub use most::MostDirections;
-pub use search::certify;
+pub use steps::certify;

@@ -16,7 +16,7 @@ use crate::bounds::Bounds;
 use crate::fault::CheckFault;
 use crate::heading::read_heading;
 use crate::shown::Shown;
-use crate::texts::LAST_LINE;
+use crate::titles::LAST_LINE;
 use crate::trees::trees_end;
 use flow_shop::{Instance, Sequence};
 use std::alloc::Global;

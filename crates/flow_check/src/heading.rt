@@ -13,7 +13,7 @@ ghost use Rattle.flow_check.specs.internal.Heading.{BeginsWithHeading, IsHeading
 
 use crate::fault::CheckFault;
 use crate::number::read_number;
-use crate::texts::TITLE;
+use crate::titles::TITLE;
 use flow_limits::{MAX_DEPTH, MAX_VERSION, MIN_VERSION};
 use flow_shop::{Front, Instance, JobSet, Sequence, front_push};
 use std::alloc::Global;

@@ -17,7 +17,7 @@ mod reader;
 mod release;
 mod shown;
 mod text;
-mod texts;
+mod titles;
 mod tree;
 mod trees;
 mod trees_text;
@@ -33,5 +33,5 @@ pub use laws::{
 };
 pub use shown::Shown;
 pub use text::check_text;
-pub use texts::{LAST_LINE, TITLE, TWO_ENDED_TITLE};
+pub use titles::{LAST_LINE, TITLE, TWO_ENDED_TITLE};
 pub use two_ended::check_two_ended;

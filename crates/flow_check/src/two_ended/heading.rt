@@ -13,7 +13,7 @@ use crate::bounds::Bounds;
 use crate::fault::CheckFault;
 use crate::heading::{after_counts, read_sequence_line};
 use crate::number::read_number;
-use crate::texts::TWO_ENDED_TITLE;
+use crate::titles::TWO_ENDED_TITLE;
 use flow_shop::{Instance, Sequence};
 use std::alloc::Global;
 

@@ -1,4 +1,5 @@
-//! From a start to bounds: which sequences and numbers are searched, in which order.
+//! The steps of `certify`, from a start to bounds: which sequences and numbers are searched, in which order, and with
+//! which budgets.
 
 ghost use Rattle.std.specs.Prelude.{◌≡◌, ◌≤◌, min, [], length, IfOk};
 ghost use Rattle.flow_shop.specs.Paths.{span};
@@ -16,14 +17,12 @@ use crate::shared::Shared;
 use flow_bound::taillard_bound;
 use flow_directions::{News, Prover};
 use flow_improve::{Effort, Reached, beam, beam_below, rounds_of_both};
+use flow_limits::MAX_WIDTH;
 use flow_shop::{Instance, Sequence};
 use std::alloc::{AllocError, Global};
 
 /// The widest beam after which the searches have small budgets, before the whole beam.
 const NARROW_WIDTH: u32 = 16;
-
-/// The greatest width of a beam that is aimed at a number.
-const AIMED: u32 = 65_536;
 
 /// How many times the steps of the beam a beam may take that is aimed at a number.
 const AIMED_SHARE: u64 = 4;
@@ -125,7 +124,7 @@ fn aim<P: Prover>(
         return Ok(());
     }
     let number = searches.known.lower.saturating_add(1);
-    let width = effort.width().saturating_mul(8).min(AIMED);
+    let width = effort.width().saturating_mul(8).min(MAX_WIDTH);
     let work = effort.beam_work().saturating_mul(AIMED_SHARE);
     let aimed = beam_below(
         shared.alloc,

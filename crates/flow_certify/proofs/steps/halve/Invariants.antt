@@ -1,6 +1,6 @@
 use Rattle.std.specs.Prelude.{◌-◌}
 use Rattle.flow_certify.specs.internal.Searches.{AreLater}
-use Rattle.flow_certify.proofs.search.halve.Given as goal
+use Rattle.flow_certify.proofs.steps.halve.Given as goal
 
 abbrev pub invariant-halved : goal.invariant-halved
 invariant-halved g l = AreLater l.shared.instance.now l.initial.searches l.searches

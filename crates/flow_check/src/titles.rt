@@ -1,4 +1,4 @@
-//! The texts that stand in each certificate.
+//! The titles of certificates, and the last line of each.
 
 /// The first line of a certificate, up to its version.
 pub const TITLE: &[u8] = b"flowshop certificate ";
