@@ -220,7 +220,8 @@ members-past : (after : List Bool) (job : ℕ) → length after ≤ job - 1 →
     members (slice_set after (job - 1) true) ≡ members after
 members-past after job past = ap members (set_past after (job - 1) true past)
 
--- once a job has left a set: the least with it is at most the new least, and is the new one where it is not the job's own
+-- once a job has left a set: the least with it is at most the new least, and is the new one where it is not the job's
+-- own
 pub least-left : (cap bound : ℕ) (f : ℕ → ℕ) (after : List Bool) (n job least_with : ℕ) → ((j : ℕ) → f j ≤ bound) →
     bound ≤ cap → 1 ≤ job → job ≤ n → ((k : ℕ) → n < k → contains after k ≡ false) → contains after job ≡ false →
     0 < length (members after) → least_with ≡ least (map f (members (slice_set after (job - 1) true))) →

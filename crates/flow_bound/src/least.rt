@@ -36,9 +36,9 @@ pub(crate) fn least_between(
     least
 }
 
-/// The least time of a job of `after` on the machines from `first` to `last`. `after` is a set that a job has just left,
-/// whose own time there is `own`, and `least` is the least with that job. It looks for a new least only where the job
-/// had the least.
+/// The least time of a job of `after` on the machines from `first` to `last`. `after` is a set that a job has just
+/// left: `own` is that job's time there, and `least` the least with it. It looks for a new least only where the job had
+/// the least.
 #[inline(always)]
 pub(crate) fn least_after(
     instance: &Instance,

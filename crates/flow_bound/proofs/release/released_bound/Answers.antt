@@ -8,7 +8,8 @@ pub returns-clause-value : goal.returns-clause-value
 returns-clause-value c =
     omega (
       arith,
-      c.release_from_lags-release.ensures.value c.args.instance.now (members c.args.unscheduled.now) c.lags_of-lags.ensures,
+      c.release_from_lags-release.ensures.value c.args.instance.now (members c.args.unscheduled.now)
+          c.lags_of-lags.ensures,
       c.from.ensures,
       c.from-2.ensures,
       c.sum_of-sum.ensures,

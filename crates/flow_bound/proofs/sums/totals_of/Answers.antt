@@ -19,7 +19,8 @@ loop-job-preserved c =
     record {
       machines_are = is.machines_are;
       size = grind (arith, common_steps);
-      are = filled-more (λ k number. number ≡ total shop k) c.loop-job.totals c.loop-job.job c.time_between.result (omega arith) (omega arith)
+      are = filled-more (λ k number. number ≡ total shop k) c.loop-job.totals c.loop-job.job
+          c.time_between.result (omega arith) (omega arith)
           (c.time_between.ensures ∙ ap (time_between shop c.loop-job.job 1) is.machines_are) is.are;
     }
 

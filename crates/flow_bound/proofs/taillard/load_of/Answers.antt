@@ -57,8 +57,8 @@ loop-job-preserved c =
     before.tail in
     record {
       length = grind (arith, common_steps);
-      done = filled-more (λ job head. head ≡ time_between shop job 1 machine) c.loop-job.heads job (slice_index_or c.loop-job.heads
-          (job - 1) 0 + c.time-time.result) (omega arith) within value before.done;
+      done = filled-more (λ job head. head ≡ time_between shop job 1 machine) c.loop-job.heads job
+          (slice_index_or c.loop-job.heads (job - 1) 0 + c.time-time.result) (omega arith) within value before.done;
       others = others-stay (λ job. time_between shop job 1 (machine - 1)) c.loop-job.heads job
           (slice_index_or c.loop-job.heads (job - 1) 0 + c.time-time.result) shop.jobs (omega arith) before.others;
       head = omega (
