@@ -14,7 +14,7 @@ use Rattle.flow_search.specs.Verdicts.{first_refusal}
 use Rattle.flow_search.proofs.Tallies.{refusals}
 use Rattle.flow_pool.specs.declared.messages.Answer.{Answer}
 use Rattle.flow_pool.specs.internal.HubSteps.{is_over_budget, any_over_budget}
-use Rattle.flow_pool.specs.internal.Runs.{IsRunFault}
+use Rattle.flow_pool.specs.Report.{IsSolveFault, solve_fault}
 
 -- where none of more answers is over the budget, none was
 pub any_over_budget-push : (answers more : List Answer) (a : Answer) → more ≡ answers ++ a ∷ [] →
@@ -49,8 +49,8 @@ none-over_budget number (a ∷ answers) none = go a.outcome (none-over_budget (n
     go outcome.NoPrefix rest e = absurd (cc)
 
 -- the fault of the first outcome that is not done is that of a run
-pub IsRunFault-first : (plan : Planned) (outcomes : List Outcome) (fault : RunFault) →
+pub IsSolveFault-first : (plan : Planned) (outcomes : List Outcome) (fault : RunFault) →
     length outcomes ≤ length (prefixes_of plan) → AreLawful plan outcomes →
-    first_refusal 0 outcomes ≡ Some fault → IsRunFault plan fault
-IsRunFault-first plan outcomes Memory few lawful e = tt
-IsRunFault-first plan outcomes (OverBudget k) few lawful e = (refusals plan outcomes few lawful).over k e
+    first_refusal 0 outcomes ≡ Some fault → IsSolveFault plan (solve_fault fault)
+IsSolveFault-first plan outcomes Memory few lawful e = tt
+IsSolveFault-first plan outcomes (OverBudget k) few lawful e = (refusals plan outcomes few lawful).over k e

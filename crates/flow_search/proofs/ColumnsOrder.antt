@@ -1,5 +1,5 @@
 -- The columns that are left, in increasing order, have the jobs that are left, in increasing order.
-use Rattle.std.proofs.Common.{◌≡◌, ◌≢◌, ℕ, zero, suc, ◌+◌, ◌-◌, ◌<◌, ◌≤◌, Bool, true, false, cond, not, nat_eq, List}
+use Rattle.std.proofs.Common.{◌≡◌, ℕ, zero, suc, ◌+◌, ◌-◌, ◌<◌, ◌≤◌, Bool, true, false, cond, not, nat_eq, List}
 use Rattle.std.proofs.Common.{[], ◌∷◌, length, map, slice_index, refl, ap, sym, ◌∙◌, inl, inr, arith}
 use Rattle.std.specs.List.{filter, range_with_len}
 use Rattle.std.proofs.lemmas.Bool.{false≢true, eq-eqb, eqb-true, or_left, or_right, or_cases}
@@ -12,16 +12,12 @@ use Rattle.flow_shop.proofs.Lists.{has-first}
 use Rattle.flow_search.specs.declared.eight.group.Group.{Group}
 use Rattle.flow_search.specs.declared.eight.group.ColumnFrame.{ColumnFrame}
 use Rattle.flow_search.specs.internal.Columns.{IsColumnLeft, IsFrameOf, job_of, columns_of}
-use Rattle.flow_search.proofs.JobsTaken.{filter-has, left-here}
+use Rattle.flow_search.proofs.JobsTaken.{has-cases, range-has, filter-has, left-here}
 use Rattle.flow_bound.proofs.Places.{has-at}
 use Rattle.flow_search.proofs.Increasing.{Increases, increases-filter, increases-from, place-of}
 
 has-rest : (x k : ℕ) (xs : List ℕ) → has xs k ≡ true → has (x ∷ xs) k ≡ true
 has-rest x k xs h = or_right (nat_eq k x) (has xs k) h
-
-has-cases : (x k : ℕ) (xs : List ℕ) → has (x ∷ xs) k ≡ true → k ≢ x → has xs k ≡ true
-has-cases x k xs h other =
-    elim (or_cases (nat_eq k x) (has xs k) h) [ inl same ↦ absurd (other (eqb-true k x same)) | inr there ↦ there ]
 
 increases-has : (from : ℕ) (xs : List ℕ) (k : ℕ) → Increases from xs → has xs k ≡ true → from ≤ k
 increases-has from xs k is h = let at = place-of xs k h in omega (arith, increases-from from xs at.0 is at.1, at.2)
@@ -101,26 +97,6 @@ has-range p a (suc n) k pass low high = elim (eqb_tells k a) [
         | true ↦ or_right (nat_eq k a) (has (filter p (range_with_len (a + 1) n)) k) rest
         | false ↦ rest
       ]
-]
-
-pub range-has : (p : ℕ → Bool) (a n k : ℕ) → has (filter p (range_with_len a n)) k ≡ true → (p k ≡ true) × (k < a + n)
-range-has p a zero k h = absurd (false≢true h)
-range-has p a (suc n) k h = elim (bool_cases (p a)) [
-  | inl pass ↦
-      let there : has (a ∷ filter p (range_with_len (a + 1) n)) k ≡ true =
-      sym (ap (λ b. has (cond b (a ∷ filter p (range_with_len (a + 1) n)) (filter p (range_with_len (a
-      + 1) n))) k) pass) ∙ h in
-      elim (eqb_tells k a) [
-        | inl same ↦ (ap p same.1 ∙ pass, omega (arith, same.1))
-        | inr differ ↦ let ih =
-            range-has p (a + 1) n k (has-cases a k (filter p (range_with_len (a + 1) n)) there differ.1) in
-            (ih.0, omega (arith, ih.1))
-      ]
-  | inr fail ↦
-      let there : has (filter p (range_with_len (a + 1) n)) k ≡ true =
-      sym (ap (λ b. has (cond b (a ∷ filter p (range_with_len (a + 1) n)) (filter p (range_with_len (a
-      + 1) n))) k) fail) ∙ h in
-      let ih = range-has p (a + 1) n k there in (ih.0, omega (arith, ih.1))
 ]
 
 pub columns-are-jobs : (shop : Shop) (list : List ℕ) (group : Group) (frame : ColumnFrame) →

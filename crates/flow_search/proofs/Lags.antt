@@ -1,5 +1,5 @@
 -- The least lag of some jobs, and of the jobs that a child leaves.
-use Rattle.std.proofs.Common.{◌≡◌, ℕ, ◌+◌, ◌-◌, ◌*◌, ◌<◌, ◌≤◌, List, [], ◌∷◌, ◌++◌, length, map, slice_index, ap, ◌∙◌}
+use Rattle.std.proofs.Common.{◌≡◌, ℕ, ◌+◌, ◌-◌, ◌*◌, ◌<◌, ◌≤◌, List, [], ◌∷◌, ◌++◌, length, map, slice_index, ◌∙◌}
 use Rattle.std.proofs.Common.{arith}
 use Rattle.flow_limits.specs.Limits.{most_machines, greatest_time}
 use Rattle.flow_shop.specs.Shop.{Shop, IsWithinLimits}
@@ -8,7 +8,6 @@ use Rattle.flow_shop.specs.TwoLeast.{IsLeastWithout, least_below, least_of_none}
 use Rattle.flow_shop.specs.Sequences.{jobs_left}
 use Rattle.flow_shop.proofs.TwoLeastSteps.{least-below-cap}
 use Rattle.flow_shop.proofs.Taken.{left-count}
-use Rattle.flow_shop.specs.Rows.{IsRow}
 use Rattle.flow_shop.specs.declared.row.Row.{Row}
 use Rattle.flow_shop.specs.TwoLeast.{time_to}
 use Rattle.flow_search.specs.internal.Lags.{IsLagged}

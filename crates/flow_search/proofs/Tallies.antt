@@ -331,4 +331,3 @@ verdict-least plan verdict is of =
       attained = ap (span plan.shop) of.sequence ∙ law.0.1 ∙ sym of.value;
       sequence = subst (IsSequence plan.shop.jobs) (sym of.sequence) law.0.0;
     }
-

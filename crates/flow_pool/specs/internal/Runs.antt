@@ -1,30 +1,22 @@
 -- What comes of a run that may start only some of its workers.
-use Rattle.std.specs.Prelude.{◌≡◌, ℕ, ◌<◌, ◌≤◌, Some, [], map, vec_len, vec_capacity}
+use Rattle.std.specs.Prelude.{◌≡◌, ℕ, ◌<◌, ◌≤◌, [], map, vec_len, vec_capacity}
 use Rattle.flow_limits.specs.Limits.{most_prefixes}
 use Rattle.flow_search.specs.Plans.{Planned}
-use Rattle.flow_search.specs.Outcomes.{first_over_budget}
-use Rattle.flow_search.specs.declared.verdict.RunFault.{RunFault}
-use Rattle.flow_search.specs.declared.verdict.RunFault.TheVariants.{OverBudget, Memory}
 use Rattle.flow_pool.specs.declared.run.solve.RunOutcome.{RunOutcome}
 use Rattle.flow_pool.specs.declared.run.solve.RunOutcome.TheVariants.{Whole, Fault, UsedUp, Refused}
 use Rattle.flow_pool.specs.declared.run.make.Made.{Made}
 use Rattle.flow_pool.specs.Deal.{by_worker}
 use Rattle.flow_pool.specs.Work.{prefix_count}
 use Rattle.flow_pool.specs.Hub.{CanCollect}
-use Rattle.flow_pool.specs.Report.{IsReport, run_slots}
+use Rattle.flow_pool.specs.Report.{IsReport, IsSolveFault, solve_fault, run_slots}
 use Rattle.flow_pool.specs.internal.HubSteps.{hub_slots}
 use Rattle.flow_pool.specs.internal.Start.{CanStart}
-
--- `OverBudget` names the first prefix whose tree is longer than the budget
-abbrev pub IsRunFault : Planned → RunFault → Type 0
-IsRunFault plan (OverBudget number) = first_over_budget plan ≡ Some number
-IsRunFault plan Memory = Unit {0}
 
 -- a run of so many starts has a report or a fault only where they are enough, and has used them up only where they are
 -- not
 abbrev pub IsRun : Planned → ℕ → RunOutcome → Type 0
 IsRun plan starts (Whole report) = IsReport plan report × (plan.options.workers ≤ starts)
-IsRun plan starts (Fault fault) = IsRunFault plan fault × (plan.options.workers ≤ starts)
+IsRun plan starts (Fault fault) = IsSolveFault plan (solve_fault fault) × (plan.options.workers ≤ starts)
 IsRun plan starts UsedUp = starts < plan.options.workers
 IsRun plan starts (Refused refusal) = 0 < starts
 

@@ -1,4 +1,4 @@
-use Rattle.std.proofs.Common.{◌≡◌, ◌+◌, ◌<◌, length, None, Some, subst, ap, sym, ◌∙◌, arith}
+use Rattle.std.proofs.Common.{◌≡◌, ◌<◌, length, None, Some, subst, ap, sym, ◌∙◌, arith}
 use Rattle.flow_search.specs.Plans.{prefixes_of}
 use Rattle.flow_search.specs.Outcomes.{IsDone}
 use Rattle.flow_search.specs.Verdicts.{refusal}

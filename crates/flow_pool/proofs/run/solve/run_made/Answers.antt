@@ -1,7 +1,7 @@
 use Rattle.std.proofs.Common.{◌≡◌, ◌∙◌, None, Some, length, map, sym, ap, rules, arith}
 use Rattle.flow_search.specs.Verdicts.{first_refusal}
 use Rattle.flow_pool.specs.declared.messages.Answer.{Answer}
-use Rattle.flow_pool.proofs.Over.{IsRunFault-first, none-over_budget}
+use Rattle.flow_pool.proofs.Over.{IsSolveFault-first, none-over_budget}
 use Rattle.flow_pool.proofs.Whole.{answers-of-run, lawful-outcomes, All-IsDoneAnswer, AreWholeWork-from_parts}
 use Rattle.flow_pool.proofs.Whole.{HasCollected-dealt}
 use Rattle.flow_pool.proofs.run.solve.run_made.Goals as goal
@@ -25,7 +25,7 @@ returns-in-Some g c =
     settled.tasks settled.answers c.requires.some c.outcomes_of-outcomes.ensures in
     let first : first_refusal 0 outcomes ≡ Some c.in-Some.fault =
     ap (first_refusal 0) (sym c.deref.ensures.value) ∙ (sym c.first_refusal.ensures ∙ c.in-Some.is) in (
-      IsRunFault-first c.args.plan.now outcomes c.in-Some.fault (omega (arith, lawful.1, directed.few))
+      IsSolveFault-first c.args.plan.now outcomes c.in-Some.fault (omega (arith, lawful.1, directed.few))
           lawful.0 first,
       search rules,
     )
