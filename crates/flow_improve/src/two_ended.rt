@@ -149,12 +149,11 @@ fn search<V: Lanes>(
         if width > limits.width {
             break;
         }
-        let plan = limits.first(width);
-        if ends_with(alloc, instance, limits, passes, reached, &plan)? {
-            break;
-        }
-        let plan = limits.second(width);
-        if ends_with(alloc, instance, limits, passes, reached, &plan)? {
+        let first = limits.first(width);
+        let second = limits.second(width);
+        if ends_with(alloc, instance, limits, passes, reached, &first)?
+            || ends_with(alloc, instance, limits, passes, reached, &second)?
+        {
             break;
         }
     }
