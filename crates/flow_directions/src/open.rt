@@ -41,8 +41,7 @@ fn sum_of_group<V: Lanes>(
     let mut sum = 0;
     for lane in 0..LANES {
         if left >> lane & 1 == 1 {
-            let bound =
-                node.bound_from_lane(instance, end, names[lane], bounds.at(lane), V::CAP);
+            let bound = node.bound_from_lane(instance, end, names[lane], bounds.at(lane), V::CAP);
             sum += u64::from(bound);
         }
     }

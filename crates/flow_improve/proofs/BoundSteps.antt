@@ -12,10 +12,9 @@ use Rattle.flow_shop.specs.declared.end.End.{End}
 use Rattle.flow_nodes.specs.Lanes.{capped, HasLane}
 use Rattle.flow_nodes.specs.Nodes.{IsJob, IsNode}
 use Rattle.flow_nodes.specs.Groups.{AreNames, IsGroup, child_bound}
-use Rattle.flow_improve.specs.internal.Beams.{IsCappedBound, IsEntry, first_of, job_at, last_of}
+use Rattle.flow_improve.specs.internal.Beams.{IsCappedBound, IsEntry, job_at}
 use Rattle.flow_improve.specs.internal.Opens.{bound_at_end, left_of}
 use Rattle.flow_improve.specs.declared.two_ended.entry.Entry.{Entry}
-use Rattle.flow_improve.proofs.EntrySteps.{is-left}
 
 -- the jobs of an entry are those of the instance
 pub is-job : (shop : Shop) (entry : Entry) (place : ℕ) → IsEntry shop entry → place < entry.before →

@@ -69,8 +69,8 @@ impl Limits {
         self.aim.is_some_and(|number| makespan < number)
     }
 
-    /// A pass of a width in a mode. Where all children are below a number that is aimed at, their bounds say little, and
-    /// the deficit decides in any mode.
+    /// A pass of a width in a mode. Where all children are below a number that is aimed at, their bounds say little,
+    /// and the deficit decides in any mode.
     fn plan(&self, width: u32, mode: Mode, fewer: u64) -> PassPlan {
         let mode = if self.aim.is_some() {
             Mode::Deficit
@@ -149,12 +149,11 @@ fn search<V: Lanes>(
         if width > limits.width {
             break;
         }
-        let plan = limits.first(width);
-        if ends_with(alloc, instance, limits, passes, reached, &plan)? {
-            break;
-        }
-        let plan = limits.second(width);
-        if ends_with(alloc, instance, limits, passes, reached, &plan)? {
+        let first = limits.first(width);
+        let second = limits.second(width);
+        if ends_with(alloc, instance, limits, passes, reached, &first)?
+            || ends_with(alloc, instance, limits, passes, reached, &second)?
+        {
             break;
         }
     }

@@ -1,5 +1,5 @@
 -- What pieces stand for, where they are joined, and where a search made them.
-use Rattle.std.proofs.Common.{◌≡◌, ◌≢◌, ℕ, suc, ◌<◌, List, [], ◌∷◌, ◌++◌, length, slice_index_or, slice_set, Some, None}
+use Rattle.std.proofs.Common.{◌≡◌, ℕ, suc, ◌<◌, List, [], ◌∷◌, ◌++◌, length, slice_index_or, slice_set, Some, None}
 use Rattle.std.proofs.lemmas.Bool.{cases_eq}
 use Rattle.std.proofs.lemmas.List.{get_or-set_other, get_or-set_same}
 use Rattle.std.proofs.Common.{refl, ap, sym, ◌∙◌, ◌+◌, inl, inr, map, arith, false}
@@ -136,9 +136,9 @@ module _ (shop : Shop) (number : ℕ) where
   reply-put first now reply one is same place stands each k d within = elim (cases_eq k reply.place) [
     | inl at ↦
         ap (λ i. dealt_met shop number (slice_index_or (slice_set now reply.place one) i d)) at
-            ∙ ap (dealt_met shop number) (get_or-set_same now reply.place one d (omega (arith, same, place)))
-            ∙ ap (dealt_met shop number) is ∙ stands d
-            ∙ sym (ap (λ i. dealt_met shop number (slice_index_or first i d)) at)
+        ∙ ap (dealt_met shop number) (get_or-set_same now reply.place one d (omega (arith, same, place)))
+        ∙ ap (dealt_met shop number) is ∙ stands d
+        ∙ sym (ap (λ i. dealt_met shop number (slice_index_or first i d)) at)
     | inr apart ↦
         ap (dealt_met shop number) (get_or-set_other now reply.place k one d apart) ∙ each k d within
   ]
