@@ -11,8 +11,8 @@ use Rattle.flow_shop.specs.Sequences.{has}
 use Rattle.flow_shop.specs.declared.end.End.{End}
 use Rattle.flow_nodes.specs.Lanes.{capped, HasLane}
 use Rattle.flow_nodes.specs.Nodes.{IsJob, IsNode}
-use Rattle.flow_nodes.specs.Groups.{AreNames, IsGroup, child_bound}
-use Rattle.flow_improve.specs.internal.Beams.{IsCappedBound, IsEntry, job_at}
+use Rattle.flow_nodes.specs.Groups.{AreNames, IsCappedBound, IsGroup, child_bound}
+use Rattle.flow_improve.specs.internal.Beams.{IsEntry, job_at}
 use Rattle.flow_improve.specs.internal.Opens.{bound_at_end, left_of}
 use Rattle.flow_improve.specs.declared.two_ended.entry.Entry.{Entry}
 

@@ -1,12 +1,15 @@
 -- Groups: jobs side by side, one for each lane, and the children of a node that put them at an end.
-use Rattle.std.specs.Prelude.{ℕ, ◌≡◌, ◌+◌, ◌-◌, ◌*◌, ◌/◌, ◌<◌, ◌≤◌, min, List, length, slice_index, slice_index_or}
+use Rattle.std.specs.Prelude.{ℕ, ◌≡◌, ◌+◌, ◌-◌, ◌*◌, ◌/◌, ◌<◌, ◌≤◌, false, min, List, ◌++◌, length, slice_index}
+use Rattle.std.specs.Prelude.{slice_index_or}
 use Rattle.std.specs.Global.{Vec}
 use Rattle.flow_shop.specs.Shop.{Shop, IsWithinLimits, time}
 use Rattle.flow_shop.specs.Ends.{end_bound}
 use Rattle.flow_shop.specs.Directions.{first_with, last_with}
 use Rattle.flow_shop.specs.declared.end.End.{End}
-use Rattle.flow_nodes.specs.Lanes.{HasLane}
-use Rattle.flow_nodes.specs.Nodes.{IsJob}
+use Rattle.flow_shop.specs.Sequences.{has}
+use Rattle.flow_nodes.specs.Lanes.{HasLane, capped}
+use Rattle.flow_nodes.specs.Nodes.{IsJob, IsNode}
+use Rattle.flow_nodes.specs.declared.node.Node.{Node}
 
 -- a group of jobs, one for each lane: for each machine, lanes that have their times there
 pub record IsGroup {V : Type 0} (list : V → List ℕ) (cap width : ℕ) (shop : Shop) (jobs : List ℕ)
@@ -39,3 +42,9 @@ pub record AreGroups {V : Type 0} (list : V → List ℕ) (cap width : ℕ) (sho
 -- the bound of the child that puts a job at an end
 abbrev pub child_bound : Shop → End → List ℕ → List ℕ → ℕ → ℕ
 child_bound shop end first last job = end_bound shop (first_with end first job) (last_with end last job)
+
+-- a number is the bound of the child of a node that puts a job at an end, or the cap where that is less
+abbrev pub IsCappedBound : Shop → Node → End → ℕ → ℕ → ℕ → Type 0
+IsCappedBound shop node end job cap number =
+    (first last : List ℕ) → IsNode shop first last node → has (first ++ last) job ≡ false →
+    number ≡ capped cap (child_bound shop end first last job)

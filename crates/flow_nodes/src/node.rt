@@ -7,8 +7,7 @@ ghost use Rattle.flow_shop.specs.Least.{least};
 ghost use Rattle.flow_shop.specs.Sequences.{has};
 ghost use Rattle.flow_shop.specs.Directions.{first_with, last_with};
 ghost use Rattle.flow_shop.specs.Ends.{back, end_bound, front};
-ghost use Rattle.flow_nodes.specs.Groups.{child_bound};
-ghost use Rattle.flow_nodes.specs.Lanes.{capped};
+ghost use Rattle.flow_nodes.specs.Groups.{IsCappedBound, child_bound};
 ghost use Rattle.flow_nodes.specs.Nodes.{IsJob, IsMachine, IsNode, work};
 
 use flow_limits::MAX_MACHINES;
@@ -191,8 +190,7 @@ impl Node {
         requires job { IsJob instance.now job }
         requires left { (first : List ℕ) × (last : List ℕ) × IsNode instance.now first last self.now
             × (has (first ++ last) job ≡ false) }
-        requires lane { (first last : List ℕ) → IsNode instance.now first last self.now →
-            has (first ++ last) job ≡ false → lane ≡ capped cap (child_bound instance.now end first last job) }
+        requires lane { IsCappedBound instance.now self.now end job cap lane }
         ensures { (first last : List ℕ) → IsNode instance.now first last self.now →
             has (first ++ last) job ≡ false → result ≡ child_bound instance.now end first last job }
     {

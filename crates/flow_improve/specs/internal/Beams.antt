@@ -1,14 +1,11 @@
 -- What a beam computes in.
-use Rattle.std.specs.Prelude.{ℕ, ◌≡◌, ◌-◌, ◌<◌, ◌≤◌, false, List, ◌++◌, length, take, drop, slice_index, All}
+use Rattle.std.specs.Prelude.{ℕ, ◌≡◌, ◌-◌, ◌<◌, ◌≤◌, List, length, take, drop, slice_index, All}
 use Rattle.flow_shop.specs.Shop.{Shop}
 use Rattle.flow_shop.specs.Rows.{AreRows}
-use Rattle.flow_shop.specs.Sequences.{IsSequence, has}
-use Rattle.flow_shop.specs.declared.end.End.{End}
+use Rattle.flow_shop.specs.Sequences.{IsSequence}
 use Rattle.flow_shop.specs.declared.end.End.TheVariants.{Front, Back}
-use Rattle.flow_nodes.specs.Lanes.{capped}
 use Rattle.flow_nodes.specs.Nodes.{IsNode}
-use Rattle.flow_nodes.specs.Groups.{AreGroups, child_bound}
-use Rattle.flow_nodes.specs.declared.node.Node.{Node}
+use Rattle.flow_nodes.specs.Groups.{AreGroups, IsCappedBound}
 use Rattle.flow_improve.specs.declared.two_ended.bounds.ChildBounds.{ChildBounds}
 use Rattle.flow_improve.specs.declared.two_ended.entry.Entry.{Entry}
 use Rattle.flow_improve.specs.declared.two_ended.pass.Passes.{Passes}
@@ -35,12 +32,6 @@ pub record IsEntry (shop : Shop) (entry : Entry) : Type 0 where
 -- entries of an instance
 abbrev pub AreEntries : Shop → List Entry → Type 0
 AreEntries shop entries = All (λ entry. IsEntry shop entry) entries
-
--- a number is the bound of the child of a node that puts a job at an end, or the cap where that is less
-abbrev pub IsCappedBound : Shop → Node → End → ℕ → ℕ → ℕ → Type 0
-IsCappedBound shop node end job cap number =
-    (first last : List ℕ) → IsNode shop first last node → has (first ++ last) job ≡ false →
-    number ≡ capped cap (child_bound shop end first last job)
 
 -- the bounds of the children that put the job of an entry at a place at the front and at the back, or the cap where
 -- that is less
