@@ -58,7 +58,7 @@ loop-outcome-preserved c =
     ∙ sym c.first_refusal.ensures ∙ c.in_default.is in
     let done : IsDone o = subst IsDone stands (done-at 0 c.args.outcomes.items k o none low) in
     let added : IsTally c.args.plan.now (k + 1) c.add.new.self =
-    c.in_ok-add.ensures c.args.plan.now k (omega (arith, low, size)) at.invariant.tally lawful done in
+    c.in_ok-add.ensures.done c.args.plan.now k (omega (arith, low, size)) at.invariant.tally lawful done in
     let more : length (at.yielded ++ o ∷ []) ≡ k + 1 = omega (arith, length-append at.yielded (o ∷ [])) in
     record {
       taken = append_assoc at.yielded (o ∷ []) (into_iter_items c.next.new.self) ∙ items;

@@ -8,8 +8,8 @@ use Rattle.flow_search.proofs.Tallies.{tally-more}
 use Rattle.flow_search.proofs.tally.Tally.add.Goals as goal
 use Rattle.flow_search.proofs.tally.Tally.add.Goals.{then-undercuts, else-undercuts}
 
-pub returns : goal.returns
-returns c plan number h is lawful done =
+pub returns-clause-done : goal.returns-clause-done
+returns-clause-done c plan number h is lawful done =
     let next : Option Best = c.in-Done.best in
     let least : Option Best = c.args.self.now.best in
     let best : c.if-undercuts.self.best ≡ cond (undercuts next least) next least = elim c.if-undercuts.branch [
