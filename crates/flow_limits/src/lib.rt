@@ -1,8 +1,7 @@
-//! The limits as constants, and the sizes that an instance may have. Contracts name the numbers in `specs/Limits.antt`,
-//! and the law at the end says that these are the same.
+//! The limits as constants. Contracts name the numbers in `specs/Limits.antt`, and the law at the end says that these
+//! are the same.
 #![tactic(auto)]
 
-ghost use Rattle.std.specs.Int.{is_in_range};
 ghost use Rattle.std.specs.Prelude.{◌≡◌};
 ghost use Rattle.flow_limits.specs.Limits.{most_jobs, most_machines, greatest_time};
 ghost use Rattle.flow_limits.specs.Limits.{greatest_number, greatest_seed};
@@ -10,6 +9,10 @@ ghost use Rattle.flow_limits.specs.Limits.{greatest_depth, least_version, greate
 ghost use Rattle.flow_limits.specs.Limits.{most_workers, most_prefixes, greatest_budget};
 ghost use Rattle.flow_limits.specs.Limits.{most_text, most_certificate, most_rounds, most_width, most_work};
 ghost use Rattle.flow_limits.specs.Limits.{most_directions};
+
+mod sizes;
+
+pub use sizes::{may_have_jobs, may_have_machines};
 
 /// The most jobs of an instance.
 pub const MAX_JOBS: usize = 800;
@@ -61,20 +64,6 @@ pub const MAX_WORK: u32 = 1_000_000;
 
 /// The most directions of a proof.
 pub const MAX_DIRECTIONS: u32 = 1_000_000_000;
-
-/// Whether an instance may have so many jobs.
-pub fn may_have_jobs(jobs: u32) -> bool
-    ensures { result ≡ is_in_range 1 most_jobs jobs }
-{
-    jobs >= 1 && jobs as usize <= MAX_JOBS
-}
-
-/// Whether an instance may have so many machines.
-pub fn may_have_machines(machines: u32) -> bool
-    ensures { result ≡ is_in_range 1 most_machines machines }
-{
-    machines >= 1 && machines as usize <= MAX_MACHINES
-}
 
 /// The constants of the code are the limits that the contracts name.
 pub fn limits_are_those_stated()
