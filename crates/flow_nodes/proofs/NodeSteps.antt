@@ -4,7 +4,7 @@ use Rattle.std.proofs.Common.{map, slice_index, set, refl, ap, sym, ◌∙◌, s
 use Rattle.std.proofs.lemmas.Bool.{cases_lt}
 use Rattle.std.proofs.lemmas.List.{get_or-set_same, get_or-set_other}
 use Rattle.flow_limits.specs.Limits.{most_jobs, most_machines, greatest_completion}
-use Rattle.flow_shop.specs.Shop.{Shop, IsWithinLimits, numbers, time, time_between}
+use Rattle.flow_shop.specs.Shop.{Shop, IsWithinLimits, numbers}
 use Rattle.flow_shop.specs.Least.{least}
 use Rattle.flow_shop.proofs.Recurrence.{completion-is, after-first}
 use Rattle.flow_shop.proofs.Extremes.{map-map-append}

@@ -186,7 +186,14 @@ impl Node {
     /// The bound of the child that puts a job that is left at an end, from the lane that has this bound, or the cap where
     /// that is less.
     #[inline(always)]
-    pub fn bound_from_lane(&self, instance: &Instance, end: End, job: u16, lane: u32, cap: u32) -> u32
+    pub fn bound_from_lane(
+        &self,
+        instance: &Instance,
+        end: End,
+        job: u16,
+        lane: u32,
+        cap: u32,
+    ) -> u32
         requires job { IsJob instance.now job }
         requires left { (first : List ℕ) × (last : List ℕ) × IsNode instance.now first last self.now
             × (has (first ++ last) job ≡ false) }

@@ -38,7 +38,7 @@ group-back ns h bs l rest all lab p =
       groups = (l ∷ p.head_lines ++ q.label ∷ r.rows) ∷ r.groups;
       more = block ∷ r.more;
       split = ap (λ x. l ∷ x) (p.split ∙ ap (λ x. p.head_lines ++ x) q.split ∙ ap (λ x. p.head_lines ++ q.label ∷ x)
-      r.split
+          r.split
           ∙ sym (append_assoc p.head_lines (q.label ∷ r.rows) others));
       each = (
         record {

@@ -24,5 +24,12 @@ returns-clause-begin c names within =
     chosen-kept c.loop-place.marks.words names
     ∙ kept-take (mark c.loop-place.marks.words) names c.args.count
     (λ i low. c.loop-place.invariant.marked i (omega (arith, low, c.loop-place-test.false)))
-    (λ i high one. omega (arith, one, c.loop-place.invariant.others i (omega (arith, high,
-    c.loop-place.auto.place-end))))
+    (λ i high one. omega (
+      arith,
+      one,
+      c.loop-place.invariant.others i (omega (
+        arith,
+        high,
+        c.loop-place.auto.place-end,
+      )),
+    ))

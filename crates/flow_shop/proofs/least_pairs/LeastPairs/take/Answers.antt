@@ -39,8 +39,10 @@ loop-place-preserved c =
                   ∙ least
                   ∙ ap (λ n. min (slice_index c.args.self.now.least n) (slice_index c.args.numbers.now n)) (sym e),
               ap (slice_index (set c.loop-place.self.second place c.with-two.result.second)) e
-                  ∙ get_or-set_same c.loop-place.self.second place c.with-two.result.second 0 (omega (arith,
-                  i.second_size))
+                  ∙ get_or-set_same c.loop-place.self.second place c.with-two.result.second 0 (omega (
+                    arith,
+                    i.second_size,
+                  ))
                   ∙ second
                   ∙ ap (λ n. min (slice_index c.args.self.now.second n) (max (slice_index c.args.self.now.least n)
                   (slice_index c.args.numbers.now n))) (sym e),

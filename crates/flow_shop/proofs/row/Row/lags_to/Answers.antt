@@ -1,9 +1,8 @@
-use Rattle.std.proofs.Common.{rules, ◌≡◌, ◌≢◌, ℕ, ◌+◌, ◌-◌, ◌<◌, slice_index, set, ap, sym, ◌∙◌, inl, inr, arith}
+use Rattle.std.proofs.Common.{rules, ◌≡◌, ◌≢◌, ℕ, ◌+◌, ◌-◌, ◌<◌, slice_index, set, ap, ◌∙◌, inl, inr, arith}
 use Rattle.std.proofs.lemmas.Bool.{cases_lt}
 use Rattle.std.proofs.lemmas.List.{get_or-set_same, get_or-set_other, length-set}
 use Rattle.flow_limits.specs.Limits.{most_machines}
 use Rattle.flow_shop.specs.Shop.{time_between}
-use Rattle.flow_shop.specs.TwoLeast.{time_to}
 use Rattle.flow_shop.proofs.row.Row.lags_to.Goals as goal
 
 pub loop-from-init : goal.loop-from-init
