@@ -1,6 +1,7 @@
 -- How a reader goes to a child and back.
 use Rattle.std.proofs.Common.{◌≡◌, ◌≢◌, ℕ, zero, suc, ◌+◌, ◌-◌, ◌<◌, ◌≤◌, List, [], ◌∷◌, ◌++◌, length, slice_index}
-use Rattle.std.proofs.Common.{slice_set, slice_index_or, replicate, set, get_or, Option, Some, None, false, refl, ap, sym, subst, ◌∙◌, arith}
+use Rattle.std.proofs.Common.{slice_set, slice_index_or, replicate, set, get_or, Option, Some, None, false, refl, ap}
+use Rattle.std.proofs.Common.{sym, subst, ◌∙◌, arith}
 use Rattle.std.proofs.Common.{IfSome}
 use Rattle.std.proofs.lemmas.List.{get_or_default, get_or-set_same, get_or-set_other, length-set, set-append_left}
 use Rattle.std.proofs.lemmas.List.{set-append_right, get_or-replicate, length-replicate}

@@ -183,8 +183,8 @@ impl Node {
         child.bound(instance)
     }
 
-    /// The bound of the child that puts a job that is left at an end, from the lane that has this bound, or the cap where
-    /// that is less.
+    /// The bound of the child that puts a job that is left at an end, from the lane that has this bound, or the cap
+    /// where that is less.
     #[inline(always)]
     pub fn bound_from_lane(
         &self,

@@ -24,7 +24,8 @@ impl Row {
     pub fn lag(&self, from: u16, to: u16) -> u32
         requires from { 1 ≤ from }
         requires order { from ≤ to }
-        requires row { (shop : Shop) × (job : ℕ) × IsWithinLimits shop × IsRow shop job self.now × (to ≤ shop.machines) }
+        requires row { (shop : Shop) × (job : ℕ) × IsWithinLimits shop × IsRow shop job self.now ×
+            (to ≤ shop.machines) }
         ensures { (shop : Shop) (job : ℕ) → IsRow shop job self.now → to ≤ shop.machines →
             result ≡ time_between shop job from (to - 1) }
     {

@@ -16,5 +16,6 @@ invariant-loop-earlier l = record {
       IsLagged shop node left job l.machine l.row l.lags →
       ((place : ℕ) → place < l.machine → slice_index l.free place ≡ slice_index front place) →
       l.made ≡ max (slice_index front (l.machine - 1))
-      (greatest (map (start_from shop front (jobs_left shop.jobs (node ++ job ∷ [])) l.machine) (numbers 1 (l.earlier - 1))));
+      (greatest (map (start_from shop front (jobs_left shop.jobs (node ++ job ∷ [])) l.machine) (numbers 1 (l.earlier
+      - 1))));
 }

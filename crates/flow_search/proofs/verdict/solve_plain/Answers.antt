@@ -31,4 +31,5 @@ loop-number-preserved c =
     sym c.refusal.ensures ∙ c.in_default.is in
     let done : IsDone c.answer-outcome.result =
     refuses-nothing c.loop-number.number c.answer-outcome.result none in
-    c.in_ok-add.ensures.done c.args.plan.now c.loop-number.number low c.loop-number.invariant c.answer-outcome.ensures done
+    c.in_ok-add.ensures.done c.args.plan.now c.loop-number.number low c.loop-number.invariant c.answer-outcome.ensures
+    done
