@@ -10,8 +10,8 @@ use Rattle.flow_commands.specs.Runs.{Came, CameBoth, CameSecond, Ends, EndsAlone
 use Rattle.flow_commands.specs.Runs.{IsUnwritten, Ran, Responds}
 use Rattle.flow_commands.specs.Runs.{SecondFailed, SinkRun, SourceRun, Stands, StopsAt, StopsAtSecond}
 use Rattle.flow_commands.specs.Runs.{Wrote, WrotePart, run_alone, run_of}
-use Rattle.flow_commands.specs.declared.fault.CommandFault.{CommandFault}
-use Rattle.flow_commands.specs.declared.fault.CommandFault.TheVariants as command
+use Rattle.flow_commands.specs.declared.refusals.CommandFault.{CommandFault}
+use Rattle.flow_commands.specs.declared.refusals.CommandFault.TheVariants as command
 use Rattle.flow_commands.specs.declared.files.FileKind.{FileKind}
 use Rattle.flow_commands.specs.declared.files.FileKind.TheVariants.{Text}
 use Rattle.flow_commands.specs.internal.Reading.{SecondCame, SecondStops, bytes_of}

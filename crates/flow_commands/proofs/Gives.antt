@@ -14,8 +14,8 @@ use Rattle.flow_core.specs.declared.text.start.StartFault.{StartFault}
 use Rattle.flow_core.specs.declared.text.start.StartFault.TheVariants as start
 use Rattle.flow_core.proofs.SequenceLemmas.{is-fault-none, sequence-fault-none-is}
 use Rattle.flow_core.proofs.StartFaultLemmas.{each_start_is_judged}
-use Rattle.flow_commands.specs.declared.fault.CommandFault.{CommandFault}
-use Rattle.flow_commands.specs.declared.fault.CommandFault.TheVariants as command
+use Rattle.flow_commands.specs.declared.refusals.CommandFault.{CommandFault}
+use Rattle.flow_commands.specs.declared.refusals.CommandFault.TheVariants as command
 use Rattle.flow_commands.specs.Start.{EachStartGivesOne, GivesStart}
 
 -- what jobs give that are a sequence

@@ -90,7 +90,7 @@ wrote-optimum request origin sink bytes text asked answers took =
 
 -- the request of certificates that are no two-ended ones
 abbrev alone : CheckRequest
-alone = record { bounds = false; output = Proved; optimal = false }
+alone = record { two_ended = false; output = Proved; optimal = false }
 
 -- what is written where these alone are taken is the least makespan
 pub wrote-least : {K : Type 0} (origin : Origin) (sink : SinkRun K) (bytes text : List ℕ) →

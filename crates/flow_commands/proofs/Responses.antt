@@ -7,8 +7,8 @@ use Rattle.flow_core.specs.declared.bytes.fault.WriteFault.TheVariants as write
 use Rattle.flow_commands.specs.Output.{Output}
 use Rattle.flow_commands.specs.internal.Devices.{NamesNoDevice}
 use Rattle.flow_commands.specs.Runs.{EndsAlone, IsUnwritten, Responds, SinkRun, Took, Wrote}
-use Rattle.flow_commands.specs.declared.fault.CommandFault.{CommandFault}
-use Rattle.flow_commands.specs.declared.fault.CommandFault.TheVariants as command
+use Rattle.flow_commands.specs.declared.refusals.CommandFault.{CommandFault}
+use Rattle.flow_commands.specs.declared.refusals.CommandFault.TheVariants as command
 
 write-is : (fault : WriteFault) → command.Write fault ≡ command.Write write.Device
 write-is write.Device = refl

@@ -4,7 +4,7 @@ use Rattle.flow_core.specs.Shop.{Shop}
 use Rattle.flow_commands.specs.Output.{Output}
 use Rattle.flow_commands.specs.Block.{Origin}
 use Rattle.flow_commands.specs.Start.{FromStart}
-use Rattle.flow_commands.specs.declared.fault.CommandFault.{CommandFault}
+use Rattle.flow_commands.specs.declared.refusals.CommandFault.{CommandFault}
 use Rattle.flow_commands.specs.internal.Given.{GivesSequence, RefusesStart}
 
 module _ (A : Shop → Option (List ℕ) → Output → Type 0) (origin : Origin) where

@@ -26,7 +26,7 @@ use Rattle.flow_commands.specs.Schedule.{AnswersSchedule, GivesTimed, WroteSched
 use Rattle.flow_commands.specs.Solve.{AnswersOptions, AnswersSolve, WroteCertificate}
 use Rattle.flow_search.specs.Choices.{versioned_or_fault}
 use Rattle.flow_commands.specs.Start.{FromStart}
-use Rattle.flow_commands.specs.declared.fault.CommandFault.{CommandFault}
+use Rattle.flow_commands.specs.declared.refusals.CommandFault.{CommandFault}
 use Rattle.flow_commands.specs.declared.timed.TimedSequence.{TimedSequence}
 use Rattle.flow_commands.proofs.Least.{says-proved, wrote-optimum}
 

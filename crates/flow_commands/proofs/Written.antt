@@ -5,7 +5,7 @@ use Rattle.flow_core.specs.Shop.{Shop}
 use Rattle.flow_commands.specs.Output.{Output}
 use Rattle.flow_commands.specs.Block.{Origin}
 use Rattle.flow_commands.specs.Runs.{CameBoth, CameFor, CameSecond, CommandRun, SinkRun, SourceRun, Took, Wrote}
-use Rattle.flow_commands.specs.declared.fault.CommandFault.{CommandFault}
+use Rattle.flow_commands.specs.declared.refusals.CommandFault.{CommandFault}
 use Rattle.flow_commands.specs.declared.files.FileKind.{FileKind}
 use Rattle.flow_commands.proofs.Drivers.{Relation}
 

@@ -3,8 +3,8 @@ use Rattle.std.specs.Prelude.{◌≡◌, ℕ, List, Result, Ok, Err}
 use Rattle.flow_core.specs.Picks.{HasBlock, HasBlocks, IsPickFault}
 use Rattle.flow_core.specs.declared.text.block.Block.{Block}
 use Rattle.flow_core.specs.declared.text.pick.PickFault.TheVariants as pick
-use Rattle.flow_commands.specs.declared.fault.CommandFault.{CommandFault}
-use Rattle.flow_commands.specs.declared.fault.CommandFault.TheVariants.{Index, Text}
+use Rattle.flow_commands.specs.declared.refusals.CommandFault.{CommandFault}
+use Rattle.flow_commands.specs.declared.refusals.CommandFault.TheVariants.{Index, Text}
 
 -- the block of a text that an index names, from 1; or the text's first fault; or that the text has no such block
 abbrev pub Picks : List ℕ → ℕ → Result Block CommandFault → Type 0

@@ -12,8 +12,8 @@ use Rattle.flow_requests.specs.declared.CertifyRequest.{CertifyRequest}
 use Rattle.flow_commands.specs.Output.{Output}
 use Rattle.flow_commands.specs.Improve.{IsImproved, improve_fault}
 use Rattle.flow_commands.specs.Runs.{SinkRun, Took}
-use Rattle.flow_commands.specs.declared.fault.CommandFault.{CommandFault}
-use Rattle.flow_commands.specs.declared.fault.CommandFault.TheVariants.{Directions, Workers}
+use Rattle.flow_commands.specs.declared.refusals.CommandFault.{CommandFault}
+use Rattle.flow_commands.specs.declared.refusals.CommandFault.TheVariants.{Directions, Workers}
 
 -- why `certify` refuses its numbers, if it does
 abbrev pub certify_fault : CertifyRequest → Option CommandFault

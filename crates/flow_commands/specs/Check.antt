@@ -19,8 +19,8 @@ use Rattle.flow_commands.specs.Block.{Origin}
 use Rattle.flow_commands.specs.Printed.{bounds_line, optimal_line, sequence_lines}
 use Rattle.flow_commands.specs.Report.{report_lines}
 use Rattle.flow_commands.specs.Runs.{SinkRun, Took}
-use Rattle.flow_commands.specs.declared.fault.CommandFault.{CommandFault}
-use Rattle.flow_commands.specs.declared.fault.CommandFault.TheVariants as command
+use Rattle.flow_commands.specs.declared.refusals.CommandFault.{CommandFault}
+use Rattle.flow_commands.specs.declared.refusals.CommandFault.TheVariants as command
 
 -- the line of the bounds that a text proves: of the least makespan, where they are one number
 abbrev pub proved_line : Bounds → List ℕ

@@ -8,7 +8,7 @@ use Rattle.flow_core.specs.declared.instance.InstanceFault.{InstanceFault}
 use Rattle.flow_bound.specs.Neh.{IsNeh}
 use Rattle.flow_bound.specs.Taillard.{taillard_bound}
 use Rattle.flow_commands.specs.Output.{Output}
-use Rattle.flow_commands.specs.declared.fault.CommandFault.TheVariants.{Instance}
+use Rattle.flow_commands.specs.declared.refusals.CommandFault.TheVariants.{Instance}
 
 -- the text of a generated instance: upper bound is the makespan of the starting sequence, lower bound Taillard's
 abbrev pub IsGeneratedText : ℕ → Shop → List ℕ → Type 0

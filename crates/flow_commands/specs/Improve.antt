@@ -9,8 +9,8 @@ use Rattle.flow_requests.specs.declared.ImproveRequest.{ImproveRequest}
 use Rattle.flow_commands.specs.Output.{Output}
 use Rattle.flow_commands.specs.Printed.{sequence_lines}
 use Rattle.flow_commands.specs.Start.{StartsFrom}
-use Rattle.flow_commands.specs.declared.fault.CommandFault.{CommandFault}
-use Rattle.flow_commands.specs.declared.fault.CommandFault.TheVariants.{Improve}
+use Rattle.flow_commands.specs.declared.refusals.CommandFault.{CommandFault}
+use Rattle.flow_commands.specs.declared.refusals.CommandFault.TheVariants.{Improve}
 
 -- why `improve` refuses its numbers, if it does
 abbrev pub improve_fault : ImproveRequest → Option CommandFault

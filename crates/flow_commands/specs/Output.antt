@@ -3,7 +3,7 @@
 use Rattle.std.specs.Prelude.{ℕ, List, [], Option, unwrap_or, Result}
 use Rattle.flow_core.specs.Shop.{Shop}
 use Rattle.flow_commands.specs.Block.{Origin}
-use Rattle.flow_commands.specs.declared.fault.CommandFault.{CommandFault}
+use Rattle.flow_commands.specs.declared.refusals.CommandFault.{CommandFault}
 
 -- an answer: the text that is written, or the first fault
 abbrev pub Output : Type 0

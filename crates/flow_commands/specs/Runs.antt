@@ -11,8 +11,8 @@ use Rattle.flow_core.specs.declared.bytes.fault.WriteFault.TheVariants as write
 use Rattle.flow_commands.specs.Output.{Output}
 use Rattle.flow_commands.specs.Block.{IsPicked, Origin, Picks}
 use Rattle.flow_commands.specs.Files.{IsWithin}
-use Rattle.flow_commands.specs.declared.fault.CommandFault.{CommandFault}
-use Rattle.flow_commands.specs.declared.fault.CommandFault.TheVariants as command
+use Rattle.flow_commands.specs.declared.refusals.CommandFault.{CommandFault}
+use Rattle.flow_commands.specs.declared.refusals.CommandFault.TheVariants as command
 use Rattle.flow_commands.specs.declared.files.FileKind.{FileKind}
 use Rattle.flow_commands.specs.declared.files.FileKind.TheVariants.{Text}
 

@@ -15,7 +15,7 @@ use Rattle.flow_commands.specs.Check.{RefusesText}
 use Rattle.flow_commands.specs.Files.{BeginsAsCertificate}
 use Rattle.flow_commands.specs.Runs.{SinkRun, Took}
 use Rattle.flow_commands.specs.Start.{GivesStart}
-use Rattle.flow_commands.specs.declared.fault.CommandFault.{CommandFault}
+use Rattle.flow_commands.specs.declared.refusals.CommandFault.{CommandFault}
 use Rattle.flow_commands.specs.declared.timed.TimedSequence.{TimedSequence}
 
 -- the schedule of a sequence in a form: its table, or a picture of it with its lower bound

@@ -14,7 +14,7 @@ use Rattle.flow_requests.specs.declared.SolveRequest.{SolveRequest}
 use Rattle.flow_commands.specs.Output.{Output}
 use Rattle.flow_commands.specs.Runs.{SinkRun, Took}
 use Rattle.flow_commands.specs.Start.{StartsFrom}
-use Rattle.flow_commands.specs.declared.fault.CommandFault.TheVariants.{Choice, Plan, Run}
+use Rattle.flow_commands.specs.declared.refusals.CommandFault.TheVariants.{Choice, Plan, Run}
 
 -- what `solve` answers for a plan: its certificate, where each tree is within the budget; or the first prefix whose
 -- tree is not; or that a worker could not be started, of which nothing more is said

@@ -5,7 +5,7 @@ use Rattle.flow_core.specs.Paths.{span}
 use Rattle.flow_core.specs.SequenceFaults.{sequence_fault}
 use Rattle.flow_commands.specs.Output.{Output}
 use Rattle.flow_commands.specs.Printed.{makespan_line}
-use Rattle.flow_commands.specs.declared.fault.CommandFault.TheVariants.{Sequence}
+use Rattle.flow_commands.specs.declared.refusals.CommandFault.TheVariants.{Sequence}
 
 -- the makespan of the jobs in this order, or their first fault
 abbrev pub span_answer : Shop → List ℕ → Output

@@ -10,8 +10,8 @@ use Rattle.flow_core.specs.declared.text.start.StartFault.TheVariants.{Line}
 use Rattle.flow_bound.specs.Neh.{IsNeh}
 use Rattle.flow_commands.specs.Output.{Output}
 use Rattle.flow_commands.specs.Block.{Origin}
-use Rattle.flow_commands.specs.declared.fault.CommandFault.{CommandFault}
-use Rattle.flow_commands.specs.declared.fault.CommandFault.TheVariants.{Sequence, Start}
+use Rattle.flow_commands.specs.declared.refusals.CommandFault.{CommandFault}
+use Rattle.flow_commands.specs.declared.refusals.CommandFault.TheVariants.{Sequence, Start}
 
 -- what a start text gives for a shop: its jobs, which are a sequence with the makespan that they are said to have; or
 -- the first fault: of the text; of its jobs; or the line of the claim, where their makespan is another one

@@ -8,7 +8,7 @@ ghost use Rattle.flow_commands.specs.Runs.{CameBoth, Ran, run_of, second_run, si
 use crate::certify::run_certify;
 use crate::check::Check;
 use crate::command::{Printed, run_over};
-use crate::fault::CommandFault;
+use crate::refusals::CommandFault;
 use crate::files::FileKind;
 use crate::improve::run_improve;
 use crate::neh::Neh;

@@ -5,7 +5,7 @@ ghost use Rattle.flow_commands.specs.internal.Devices.{NamesNoDevice};
 ghost use Rattle.flow_commands.specs.Block.{IsPicked, Picks};
 ghost use Rattle.flow_commands.specs.internal.Picked.{origin_of};
 
-use crate::fault::CommandFault;
+use crate::refusals::CommandFault;
 use flow_core::{Block, Pick, pick_block};
 use std::alloc::Global;
 

@@ -12,7 +12,7 @@ ghost use Rattle.flow_commands.specs.Start.{FromStart};
 
 use crate::block::PickedBlock;
 use crate::command::{Command, run_over};
-use crate::fault::CommandFault;
+use crate::refusals::CommandFault;
 use crate::files::FileKind;
 use crate::improve::effort_of;
 use crate::start::{sequence_given, start_of};

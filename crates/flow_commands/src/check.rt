@@ -12,7 +12,7 @@ ghost use Rattle.flow_commands.specs.Runs.{CameBoth, CameFor, Ran, Wrote, run_of
 
 use crate::block::PickedBlock;
 use crate::command::{Answering, Printed, run_with};
-use crate::fault::CommandFault;
+use crate::refusals::CommandFault;
 use crate::files::{FileKind, bytes_or_none};
 use crate::printed::{bounds_line, optimal_line, sequence_lines};
 use crate::report::report_lines;
@@ -128,7 +128,7 @@ pub fn run_check<S: Source, C: Source, K: Sink>(
     requires cert_works { C.has_failed cert.old ≡ false }
     requires out_works { K.has_failed out.old ≡ false }
     ensures ran { Ran FileKind.Certificate
-        (OfBytes (AnswersCheck (record { bounds = false; output = Proved; optimal = false }))) index
+        (OfBytes (AnswersCheck (record { two_ended = false; output = Proved; optimal = false }))) index
         (run_of (source_run S.Source file.old file.new) (Some (source_run C.Source cert.old cert.new))
         (sink_run K.Sink out.old out.new)) result }
     ensures least { OnOk result (CameFor index (λ shop. WroteLeast shop (sink_run K.Sink out.old out.new))

@@ -15,7 +15,7 @@ ghost use Rattle.flow_commands.specs.internal.Picked.{origin_of};
 ghost use Rattle.flow_commands.specs.internal.Reading.{SecondCame, SecondStops, bytes_of};
 
 use crate::block::{PickedBlock, block_at};
-use crate::fault::CommandFault;
+use crate::refusals::CommandFault;
 use flow_core::{MAX_CERTIFICATE, MAX_TEXT, ReadFault, Source, read_all, read_by_begin};
 use std::alloc::Global;
 

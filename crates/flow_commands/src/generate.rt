@@ -4,7 +4,7 @@ ghost use Rattle.std.specs.Prelude.{◌≡◌, false, IfOk};
 ghost use Rattle.flow_commands.specs.Generate.{AnswersGen, IsGeneratedText};
 ghost use Rattle.flow_commands.specs.Runs.{Responds, sink_run};
 
-use crate::fault::CommandFault;
+use crate::refusals::CommandFault;
 use flow_bound::{neh, taillard_bound};
 use flow_core::{Block, Instance, Sink, block_text, generate, put_all};
 use std::alloc::{AllocError, Global};

@@ -12,7 +12,7 @@ ghost use Rattle.flow_commands.specs.Start.{FromStart};
 
 use crate::block::PickedBlock;
 use crate::command::{Answering, Printed, run_over};
-use crate::fault::CommandFault;
+use crate::refusals::CommandFault;
 use crate::files::FileKind;
 use crate::printed::sequence_lines;
 use crate::start::{sequence_given, start_of};

@@ -2,7 +2,7 @@
 //!
 //! Each command has a file of its word, and what it answers is said in the file of that name in `specs/`. (`gen` is a
 //! word of the language, so its files are `generate`.) What it is asked for stands in flow_requests; a fault of a new
-//! kind stands in `fault`, a law of the definitions in `laws`.
+//! kind stands in `refusals`, a law of the definitions in `laws`.
 #![tactic(auto)]
 
 mod any_request;
@@ -10,7 +10,7 @@ mod block;
 mod certify;
 mod check;
 mod command;
-mod fault;
+mod refusals;
 mod files;
 mod generate;
 mod improve;
@@ -27,7 +27,7 @@ mod timed;
 pub use any_request::run_request;
 pub use certify::run_certify;
 pub use check::{run_check, run_check_as};
-pub use fault::{CommandFault, ToolFault};
+pub use refusals::{CommandFault, ToolFault};
 pub use flow_improve::EffortFault;
 pub use flow_requests::{
     CertifyRequest, CheckOutput, CheckRequest, ImproveRequest, Request, ScheduleForm, SolveRequest,

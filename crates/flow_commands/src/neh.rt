@@ -7,7 +7,7 @@ ghost use Rattle.flow_commands.specs.Runs.{Ran, run_alone, sink_run, source_run}
 
 use crate::block::PickedBlock;
 use crate::command::{Answering, Printed, run_over};
-use crate::fault::CommandFault;
+use crate::refusals::CommandFault;
 use crate::files::FileKind;
 use crate::printed::sequence_lines;
 use flow_bound::neh;

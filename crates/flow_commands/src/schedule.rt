@@ -8,7 +8,7 @@ ghost use Rattle.flow_commands.specs.Schedule.{AnswersSchedule, IsSchedule, Wrot
 
 use crate::block::PickedBlock;
 use crate::command::{Answering, Printed, run_with};
-use crate::fault::CommandFault;
+use crate::refusals::CommandFault;
 use crate::files::{FileKind, bytes_or_none};
 use crate::timed::{TimedSequence, timed_sequence};
 use flow_core::{Instance, Sink, Source};

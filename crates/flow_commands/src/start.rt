@@ -7,7 +7,7 @@ ghost use Rattle.flow_commands.specs.Start.{GivesStart, StartsFrom};
 ghost use Rattle.flow_commands.specs.internal.Given.{GivesSequence, RefusesStart};
 ghost use Rattle.flow_commands.specs.internal.Reading.{bytes_of};
 
-use crate::fault::CommandFault;
+use crate::refusals::CommandFault;
 use flow_bound::neh;
 use flow_core::{Instance, Sequence, StartFault, makespan, read_start};
 use std::alloc::{AllocError, Global};

@@ -1,18 +1,13 @@
-//! The limits as constants. Contracts name the numbers in `specs/Limits.antt`, and the law at the end says that these
-//! are the same.
+//! The limits as constants. Contracts name the numbers in `specs/Limits.antt`, and the law says that these are the same.
 #![tactic(auto)]
 
+ghost use Rattle.std.specs.Int.{is_in_range};
 ghost use Rattle.std.specs.Prelude.{◌≡◌};
-ghost use Rattle.flow_limits.specs.Limits.{most_jobs, most_machines, greatest_time};
-ghost use Rattle.flow_limits.specs.Limits.{greatest_number, greatest_seed};
-ghost use Rattle.flow_limits.specs.Limits.{greatest_depth, least_version, greatest_version};
-ghost use Rattle.flow_limits.specs.Limits.{most_workers, most_prefixes, greatest_budget};
-ghost use Rattle.flow_limits.specs.Limits.{most_text, most_certificate, most_rounds, most_width, most_work};
-ghost use Rattle.flow_limits.specs.Limits.{most_directions};
+ghost use Rattle.flow_limits.specs.Limits.{most_jobs, most_machines};
 
-mod sizes;
+mod laws;
 
-pub use sizes::{may_have_jobs, may_have_machines};
+pub use laws::limits_are_those_stated;
 
 /// The most jobs of an instance.
 pub const MAX_JOBS: usize = 800;
@@ -65,23 +60,16 @@ pub const MAX_WORK: u32 = 1_000_000;
 /// The most directions of a proof.
 pub const MAX_DIRECTIONS: u32 = 1_000_000_000;
 
-/// The constants of the code are the limits that the contracts name.
-pub fn limits_are_those_stated()
-    ensures jobs { MAX_JOBS ≡ most_jobs }
-    ensures machines { MAX_MACHINES ≡ most_machines }
-    ensures time { MAX_TIME ≡ greatest_time }
-    ensures number { MAX_NUMBER ≡ greatest_number }
-    ensures seed { MAX_SEED ≡ greatest_seed }
-    ensures depth { MAX_DEPTH ≡ greatest_depth }
-    ensures least_version { MIN_VERSION ≡ least_version }
-    ensures greatest_version { MAX_VERSION ≡ greatest_version }
-    ensures workers { MAX_WORKERS ≡ most_workers }
-    ensures prefixes { MAX_PREFIXES ≡ most_prefixes }
-    ensures budget { MAX_BUDGET ≡ greatest_budget }
-    ensures text { MAX_TEXT ≡ most_text }
-    ensures certificate { MAX_CERTIFICATE ≡ most_certificate }
-    ensures rounds { MAX_ROUNDS ≡ most_rounds }
-    ensures width { MAX_WIDTH ≡ most_width }
-    ensures work { MAX_WORK ≡ most_work }
-    ensures directions { MAX_DIRECTIONS ≡ most_directions }
-{}
+/// Whether an instance may have so many jobs.
+pub fn may_have_jobs(jobs: u32) -> bool
+    ensures { result ≡ is_in_range 1 most_jobs jobs }
+{
+    jobs >= 1 && jobs as usize <= MAX_JOBS
+}
+
+/// Whether an instance may have so many machines.
+pub fn may_have_machines(machines: u32) -> bool
+    ensures { result ≡ is_in_range 1 most_machines machines }
+{
+    machines >= 1 && machines as usize <= MAX_MACHINES
+}

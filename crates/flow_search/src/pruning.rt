@@ -64,86 +64,84 @@ pub fn pruning_of_node(
     }
 }
 
-impl Frame {
-    /// The least tail after a machine of the jobs left without one of them, by its own tail.
-    #[inline(always)]
-    fn tail_without(&self, machine: u16, own: u32) -> u32
-        requires from { 1 ≤ machine }
-        requires to { machine ≤ self.now.loads.machines }
-        requires limit { machine ≤ most_machines }
-        ensures { IsLeastWithout own (slice_index self.now.loads.tails (machine - 1))
-            (slice_index self.now.second (machine - 1)) result }
-    {
-        let tails = TwoLeast {
-            least: self.loads.tail(machine),
-            second: self.second[machine as usize - 1],
-        };
-        tails.without(own)
-    }
+/// The least tail after a machine of the jobs left without one of them, by its own tail.
+#[inline(always)]
+fn tail_without(here: &Frame, machine: u16, own: u32) -> u32
+    requires from { 1 ≤ machine }
+    requires to { machine ≤ here.now.loads.machines }
+    requires limit { machine ≤ most_machines }
+    ensures { IsLeastWithout own (slice_index here.now.loads.tails (machine - 1))
+        (slice_index here.now.second (machine - 1)) result }
+{
+    let tails = TwoLeast {
+        least: here.loads.tail(machine),
+        second: here.second[machine as usize - 1],
+    };
+    tails.without(own)
+}
 
-    /// The first machine that prunes a child by the machine bound: whose machine bound there reaches a value.
-    fn pruning_of_child_plain(&self, setting: &Setting, job: u16, value: u64) -> Option<u16>
-        requires at { (node : List ℕ) × (left : ℕ) × IsFrame (shop_of setting.now) node (suc (suc left)) self.now
-            × IsChild (shop_of setting.now).jobs node job }
-        ensures { (node : List ℕ) (left : ℕ) → IsFrame (shop_of setting.now) node (suc (suc left)) self.now →
-            IsChild (shop_of setting.now).jobs node job →
-            result ≡ first_reaching (shop_of setting.now) value (bound_at (shop_of setting.now) (node ++ job ∷ [])) }
-    {
-        let row = &setting.rows[job as usize - 1];
-        let mut free = 0;
-        for machine in 1..setting.instance.machines() + 1 {
-            let place = machine as usize - 1;
-            let start = self.front.at(machine).max(free);
-            let tail = self.tail_without(machine, row.tails[place]);
-            if value <= start + u64::from(self.loads.sum(machine)) + u64::from(tail) {
-                return Some(machine);
-            }
-            free = start + u64::from(row.times[place]);
+/// The first machine that prunes a child by the machine bound: whose machine bound there reaches a value.
+fn pruning_of_child_plain(here: &Frame, setting: &Setting, job: u16, value: u64) -> Option<u16>
+    requires at { (node : List ℕ) × (left : ℕ) × IsFrame (shop_of setting.now) node (suc (suc left)) here.now
+        × IsChild (shop_of setting.now).jobs node job }
+    ensures { (node : List ℕ) (left : ℕ) → IsFrame (shop_of setting.now) node (suc (suc left)) here.now →
+        IsChild (shop_of setting.now).jobs node job →
+        result ≡ first_reaching (shop_of setting.now) value (bound_at (shop_of setting.now) (node ++ job ∷ [])) }
+{
+    let row = &setting.rows[job as usize - 1];
+    let mut free = 0;
+    for machine in 1..setting.instance.machines() + 1 {
+        let place = machine as usize - 1;
+        let start = here.front.at(machine).max(free);
+        let tail = tail_without(here, machine, row.tails[place]);
+        if value <= start + u64::from(here.loads.sum(machine)) + u64::from(tail) {
+            return Some(machine);
         }
-        None
+        free = start + u64::from(row.times[place]);
     }
+    None
+}
 
-    /// The first machine that prunes a child by the released bound: whose released bound there reaches a value. It goes
-    /// by the lags of the jobs left.
-    #[inline(never)]
-    fn pruning_of_child_released(
-        &self,
-        setting: &Setting,
-        lags: &LeastLags,
-        job: u16,
-        value: u64,
-    ) -> Option<u16>
-        requires at { (node : List ℕ) × (left : ℕ) × IsFrame (shop_of setting.now) node (suc (suc left)) self.now
-            × IsChild (shop_of setting.now).jobs node job
-            × AreLeastLags (shop_of setting.now) (jobs_left (shop_of setting.now).jobs node) lags.now }
-        ensures { (node : List ℕ) (left : ℕ) → IsFrame (shop_of setting.now) node (suc (suc left)) self.now →
-            IsChild (shop_of setting.now).jobs node job →
-            AreLeastLags (shop_of setting.now) (jobs_left (shop_of setting.now).jobs node) lags.now →
-            result ≡ first_reaching (shop_of setting.now) value
-            (released_bound_at (shop_of setting.now) (node ++ job ∷ [])) }
-    {
-        let row = &setting.rows[job as usize - 1];
-        let mut free = [0u32; MAX_MACHINES];
-        let mut leaves = 0;
-        for machine in 1..setting.instance.machines() + 1 {
-            let place = machine as usize - 1;
-            let start = self.front.at(machine).max(leaves);
-            let time = u64::from(row.times[place]);
-            let tail = self.tail_without(machine, row.tails[place]);
-            let work = u64::from(self.loads.sum(machine)) + u64::from(tail);
-            // The released bound is at least the machine bound.
-            if value <= start + work {
-                return Some(machine);
-            }
-            leaves = start + time;
-            free[place] = leaves as u32;
-            let release = u64::from(release_at_child(row, &lags[place], &free, machine));
-            if value <= release - time + work {
-                return Some(machine);
-            }
+/// The first machine that prunes a child by the released bound: whose released bound there reaches a value. It goes
+/// by the lags of the jobs left.
+#[inline(never)]
+fn pruning_of_child_released(
+    here: &Frame,
+    setting: &Setting,
+    lags: &LeastLags,
+    job: u16,
+    value: u64,
+) -> Option<u16>
+    requires at { (node : List ℕ) × (left : ℕ) × IsFrame (shop_of setting.now) node (suc (suc left)) here.now
+        × IsChild (shop_of setting.now).jobs node job
+        × AreLeastLags (shop_of setting.now) (jobs_left (shop_of setting.now).jobs node) lags.now }
+    ensures { (node : List ℕ) (left : ℕ) → IsFrame (shop_of setting.now) node (suc (suc left)) here.now →
+        IsChild (shop_of setting.now).jobs node job →
+        AreLeastLags (shop_of setting.now) (jobs_left (shop_of setting.now).jobs node) lags.now →
+        result ≡ first_reaching (shop_of setting.now) value
+        (released_bound_at (shop_of setting.now) (node ++ job ∷ [])) }
+{
+    let row = &setting.rows[job as usize - 1];
+    let mut free = [0u32; MAX_MACHINES];
+    let mut leaves = 0;
+    for machine in 1..setting.instance.machines() + 1 {
+        let place = machine as usize - 1;
+        let start = here.front.at(machine).max(leaves);
+        let time = u64::from(row.times[place]);
+        let tail = tail_without(here, machine, row.tails[place]);
+        let work = u64::from(here.loads.sum(machine)) + u64::from(tail);
+        // The released bound is at least the machine bound.
+        if value <= start + work {
+            return Some(machine);
         }
-        None
+        leaves = start + time;
+        free[place] = leaves as u32;
+        let release = u64::from(release_at_child(row, &lags[place], &free, machine));
+        if value <= release - time + work {
+            return Some(machine);
+        }
     }
+    None
 }
 
 /// The first machine that prunes a child: whose bound there, which is that of the version, reaches the makespan of the
@@ -163,8 +161,8 @@ pub fn pruning_of_child(
     ensures { result ≡ pruned_at setting.now search.now.value (search.now.node.items ++ job ∷ []) }
 {
     if has_releases(setting.version) {
-        here.pruning_of_child_released(setting, lags, job, search.value)
+        pruning_of_child_released(here, setting, lags, job, search.value)
     } else {
-        here.pruning_of_child_plain(setting, job, search.value)
+        pruning_of_child_plain(here, setting, job, search.value)
     }
 }

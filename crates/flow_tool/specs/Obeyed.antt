@@ -6,7 +6,7 @@ use Rattle.flow_requests.specs.declared.Invocation.TheVariants.{Gen, OfBlock}
 use Rattle.flow_commands.specs.Generate.{AnswersGen}
 use Rattle.flow_commands.specs.Request.{answers, kind_of}
 use Rattle.flow_commands.specs.Runs.{IsUnwritten, Ran, Responds, SinkRun, run_of}
-use Rattle.flow_commands.specs.declared.fault.CommandFault.{CommandFault}
+use Rattle.flow_commands.specs.declared.refusals.CommandFault.{CommandFault}
 use Rattle.flow_tool.specs.Inputs.{Names, RefusedSecond, RefusedText, RunOfSecond, RunOfText}
 use Rattle.flow_tool.specs.declared.stop.Stop.{Stop}
 use Rattle.flow_tool.specs.declared.stop.Stop.TheVariants.{Fault, Open}

@@ -1,6 +1,6 @@
 -- The status with which the program ends where it did not do what it was asked for.
 use Rattle.std.specs.Prelude.{ℕ}
-use Rattle.flow_commands.specs.declared.fault.CommandFault.TheVariants.{Read, Write}
+use Rattle.flow_commands.specs.declared.refusals.CommandFault.TheVariants.{Read, Write}
 use Rattle.flow_tool.specs.declared.stop.Stop.{Stop}
 use Rattle.flow_tool.specs.declared.stop.Stop.TheVariants.{CommandLine, Fault, Open}
 

@@ -2,7 +2,7 @@
 use Rattle.std.specs.Prelude.{ℕ, List, Option, Some, None, Ok, Err}
 use Rattle.flow_core.specs.Shop.{Shop}
 use Rattle.flow_commands.specs.Start.{GivesStart}
-use Rattle.flow_commands.specs.declared.fault.CommandFault.{CommandFault}
+use Rattle.flow_commands.specs.declared.refusals.CommandFault.{CommandFault}
 
 -- a start text gives this sequence; or there is neither
 abbrev pub GivesSequence : Shop → Option (List ℕ) → Option (List ℕ) → Type 0

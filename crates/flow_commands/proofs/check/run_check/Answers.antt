@@ -11,7 +11,7 @@ use Rattle.flow_commands.proofs.check.run_check.Goals as goal
 pub returns-clause-least : goal.returns-clause-least
 returns-clause-least g c =
     let sink = sink_run g.K.Sink c.args.out.now c.run_check_as.new.out in
-    came-for Certificate (OfBytes (AnswersCheck (record { bounds = false; output = Proved; optimal = false })))
+    came-for Certificate (OfBytes (AnswersCheck (record { two_ended = false; output = Proved; optimal = false })))
     c.args.index
     (run_of (source_run g.S.Source c.args.file.now c.run_check_as.new.file)
     (Some (source_run g.C.Source c.args.cert.now c.run_check_as.new.cert)) sink) c.run_check_as.result

@@ -1,6 +1,6 @@
 use Rattle.std.proofs.Common.{◌∙◌, ◌≡◌, ◌⊎◌, ℕ, List, Err, IfErr, IfOk, Ok, subst}
 use Rattle.flow_commands.specs.Schedule.{AnswersSchedule}
-use Rattle.flow_commands.specs.declared.fault.CommandFault.TheVariants.{Memory}
+use Rattle.flow_commands.specs.declared.refusals.CommandFault.TheVariants.{Memory}
 use Rattle.flow_commands.proofs.schedule.ScheduleAnswering.answer.Goals as goal
 
 pub returns-clause-text : goal.returns-clause-text

@@ -17,10 +17,10 @@ use Rattle.flow_shop.specs.declared.least_pairs.LeastPairs.{LeastPairs}
 use Rattle.flow_search.proofs.Children.{child-bound, child-released, frame-within}
 use Rattle.flow_search.proofs.ColumnsPassed.{done-more}
 use Rattle.flow_search.proofs.Nodes.{find-here, find-skip, find-past}
-use Rattle.flow_search.proofs.frame.Frame.pruning_of_child_released.Goals as goal
-use Rattle.flow_search.proofs.frame.Frame.pruning_of_child_released.Goals.{After-max-start, After-from-time}
-use Rattle.flow_search.proofs.frame.Frame.pruning_of_child_released.Goals.{After-from-in-loop-machine}
-use Rattle.flow_search.proofs.frame.Frame.pruning_of_child_released.Goals.{After-release_at_child}
+use Rattle.flow_search.proofs.pruning.pruning_of_child_released.Goals as goal
+use Rattle.flow_search.proofs.pruning.pruning_of_child_released.Goals.{After-max-start, After-from-time}
+use Rattle.flow_search.proofs.pruning.pruning_of_child_released.Goals.{After-from-in-loop-machine}
+use Rattle.flow_search.proofs.pruning.pruning_of_child_released.Goals.{After-release_at_child}
 
 abbrev none : Row
 none = record { times = []; tails = [] }
@@ -35,8 +35,8 @@ start-small c =
     let k : ℕ = c.loop-machine.machine in
     let low : 1 ≤ k = c.loop-machine.auto.machine in
     let high : k ≤ shop.machines = omega (arith, c.loop-machine-test.true, c.machines-machine-end.ensures.value) in
-    let within : slice_index c.args.self.now.front (k - 1) ≤ greatest_completion =
-    frame-within shop c.requires.at.0 (suc (suc c.requires.at.1)) c.args.self.now c.args.setting.now.are_rows.limits
+    let within : slice_index c.args.here.now.front (k - 1) ≤ greatest_completion =
+    frame-within shop c.requires.at.0 (suc (suc c.requires.at.1)) c.args.here.now c.args.setting.now.are_rows.limits
     c.requires.at.2
     (k - 1) (omega arith) in (
       omega (arith, c.max-start.ensures, c.at.ensures, within, c.loop-machine.invariant.small),
@@ -62,13 +62,13 @@ leaves-small c =
 
 -- when it leaves the machine is the child's completion time there
 leaves-is : (c : After-from-time) (node : List ℕ) (left : ℕ) →
-    IsFrame c.args.setting.now.instance.now node (suc (suc left)) c.args.self.now →
+    IsFrame c.args.setting.now.instance.now node (suc (suc left)) c.args.here.now →
     c.max-start.result + c.from-time.result
     ≡ completion c.args.setting.now.instance.now (node ++ c.args.job ∷ []) c.loop-machine.machine
 leaves-is c node left is =
     let shop : Shop = c.args.setting.now.instance.now in
     let k : ℕ = c.loop-machine.machine in
-    let front : List ℕ = c.args.self.now.front in
+    let front : List ℕ = c.args.here.now.front in
     let low : 1 ≤ k = c.loop-machine.auto.machine in
     let begins = start-small (goal.at.After-from-time c).After-max-start in
     let kid = c.requires.at.3 in
@@ -83,7 +83,7 @@ leaves-is c node left is =
 
 -- the child's machine bound
 bounded : (c : After-from-in-loop-machine) (node : List ℕ) (left : ℕ) →
-    IsFrame c.args.setting.now.instance.now node (suc (suc left)) c.args.self.now →
+    IsFrame c.args.setting.now.instance.now node (suc (suc left)) c.args.here.now →
     IsChild c.args.setting.now.instance.now.jobs node c.args.job →
     (c.max-start.result + (c.from.result + c.from-in-loop-machine.result)
     ≡ bound_at c.args.setting.now.instance.now (node ++ c.args.job ∷ []) c.loop-machine.machine)
@@ -99,7 +99,7 @@ bounded c node left is kid =
     let there : c.from-time.result ≡ time shop job k = c.from-time.ensures ∙ row.0 in
     let tail : ℕ = slice_index (slice_index_or c.args.setting.now.rows.now (job - 1) none).tails (k - 1) in
     let bound = child-bound shop node left job k c.max-start.result c.from-time.result tail c.tail_without-tail.result
-    c.args.self.now c.args.setting.now.are_rows.limits is kid low begins.1 total there row.1
+    c.args.here.now c.args.setting.now.are_rows.limits is kid low begins.1 total there row.1
     c.tail_without-tail.ensures in (
       omega (arith, bound.0, c.sum.ensures, c.from.ensures, c.from-in-loop-machine.ensures),
       omega (arith, bound.1, c.from-in-loop-machine.ensures),
@@ -107,7 +107,7 @@ bounded c node left is kid =
 
 -- the child's front on the machines so far
 free-is : (c : After-from-time) (node : List ℕ) (left : ℕ) →
-    IsFrame c.args.setting.now.instance.now node (suc (suc left)) c.args.self.now → (place : ℕ) →
+    IsFrame c.args.setting.now.instance.now node (suc (suc left)) c.args.here.now → (place : ℕ) →
     place < c.loop-machine.machine →
     slice_index (set c.loop-machine.free (c.loop-machine.machine - 1) (c.max-start.result + c.from-time.result)) place
     ≡ completion c.args.setting.now.instance.now (node ++ c.args.job ∷ []) (place + 1)
@@ -137,7 +137,7 @@ free-small c place within =
 
 -- the job, its row and the lags to the machine
 lagged : (c : After-from-time) (node : List ℕ) (left : ℕ) →
-    IsFrame c.args.setting.now.instance.now node (suc (suc left)) c.args.self.now →
+    IsFrame c.args.setting.now.instance.now node (suc (suc left)) c.args.here.now →
     IsChild c.args.setting.now.instance.now.jobs node c.args.job →
     AreLeastLags c.args.setting.now.instance.now (jobs_left c.args.setting.now.instance.now.jobs node)
     c.args.lags.now →
@@ -157,7 +157,7 @@ lagged c node left is kid lags other =
 
 -- the child's released bound
 released : (c : After-release_at_child) (node : List ℕ) (left : ℕ) →
-    IsFrame c.args.setting.now.instance.now node (suc (suc left)) c.args.self.now →
+    IsFrame c.args.setting.now.instance.now node (suc (suc left)) c.args.here.now →
     IsChild c.args.setting.now.instance.now.jobs node c.args.job →
     AreLeastLags c.args.setting.now.instance.now (jobs_left c.args.setting.now.instance.now.jobs node)
     c.args.lags.now →
@@ -188,7 +188,7 @@ released c node left is kid lags =
     omega (arith, c.release_at_child.ensures.least, here) in
     let tail : ℕ = slice_index (slice_index_or c.args.setting.now.rows.now (job - 1) none).tails (k - 1) in
     let bound = child-released shop node left job k c.release_at_child.result c.from-time.result tail
-    c.tail_without-tail.result c.args.self.now c.args.setting.now.are_rows.limits is kid low begins.1 late least there
+    c.tail_without-tail.result c.args.here.now c.args.setting.now.are_rows.limits is kid low begins.1 late least there
     row.1
     c.tail_without-tail.ensures in (
       omega (arith, bound, c.sum.ensures, c.from.ensures, c.from-in-loop-machine.ensures),
@@ -280,7 +280,7 @@ pub loop-machine-preserved : goal.loop-machine-preserved
 loop-machine-preserved c =
     let shop : Shop = c.args.setting.now.instance.now in
     let k : ℕ = c.loop-machine.machine in
-    let front : List ℕ = c.args.self.now.front in
+    let front : List ℕ = c.args.here.now.front in
     let at = (goal.at.loop-machine-preserved c).After-from-time in
     let begins = start-small (goal.at.loop-machine-preserved c).After-max-start in
     let kid_here = c.requires.at.3 in

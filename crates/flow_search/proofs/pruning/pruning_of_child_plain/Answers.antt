@@ -9,8 +9,8 @@ use Rattle.flow_shop.proofs.Fronts.{free_at, after-step, time-small, child-compl
 use Rattle.flow_search.specs.internal.Frames.{IsFrame, IsChild}
 use Rattle.flow_search.proofs.Children.{child-bound, frame-within}
 use Rattle.flow_search.proofs.Nodes.{find-here, find-skip, find-past}
-use Rattle.flow_search.proofs.frame.Frame.pruning_of_child_plain.Goals as goal
-use Rattle.flow_search.proofs.frame.Frame.pruning_of_child_plain.Goals.{After-from, After-from-in-loop-machine}
+use Rattle.flow_search.proofs.pruning.pruning_of_child_plain.Goals as goal
+use Rattle.flow_search.proofs.pruning.pruning_of_child_plain.Goals.{After-from, After-from-in-loop-machine}
 
 -- when the child's job starts, at most
 start-small : (c : After-from) →
@@ -22,8 +22,8 @@ start-small c =
     let k : ℕ = c.loop-machine.machine in
     let low : 1 ≤ k = c.loop-machine.auto.machine in
     let high : k ≤ shop.machines = omega (arith, c.loop-machine-test.true, c.machines-machine-end.ensures.value) in
-    let within : slice_index c.args.self.now.front (k - 1) ≤ greatest_completion =
-    frame-within shop c.requires.at.0 (suc (suc c.requires.at.1)) c.args.self.now c.args.setting.now.are_rows.limits
+    let within : slice_index c.args.here.now.front (k - 1) ≤ greatest_completion =
+    frame-within shop c.requires.at.0 (suc (suc c.requires.at.1)) c.args.here.now c.args.setting.now.are_rows.limits
     c.requires.at.2
     (k - 1) (omega arith) in (
       omega (arith, c.max-start.ensures, c.at.ensures, within, c.loop-machine.invariant.small),
@@ -33,7 +33,7 @@ start-small c =
 
 -- the child's bound on the machine
 bounded : (c : After-from-in-loop-machine) (node : List ℕ) (left : ℕ) →
-    IsFrame c.args.setting.now.instance.now node (suc (suc left)) c.args.self.now →
+    IsFrame c.args.setting.now.instance.now node (suc (suc left)) c.args.here.now →
     IsChild c.args.setting.now.instance.now.jobs node c.args.job →
     (c.max-start.result + c.from.result + c.from-in-loop-machine.result
     ≡ bound_at c.args.setting.now.instance.now (node ++ c.args.job ∷ []) c.loop-machine.machine)
@@ -42,7 +42,7 @@ bounded c node left is kid =
     let shop = c.args.setting.now.instance.now in
     let k : ℕ = c.loop-machine.machine in
     let job : ℕ = c.args.job in
-    let frame = c.args.self.now in
+    let frame = c.args.here.now in
     let low : 1 ≤ k = c.loop-machine.auto.machine in
     let high : k ≤ shop.machines = omega (arith, c.loop-machine-test.true, c.machines-machine-end.ensures.value) in
     let row = c.args.setting.now.are_rows.each job (record { times = []; tails = [] }) kid.from kid.to k low high in
@@ -113,7 +113,7 @@ pub loop-machine-preserved : goal.loop-machine-preserved
 loop-machine-preserved c =
     let shop = c.args.setting.now.instance.now in
     let k : ℕ = c.loop-machine.machine in
-    let front = c.args.self.now.front in
+    let front = c.args.here.now.front in
     let small = start-small (goal.at.loop-machine-preserved c).After-from in
     let kid_here = c.requires.at.3 in
     let row = c.args.setting.now.are_rows.each c.args.job (record {
