@@ -1,4 +1,4 @@
--- One turn of the loop over the jobs: the least tail so far, and the times that fit.
+-- One turn of the loop over the jobs: the least tail so far.
 use Rattle.std.proofs.Common.{◌≡◌, ℕ, zero, suc, ◌+◌, ◌-◌, ◌<◌, ◌≤◌, min, Bool, true, false, cond, List, [], ◌∷◌}
 use Rattle.std.proofs.Common.{◌++◌, length, map, subst, ap, ◌∙◌, arith}
 use Rattle.std.specs.List.{filter}

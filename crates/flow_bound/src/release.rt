@@ -1,12 +1,11 @@
 //! The released bound of a front.
 
-ghost use Rattle.std.specs.Prelude.{◌≡◌, ℕ, ◌+◌, ◌^◌, ◌<◌, ◌≤◌, List, length};
-ghost use Rattle.flow_limits.specs.Limits.{greatest_completion};
+ghost use Rattle.std.specs.Prelude.{◌≡◌, ℕ, ◌+◌, ◌<◌, ◌≤◌, List, length};
 ghost use Rattle.flow_shop.specs.Paths.{span};
 ghost use Rattle.flow_shop.specs.Front.{IsFrontOf, IsWithinFront};
 ghost use Rattle.flow_shop.specs.JobSet.{members, IsSetOf};
 ghost use Rattle.flow_shop.specs.Sequences.{jobs_left, IsSequence, Extends};
-ghost use Rattle.flow_shop.specs.Bound.{release, released_bound};
+ghost use Rattle.flow_shop.specs.Bound.{released_bound};
 
 use crate::least::least_between;
 use crate::rest::{lags_of, release_from_lags};

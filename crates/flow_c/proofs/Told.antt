@@ -112,14 +112,6 @@ told-in-room (Below sequence value text) told_as makespan jobs directions rest r
     (told.0, told.1, told.2, told.3, subst (λ xs. take (length xs) room ≡ xs) same put)
 told-in-room (Rest text parts) told_as makespan jobs directions rest room told same put = told
 
--- nothing is put there but a sequence that is below the number
-pub none-told : (advanced : Advanced) (told_as makespan : ℕ) (jobs directions rest : List ℕ) →
-    IsTold advanced told_as jobs makespan directions rest → jobs ≡ sequence_of advanced →
-    (told_as ≡ below) ⊎ (jobs ≡ [])
-none-told (Proved text) told_as makespan jobs directions rest told same = inr same
-none-told (Below sequence value text) told_as makespan jobs directions rest told same = inl told.0
-none-told (Rest text parts) told_as makespan jobs directions rest told same = inr same
-
 -- parts that have no room are left
 pub rest-too-long : (shop : Shop) (number budget : ℕ) (node : NodeLists) (entries : ℕ) (fault : Fault)
     (advanced : Advanced) → IsAdvanced shop number budget node.first.now node.last.now advanced →

@@ -306,9 +306,3 @@ tree-fails from bytes read answer fault is e =
 pub drop-step : (bytes : List ℕ) (at : ℕ) → at < length bytes → drop at bytes ≡ get_or bytes at 0 ∷ drop (at + 1) bytes
 drop-step bytes at h = let n : suc at ≡ at + 1 = omega arith in drop-cons bytes at 0 h
     ∙ ap (λ k. get_or bytes at 0 ∷ drop k bytes) n
-
-pub drop-past : (bytes : List ℕ) (at : ℕ) → length bytes ≤ at → drop at bytes ≡ []
-drop-past [] zero h = refl
-drop-past [] (suc at) h = refl
-drop-past (b ∷ bs) zero h = absurd (omega (arith, h))
-drop-past (b ∷ bs) (suc at) h = drop-past bs at (omega (arith, h))

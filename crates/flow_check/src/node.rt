@@ -1,11 +1,11 @@
 //! The nodes of the trees: what is kept of a list of jobs, and the machine bounds.
 
-ghost use Rattle.std.specs.Prelude.{◌≡◌, ℕ, ◌+◌, ◌-◌, ◌*◌, ◌≤◌, ◌<◌, List, [], ◌∷◌, ◌++◌, sum_by, suc, false};
+ghost use Rattle.std.specs.Prelude.{◌≡◌, ℕ, ◌+◌, ◌-◌, ◌*◌, ◌≤◌, ◌<◌, List, [], ◌∷◌, ◌++◌, suc, false};
 ghost use Rattle.flow_shop.specs.Limits.{greatest_time, greatest_completion};
 ghost use Rattle.flow_shop.specs.Shop.{time};
 ghost use Rattle.flow_shop.specs.Paths.{completion};
 ghost use Rattle.flow_shop.specs.Front.{IsFrontOf, IsWithinFront};
-ghost use Rattle.flow_shop.specs.Sequences.{has, jobs_left};
+ghost use Rattle.flow_shop.specs.Sequences.{has};
 ghost use Rattle.flow_shop.specs.Bound.{bound_at};
 ghost use Rattle.flow_check.specs.internal.Links.{AreLinks};
 ghost use Rattle.flow_check.specs.internal.Nodes.{IsListNode, IsAt, AreTwoLeastTails, IsChild};

@@ -1,13 +1,12 @@
 //! How much the bound of a version is above the machine bound. In version 2 a machine counts from its release: no job
 //! left starts there before it, whichever comes first.
 
-ghost use Rattle.std.specs.Prelude.{◌≡◌, ℕ, suc, ◌+◌, ◌-◌, ◌≤◌, List, ◌++◌, ◌∷◌, [], nat_le, slice_index, Some};
-ghost use Rattle.std.specs.Prelude.{length, ◌<◌, IfOk};
-ghost use Rattle.flow_shop.specs.Shop.{time_between};
+ghost use Rattle.std.specs.Prelude.{◌≡◌, ℕ, suc, ◌+◌, ◌-◌, List, ◌++◌, ◌∷◌, [], nat_le, slice_index, Some};
+ghost use Rattle.std.specs.Prelude.{length, ◌<◌};
 ghost use Rattle.flow_shop.specs.Sequences.{jobs_left};
 ghost use Rattle.flow_shop.specs.Bound.{bound_at, bound_of, front_of, release};
 ghost use Rattle.flow_check.specs.internal.Links.{AreLinks};
-ghost use Rattle.flow_nodes.specs.Nodes.{IsMachine, IsJob};
+ghost use Rattle.flow_nodes.specs.Nodes.{IsMachine};
 ghost use Rattle.flow_check.specs.internal.Nodes.{IsListNode, IsAt, IsChild, grown, left_before};
 ghost use Rattle.flow_check.specs.internal.Lags.{AreTwoLeastLagsTo, AreKept, AreUnknown};
 

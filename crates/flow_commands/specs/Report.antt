@@ -1,6 +1,6 @@
 -- The report of `check`: of which block a certificate proves what it proves, and by how long a proof.
 use Rattle.std.specs.Prelude.{ℕ, ◌≡◌, ◌-◌, ◌==◌, ◌||◌, Bool, false, true, cond, nat_eq, List, length, ◌++◌}
-use Rattle.std.specs.Prelude.{codes, decimal, Some, None}
+use Rattle.std.specs.Prelude.{codes, Some, None}
 use Rattle.std.specs.List.{count_by}
 use Rattle.flow_core.specs.Bound.{plus}
 use Rattle.flow_core.specs.Characters.{line_feed}

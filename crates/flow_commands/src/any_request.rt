@@ -8,10 +8,10 @@ ghost use Rattle.flow_commands.specs.Runs.{CameBoth, Ran, run_of, second_run, si
 use crate::certify::run_certify;
 use crate::check::Check;
 use crate::command::{Printed, run_over};
-use crate::refusals::CommandFault;
 use crate::files::FileKind;
 use crate::improve::run_improve;
 use crate::neh::Neh;
+use crate::refusals::CommandFault;
 use crate::schedule::Schedule;
 use crate::solve::run_solve_as;
 use crate::span::Span;

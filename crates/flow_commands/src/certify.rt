@@ -1,20 +1,19 @@
 //! The command `certify`.
 
-ghost use Rattle.std.specs.Prelude.{◌≡◌, ◌⊎◌, false, None, Some, Err, IfOk, OnOk, IfErr, IfSome, is_some};
+ghost use Rattle.std.specs.Prelude.{◌≡◌, false, None, Some, Err, IfOk, OnOk, IfErr, IfSome, is_some};
 ghost use Rattle.std.specs.Option.{ForSome};
 ghost use denote.Param.Send.{IsSync};
 ghost use Rattle.flow_core.specs.Sequences.{IsSequence};
-ghost use Rattle.flow_check.specs.TwoEnded.{two_ended_text};
 ghost use Rattle.flow_commands.specs.internal.Devices.{NamesNoDevice};
-ghost use Rattle.flow_commands.specs.Certify.{AnswersCertify, Certifies, WroteTwoEnded, certify_fault};
+ghost use Rattle.flow_commands.specs.Certify.{AnswersCertify, WroteTwoEnded, certify_fault};
 ghost use Rattle.flow_commands.specs.Runs.{CameFor, Ran, Responds, run_of, second_run, sink_run, source_run};
 ghost use Rattle.flow_commands.specs.Start.{FromStart};
 
 use crate::block::PickedBlock;
 use crate::command::{Command, run_over};
-use crate::refusals::CommandFault;
 use crate::files::FileKind;
 use crate::improve::effort_of;
+use crate::refusals::CommandFault;
 use crate::start::{sequence_given, start_of};
 use flow_cert::write_two_ended;
 use flow_certify::{MostDirections, certify};

@@ -12,9 +12,9 @@ ghost use Rattle.flow_commands.specs.Runs.{CameBoth, CameFor, Ran, Wrote, run_of
 
 use crate::block::PickedBlock;
 use crate::command::{Answering, Printed, run_with};
-use crate::refusals::CommandFault;
 use crate::files::{FileKind, bytes_or_none};
 use crate::printed::{bounds_line, optimal_line, sequence_lines};
+use crate::refusals::CommandFault;
 use crate::report::report_lines;
 use flow_check::{Bounds, Shown, TextKind, check_text, kind_of};
 use flow_core::{Sink, Source};

@@ -7,8 +7,8 @@ ghost use Rattle.flow_commands.specs.internal.Devices.{NamesNoDevice};
 ghost use Rattle.flow_commands.specs.Runs.{Ran, Responds, run_of, second_run, sink_run, source_run};
 
 use crate::block::PickedBlock;
-use crate::refusals::CommandFault;
 use crate::files::{FileKind, read_bytes, read_picked, read_second};
+use crate::refusals::CommandFault;
 use flow_core::{Sink, Source, put_all};
 use std::alloc::Global;
 

@@ -12,9 +12,9 @@ ghost use Rattle.flow_commands.specs.Start.{FromStart};
 
 use crate::block::PickedBlock;
 use crate::command::{Answering, Printed, run_over};
-use crate::refusals::CommandFault;
 use crate::files::FileKind;
 use crate::printed::sequence_lines;
+use crate::refusals::CommandFault;
 use crate::start::{sequence_given, start_of};
 use flow_core::{Instance, Sequence, Sink, Source};
 use flow_improve::{Effort, EffortFault, Reached, improve};

@@ -7,9 +7,9 @@ ghost use Rattle.flow_commands.specs.Runs.{Ran, run_alone, sink_run, source_run}
 
 use crate::block::PickedBlock;
 use crate::command::{Answering, Printed, run_over};
-use crate::refusals::CommandFault;
 use crate::files::FileKind;
 use crate::printed::sequence_lines;
+use crate::refusals::CommandFault;
 use flow_bound::neh;
 use flow_core::{Instance, MemorySource, Sink, Source};
 use std::alloc::{AllocError, Global};

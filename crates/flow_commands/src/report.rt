@@ -1,6 +1,6 @@
 //! The report of `check`.
 
-ghost use Rattle.std.specs.Prelude.{◌≡◌, ◌++◌, IfOk};
+ghost use Rattle.std.specs.Prelude.{◌≡◌, IfOk};
 ghost use Rattle.std.specs.List.{count_by};
 ghost use Rattle.flow_commands.specs.Printed.{value_line};
 ghost use Rattle.flow_commands.specs.Report.{block_line, block_lines, is_direction, is_drawn, is_line_end};

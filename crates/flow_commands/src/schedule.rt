@@ -8,8 +8,8 @@ ghost use Rattle.flow_commands.specs.Schedule.{AnswersSchedule, IsSchedule, Wrot
 
 use crate::block::PickedBlock;
 use crate::command::{Answering, Printed, run_with};
-use crate::refusals::CommandFault;
 use crate::files::{FileKind, bytes_or_none};
+use crate::refusals::CommandFault;
 use crate::timed::{TimedSequence, timed_sequence};
 use flow_core::{Instance, Sink, Source};
 use flow_requests::ScheduleForm;

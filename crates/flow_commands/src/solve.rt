@@ -13,8 +13,8 @@ ghost use Rattle.flow_commands.specs.internal.Picked.{origin_of};
 ghost use Rattle.flow_commands.specs.internal.Reading.{bytes_of};
 
 use crate::block::PickedBlock;
-use crate::refusals::CommandFault;
 use crate::files::{FileKind, read_picked, read_second};
+use crate::refusals::CommandFault;
 use crate::start::sequence_given;
 use flow_cert::write_certificate;
 use flow_core::{Instance, MemorySource, Sequence, Sink, Source};

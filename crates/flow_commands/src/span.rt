@@ -8,9 +8,9 @@ ghost use Rattle.flow_commands.specs.Span.{AnswersSpan, span_answer};
 
 use crate::block::PickedBlock;
 use crate::command::{Answering, Printed, run_over};
-use crate::refusals::CommandFault;
 use crate::files::FileKind;
 use crate::printed::makespan_line;
+use crate::refusals::CommandFault;
 use flow_core::{Instance, MemorySource, Sequence, SequenceFault, Sink, Source, makespan};
 use std::alloc::Global;
 

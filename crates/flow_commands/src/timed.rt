@@ -5,8 +5,8 @@ ghost use Rattle.flow_core.specs.Sequences.{IsSequence};
 ghost use Rattle.flow_commands.specs.internal.Devices.{NamesNoDevice};
 ghost use Rattle.flow_commands.specs.Schedule.{GivesCertified, GivesTimed};
 
-use crate::refusals::CommandFault;
 use crate::files::begins_as_certificate;
+use crate::refusals::CommandFault;
 use crate::start::given_sequence;
 use flow_check::{Shown, check_text, kind_of};
 use flow_core::{Instance, Sequence};

@@ -8,7 +8,7 @@ pub use Rattle.flow_shop.proofs.SequenceLemmas
 pub use Rattle.flow_shop.proofs.JobSetLemmas
 pub use Rattle.flow_shop.proofs.Transposes
 pub use Rattle.flow_shop.proofs.Taken
-pub use Rattle.flow_shop.proofs.TwoLeast
+pub use Rattle.flow_shop.proofs.TwoLeastSteps
 pub use Rattle.flow_shop.proofs.RowSteps
 pub use Rattle.flow_shop.proofs.Lists
 pub use Rattle.flow_generator.proofs.GeneratorLemmas

@@ -69,8 +69,8 @@ impl Limits {
         self.aim.is_some_and(|number| makespan < number)
     }
 
-    /// A pass of a width in a mode. Where all children are below a number that is aimed at, their bounds say little,
-    /// and the deficit decides in any mode.
+    /// A pass of a width in a mode. Where a number is aimed at, all children are below it, so their bounds say little:
+    /// then the deficit decides, and the mode does not matter.
     fn plan(&self, width: u32, mode: Mode, fewer: u64) -> PassPlan {
         let mode = if self.aim.is_some() {
             Mode::Deficit

@@ -43,7 +43,8 @@ pub record AreGroups {V : Type 0} (list : V → List ℕ) (cap width : ℕ) (sho
 abbrev pub child_bound : Shop → End → List ℕ → List ℕ → ℕ → ℕ
 child_bound shop end first last job = end_bound shop (first_with end first job) (last_with end last job)
 
--- a number is the bound of the child of a node that puts a job at an end, or the cap where that is less
+-- a number is the bound of the child of a node that puts a job that is left at an end, or the cap where that is less;
+-- of another job nothing is said
 abbrev pub IsCappedBound : Shop → Node → End → ℕ → ℕ → ℕ → Type 0
 IsCappedBound shop node end job cap number =
     (first last : List ℕ) → IsNode shop first last node → has (first ++ last) job ≡ false →

@@ -1,6 +1,6 @@
 //! Groups: the times of jobs side by side, for each machine a vector with a lane for each job.
 
-ghost use Rattle.std.specs.Prelude.{◌≡◌, ℕ, ◌<◌, ◌≤◌, List, length, slice_index, IfOk};
+ghost use Rattle.std.specs.Prelude.{◌≡◌, ℕ, ◌<◌, ◌≤◌, length, slice_index, IfOk};
 ghost use Rattle.flow_shop.specs.Shop.{time};
 ghost use Rattle.flow_nodes.specs.Nodes.{IsJob, IsMachine};
 ghost use Rattle.flow_nodes.specs.Groups.{AreGroups, AreNames, IsGroup, group_count};

@@ -1,6 +1,6 @@
 -- What the settled lanes of a run have carried, and why a run has no report.
 use Rattle.std.specs.Prelude.{◌≡◌, ℕ, ◌<◌, List, None, Some, length, map, All, HoldsAt}
-use Rattle.flow_search.specs.Plans.{Planned, IsPlan}
+use Rattle.flow_search.specs.Plans.{AreAlike, Planned, IsPlan}
 use Rattle.flow_search.specs.Outcomes.{IsLawful, IsDone, first_over_budget}
 use Rattle.flow_search.specs.Verdicts.{IsVerdict, IsLeast}
 use Rattle.flow_search.specs.declared.verdict.Verdict.{Verdict}
@@ -44,13 +44,6 @@ pub record IsReport (plan : Planned) (report : Report) : Type 0 where
   pub within : first_over_budget plan ≡ None
   pub verdict : IsVerdict plan report.verdict
   pub least : IsLeast plan.shop report.verdict
-
--- two plans are of one instance, one starting sequence, one depth and one version
-pub record AreAlike (plan other : Planned) : Type 0 where
-  pub shop : plan.shop ≡ other.shop
-  pub sequence : plan.start.sequence ≡ other.start.sequence
-  pub depth : plan.options.depth ≡ other.options.depth
-  pub version : plan.options.version ≡ other.options.version
 
 -- two verdicts have the same value, sequence and trees
 pub record AreOne (verdict other : Verdict) : Type 0 where

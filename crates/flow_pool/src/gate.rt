@@ -5,8 +5,8 @@ use std::alloc::AllocError;
 
 /// A worker calls a gate for each prefix, before it searches the prefix. All workers share one gate.
 pub trait Gate {
-    /// A worker, counted from 0, has received the prefix of this number.
-    fn reached(&self, worker: u32, number: u32);
+    /// The worker of index `lane`, counted from 0, has received the prefix of this number.
+    fn reached(&self, lane: u32, number: u32);
 }
 
 /// The gate that does nothing.
@@ -14,7 +14,7 @@ pub trait Gate {
 pub struct Open;
 
 impl Gate for Open {
-    fn reached(&self, _worker: u32, _number: u32) {}
+    fn reached(&self, _lane: u32, _number: u32) {}
 }
 
 /// The gate that a run hands to its workers: it unparks the hub, and then tells the caller's gate. Not the other way
@@ -39,8 +39,8 @@ impl<'a, G> HubGate<'a, G> {
 }
 
 impl<'a, G: Gate> Gate for HubGate<'a, G> {
-    fn reached(&self, worker: u32, number: u32) {
+    fn reached(&self, lane: u32, number: u32) {
         self.hub.unpark();
-        self.gate.reached(worker, number);
+        self.gate.reached(lane, number);
     }
 }

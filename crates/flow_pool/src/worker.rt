@@ -56,12 +56,12 @@ fn answer_to(alloc: Global, plan: &Plan, number: u32) -> Answer
 }
 
 /// Receives tasks up to the first `End`, and no more, and answers each prefix before it receives the next. Returns the
-/// same ends. The gate is told which worker this is, counted from 0.
+/// same ends. `lane` is the worker's index, which the gate is told.
 pub fn serve<R: Wait, G: Gate>(
     rt: &R,
     alloc: Global,
     plan: &Plan,
-    worker: u32,
+    lane: u32,
     ends: WorkerEnds,
     gate: &G,
 ) -> WorkerEnds
@@ -74,7 +74,7 @@ pub fn serve<R: Wait, G: Gate>(
         let Task::Prefix(number) = receive(rt, &mut ends.tasks) else {
             break;
         };
-        gate.reached(worker, number);
+        gate.reached(lane, number);
         send(rt, &mut ends.answers, answer_to(alloc, plan, number));
     }
     ends

@@ -61,3 +61,10 @@ trees_of plan = trees plan.shop (bound_of plan.options.version) plan.start.value
 -- the verdict of a plan (law: plans_agree)
 abbrev pub verdict_of : Planned → Solution
 verdict_of plan = verdict plan.shop plan.start plan.options.depth
+
+-- two plans are of one instance, one starting sequence, one depth and one version
+pub record AreAlike (plan other : Planned) : Type 0 where
+  pub shop : plan.shop ≡ other.shop
+  pub sequence : plan.start.sequence ≡ other.start.sequence
+  pub depth : plan.options.depth ≡ other.options.depth
+  pub version : plan.options.version ≡ other.options.version

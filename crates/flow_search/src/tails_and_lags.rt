@@ -1,7 +1,7 @@
 //! The two least tails of a set of jobs, and their two least lags. A job's lag from a machine to another is its time on
 //! the machines from there to the one before the other.
 
-ghost use Rattle.std.specs.Prelude.{◌≡◌, ◌-◌, ◌≤◌};
+ghost use Rattle.std.specs.Prelude.{◌-◌, ◌≤◌};
 ghost use Rattle.flow_shop.specs.JobSet.{members, IsSetOf};
 ghost use Rattle.flow_shop.specs.TwoLeast.{AreTwoLeast, time_to};
 ghost use Rattle.flow_search.specs.internal.Tails.{tail_at};

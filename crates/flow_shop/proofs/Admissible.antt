@@ -92,16 +92,6 @@ start-bound shop free n k m start j (i ∷ is) low high range begins =
       omega (arith, ih.4, begins, sum_by-cons (λ job. time shop job k) j (i ∷ is)),
     )
 
--- jobs start when the machine is free
-pub rest-bound : (shop : Shop) (free : ℕ → ℕ) (n k m : ℕ) (rest : List ℕ) → 1 ≤ k → k ≤ m → 0 < length rest →
-    InRange n rest →
-    (last : ℕ) × (has rest last ≡ true) × (1 ≤ last) × (last ≤ n)
-    × (free k + sum_by (λ job. time shop job k) rest + time_between shop last (k + 1) m
-    ≤ completed shop free rest m)
-rest-bound shop free n k m [] low high some range = absurd (omega arith)
-rest-bound shop free n k m (j ∷ js) low high some range =
-    start-bound shop free n k m (free k) j js low high range (after-here shop free j k low)
-
 -- no job that a list leaves has left a machine before its time from a start
 abbrev pub Begins : Shop → List ℕ → ℕ → ℕ → Type 0
 Begins shop jobs k start =

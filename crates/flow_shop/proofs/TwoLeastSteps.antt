@@ -70,11 +70,3 @@ pub second-push : (a b : ℕ) (xs : List ℕ) (x : ℕ) →
     second_below a b (xs ++ x ∷ []) ≡ min (second_below a b xs) (max (least_below a xs) x)
 second-push a b [] x = refl
 second-push a b (y ∷ ys) x = second-push (min a y) (min b (max a y)) ys x
-
--- the tails of some jobs and of one more
-pub tails-push : (shop : Shop) (machine : ℕ) (jobs : List ℕ) (job : ℕ) →
-    tails shop machine (jobs ++ job ∷ []) ≡ tails shop machine jobs ++ time_between shop job (machine + 1) shop.machines
-    ∷ []
-tails-push shop machine [] job = refl
-tails-push shop machine (j ∷ js) job =
-    ap (λ xs. time_between shop j (machine + 1) shop.machines ∷ xs) (tails-push shop machine js job)

@@ -13,7 +13,7 @@ is_same_shop one other =
 abbrev pub times_on : Shop → ℕ → List ℕ
 times_on shop machine = map (λ job. time shop job machine) (numbers 1 shop.jobs)
 
--- a list has for each machine of an instance its number, that of machine 1 first
+-- a list has the value of each machine of an instance, that of machine 1 first
 abbrev pub AreOf : Shop → (ℕ → ℕ) → List ℕ → Type 0
 AreOf shop value numbers =
     (machine : ℕ) → 1 ≤ machine → machine ≤ shop.machines → slice_index numbers (machine - 1) ≡ value machine

@@ -41,7 +41,8 @@ impl LeastPairs {
         }
     }
 
-    /// Takes one job more in, by its numbers at the first places.
+    /// Takes one job more in, by its numbers at the first places. Of the other places nothing is said.
+    #[inline]
     pub fn take(&mut self, numbers: &[u32; MAX_MACHINES], count: usize)
         requires { count ≤ most_machines }
         ensures { (number : ℕ → ℕ → ℕ) (jobs : List ℕ) (job : ℕ) →

@@ -1,4 +1,4 @@
-//! The times and tails of the jobs, a row for each.
+//! The times and tails of the jobs, a row for each, and their lags.
 
 ghost use Rattle.std.specs.Prelude.{◌≡◌, ℕ, ◌-◌, ◌<◌, ◌≤◌, slice_index, IfOk};
 ghost use Rattle.flow_shop.specs.Shop.{Shop, IsWithinLimits, time_between};
@@ -37,6 +37,7 @@ impl Row {
     }
 
     /// The job's lags to a machine from each machine up to it, that from machine 1 first.
+    #[inline]
     pub fn lags_to(&self, machine: u16) -> [u32; MAX_MACHINES]
         requires from { 1 ≤ machine }
         requires row { (shop : Shop) × (job : ℕ) × IsWithinLimits shop × IsRow shop job self.now ×

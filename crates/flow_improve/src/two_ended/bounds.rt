@@ -4,7 +4,6 @@ ghost use Rattle.std.specs.Prelude.{◌≡◌, ◌≢◌, ℕ, ◌+◌, ◌*◌,
 ghost use Rattle.std.specs.Prelude.{length, slice_index, slice_index_or};
 ghost use Rattle.flow_limits.specs.Limits.{most_jobs};
 ghost use Rattle.flow_nodes.specs.Lanes.{capped, HasLane};
-ghost use Rattle.flow_nodes.specs.Nodes.{IsJob};
 ghost use Rattle.flow_nodes.specs.Groups.{AreGroups, child_bound};
 ghost use Rattle.flow_improve.specs.internal.Beams.{HasBounds, IsEntry, first_of, job_at, last_of};
 ghost use Rattle.flow_improve.specs.internal.Opens.{bound_sum, count_below, plain_end};

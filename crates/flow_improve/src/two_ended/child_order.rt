@@ -1,7 +1,8 @@
 //! The order in which the children of a list of nodes are kept.
 
-ghost use Rattle.std.specs.Prelude.{◌<◌, ◌≤◌};
+ghost use Rattle.std.specs.Prelude.{◌≡◌, ◌+◌, ◌<◌, ◌≤◌};
 ghost use Rattle.flow_limits.specs.Limits.{most_machines};
+ghost use Rattle.flow_shop.specs.declared.end.End.TheVariants.{Front, Back};
 
 use flow_limits::MAX_MACHINES;
 use flow_nodes::Node;
@@ -127,7 +128,9 @@ impl ChildOrder {
     #[inline(always)]
     fn place_from(&self, end: End, count: usize) -> usize
         requires { count < self.now.machines }
-        ensures { result < self.now.machines }
+        ensures within { result < self.now.machines }
+        ensures front { end ≡ Front → result ≡ count }
+        ensures back { end ≡ Back → result + count + 1 ≡ self.now.machines }
     {
         match end {
             End::Front => count,

@@ -97,10 +97,10 @@ impl Offers {
         requires bounds { HasBounds instance.now entry.now bounds.now }
     {
         let same = self.order.kept_deficit(&entry.node, self.end);
-        let mut dropped = self.below.min(kept.least_dropped(&self.order, same));
+        let mut least_dropped = self.below.min(kept.least_dropped(&self.order, same));
         for place in entry.first..entry.before {
             let bound = bounds.at(instance, entry, self.end, place);
-            if u64::from(bound) >= dropped {
+            if u64::from(bound) >= least_dropped {
                 continue;
             }
             let job = entry.jobs[place];
@@ -116,7 +116,7 @@ impl Offers {
                 place: place as u16,
                 at_back: self.end == End::Back,
             })?;
-            dropped = self.below.min(kept.least_dropped(&self.order, same));
+            least_dropped = self.below.min(kept.least_dropped(&self.order, same));
         }
         Ok(())
     }
