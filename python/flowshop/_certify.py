@@ -7,7 +7,7 @@ from ._parts import BELOW, OVER, PROVED, Instance, Reached
 from ._spread import Numbers, Spread, Workers
 from ._waiting import Progress, Watch
 
-# The widest beam of step 2, and the greatest width of a beam that is aimed at a number.
+# The widest beam of step 2, and the greatest width of a beam, as of one that is aimed at a number.
 NARROW, AIMED = 16, 65_536
 # The budgets of the searches of steps 1 and 2, and of steps 3 and 4.
 SMALL, MIDDLE = (10_000, 100_000), (10_000, 100_000, 1_000_000)
