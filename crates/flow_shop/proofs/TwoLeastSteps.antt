@@ -1,11 +1,12 @@
 -- The two least of some numbers.
-use Rattle.std.proofs.Common.{◌≡◌, ◌≢◌, ℕ, ◌+◌, ◌<◌, ◌≤◌, min, max, List, [], ◌∷◌, ◌++◌, length, map, refl, ap, sym}
+use Rattle.std.proofs.Common.{◌≡◌, ◌≢◌, ℕ, zero, suc, ◌<◌, ◌≤◌, min, max, List, [], ◌∷◌, ◌++◌, length, map, refl, sym}
 use Rattle.std.proofs.Common.{◌∙◌, inl}
 use Rattle.std.proofs.Common.{inr, arith}
+use Rattle.std.specs.List.{All, Contains, slice_index_or}
+use Rattle.std.proofs.lemmas.Bool.{cases_lt}
 use Rattle.std.proofs.lemmas.Bool.Decides.{eqb_tells}
-use Rattle.flow_shop.specs.Shop.{Shop, time_between}
 use Rattle.flow_shop.specs.Least.{least}
-use Rattle.flow_shop.specs.TwoLeast.{IsLeastWithout, least_below, second_below, tails}
+use Rattle.flow_shop.specs.TwoLeast.{IsLeastWithout, LeastWithoutOneIsFound, least_below, second_below}
 
 without-more : (y p q m v : ℕ) → p ≤ q → p ≤ y → IsLeastWithout y p q m → IsLeastWithout y (min p v) (min q (max p v))
     (min m v)
@@ -44,6 +45,38 @@ same-without y z p q r s m n yz pq rs a b = elim (eqb_tells y p) [
   | inl same ↦ omega (arith, a.0 same.1, b.0 (sym yz ∙ same.1 ∙ pq), rs)
   | inr other ↦ omega (arith, a.1 other.1, b.1 (λ e. other.1 (yz ∙ e ∙ sym pq)), pq)
 ]
+
+pub least-without-one : LeastWithoutOneIsFound
+least-without-one first second one value before after ordered is =
+    let whole : List ℕ = before ++ one ∷ after in
+    same-without one one (least_below first whole) (least_below first whole) (second_below first second whole)
+    (second_below first second whole) value (least_below first (before ++ after)) refl refl refl is
+    (without-one one first second before after ordered)
+
+least-below-first : (a : ℕ) (xs : List ℕ) → least_below a xs ≤ a
+least-below-first a [] = omega arith
+least-below-first a (x ∷ xs) = omega (arith, least-below-first (min a x) xs)
+
+pub least-below-each : (a : ℕ) (xs : List ℕ) → All (λ x. least_below a xs ≤ x) (a ∷ xs)
+least-below-each a xs zero d low = least-below-first a xs
+least-below-each a [] (suc k) d low = absurd (omega (arith, low))
+least-below-each a (x ∷ xs) (suc zero) d low = omega (arith, least-below-first (min a x) xs)
+least-below-each a (x ∷ xs) (suc (suc k)) d low = least-below-each (min a x) xs (suc k) d (omega (arith, low))
+
+-- an element of a list that begins with the lesser of two numbers is one of the list that begins with both
+lesser-of : (a x v : ℕ) (xs : List ℕ) (k : ℕ) → k < length (min a x ∷ xs) → slice_index_or (min a x ∷ xs) k v ≡ v →
+    Contains (a ∷ x ∷ xs) v
+lesser-of a x v xs zero low is = elim (cases_lt x a) [
+  | inl below ↦ (1, omega arith, omega (arith, is, below))
+  | inr above ↦ (0, omega arith, omega (arith, is, above))
+]
+lesser-of a x v xs (suc k) low is = (suc (suc k), omega (arith, low), is)
+
+pub least-below-one : (a : ℕ) (xs : List ℕ) → Contains (a ∷ xs) (least_below a xs)
+least-below-one a [] = (0, omega arith, refl)
+least-below-one a (x ∷ xs) =
+    let in' = least-below-one (min a x) xs in
+    lesser-of a x (least_below (min a x) xs) xs in'.0 in'.1 in'.2
 
 least-below-is : (c x : ℕ) (xs : List ℕ) → least_below c (x ∷ xs) ≡ min c (least (x ∷ xs))
 least-below-is c x [] = refl
