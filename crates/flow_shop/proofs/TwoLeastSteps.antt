@@ -1,5 +1,5 @@
 -- The two least of some numbers.
-use Rattle.std.proofs.Common.{◌≡◌, ◌≢◌, ℕ, zero, suc, ◌<◌, ◌≤◌, min, max, List, [], ◌∷◌, ◌++◌, length, map, refl, sym}
+use Rattle.std.proofs.Common.{◌≡◌, ◌≢◌, ℕ, zero, suc, ◌<◌, ◌≤◌, min, max, List, [], ◌∷◌, ◌++◌, length, map, refl, ap, sym}
 use Rattle.std.proofs.Common.{◌∙◌, inl}
 use Rattle.std.proofs.Common.{inr, arith}
 use Rattle.std.specs.List.{All, Contains, slice_index_or}
@@ -81,6 +81,49 @@ least-below-one a (x ∷ xs) =
 least-below-is : (c x : ℕ) (xs : List ℕ) → least_below c (x ∷ xs) ≡ min c (least (x ∷ xs))
 least-below-is c x [] = refl
 least-below-is c x (y ∷ ys) = omega (arith, least-below-is (min c x) y ys)
+
+-- the least of the lesser of two numbers and of others
+least-min : (b x : ℕ) (xs : List ℕ) → least (min b x ∷ xs) ≡ min b (least (x ∷ xs))
+least-min b x [] = refl
+least-min b x (y ∷ ys) = omega arith
+
+-- the least of some numbers and of two more, the lesser one first
+least-two : (a b : ℕ) (xs : List ℕ) → a ≤ b → least (a ∷ b ∷ xs) ≡ least_below a xs
+least-two a b [] ordered = omega (arith, ordered)
+least-two a b (x ∷ xs) ordered = omega (arith, ordered, least-below-is a x xs)
+
+-- the second least, where the first number is the least of all
+second-above : (a b : ℕ) (xs : List ℕ) → a ≤ b → a ≡ least_below a xs → second_below a b xs ≡ least (b ∷ xs)
+second-above a b [] ordered low = refl
+second-above a b (x ∷ xs) ordered low =
+    let first : min a x ≡ a = omega (arith, low, least-below-first (min a x) xs) in
+    let second : min b (max a x) ≡ min b x = omega (arith, first) in
+    second-above (min a x) (min b (max a x)) xs (omega (arith, ordered)) (omega (arith, first, low))
+    ∙ ap (λ n. least (n ∷ xs)) second
+    ∙ least-min b x xs
+
+pub second-is-second : (first second one : ℕ) (numbers before after : List ℕ) → first ≤ second →
+    before ++ one ∷ after ≡ first ∷ second ∷ numbers → one ≡ least_below first numbers →
+    second_below first second numbers ≡ least (before ++ after)
+second-is-second first second one numbers [] after ordered all low =
+    let e : one ∷ after ≡ first ∷ second ∷ numbers = all in
+    let head : one ≡ first = cc in
+    let rest : second ∷ numbers ≡ after = cc in
+    second-above first second numbers ordered (sym head ∙ low) ∙ ap least rest
+second-is-second first second one numbers (u ∷ []) after ordered all low =
+    let e : u ∷ one ∷ after ≡ first ∷ second ∷ numbers = all in
+    let head : one ≡ second = cc in
+    let same : first ≡ second = omega (arith, head, low, ordered, least-below-first first numbers) in
+    let rest : second ∷ numbers ≡ u ∷ after = cc in
+    second-above first second numbers ordered (same ∙ sym head ∙ low) ∙ ap least rest
+second-is-second first second one numbers (u ∷ w ∷ us) after ordered all low =
+    let e : u ∷ w ∷ (us ++ one ∷ after) ≡ first ∷ second ∷ numbers = all in
+    let rest : numbers ≡ us ++ one ∷ after = cc in
+    let same : first ∷ second ∷ (us ++ after) ≡ u ∷ w ∷ (us ++ after) = cc in
+    ap (second_below first second) rest
+    ∙ sym ((without-one one first second us after ordered).0 (low ∙ ap (least_below first) rest))
+    ∙ sym (least-two first second (us ++ after) ordered)
+    ∙ ap least same
 
 pub least-le-first : (x : ℕ) (xs : List ℕ) → least (x ∷ xs) ≤ x
 least-le-first x [] = omega arith

@@ -12,7 +12,7 @@ abbrev pub least_below : ℕ → List ℕ → ℕ
 least_below a [] = a
 least_below a (x ∷ xs) = least_below (min a x) xs
 
--- the second least of some numbers and of two more, the lesser one first (tied: least_without_one)
+-- the second least of some numbers and of two more, the lesser one first (tied: second_is_second)
 abbrev pub second_below : ℕ → ℕ → List ℕ → ℕ
 second_below a b [] = b
 second_below a b (x ∷ xs) = second_below (min a x) (min b (max a x)) xs

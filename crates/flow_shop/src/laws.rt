@@ -9,7 +9,8 @@ ghost use Rattle.flow_shop.specs.SequenceFaults.{sequence_fault};
 ghost use Rattle.flow_shop.specs.Bound.{BoundIsAdmissible, ReleasedBoundIsAdmissible, ReleasedBoundIsStronger};
 ghost use Rattle.flow_shop.specs.Ends.{BackByRecurrence, EndBoundIsAdmissible, EndBoundIsExact, FrontByRecurrence};
 ghost use Rattle.flow_shop.specs.Directions.{DirectionsAreOne, DirectionsAreSound, ProvedIsLowerBound};
-ghost use Rattle.flow_shop.specs.TwoLeast.{least_below, LeastWithoutOneIsFound};
+ghost use Rattle.flow_shop.specs.Least.{least};
+ghost use Rattle.flow_shop.specs.TwoLeast.{least_below, second_below, LeastWithoutOneIsFound};
 
 /// A completion time is the weight of a heaviest staircase path.
 pub fn completion_is_greatest()
@@ -84,6 +85,13 @@ pub fn least_is_least()
     ensures least { (first : ℕ) (numbers : List ℕ) → All (λ number. least_below first numbers ≤ number)
         (first ∷ numbers) }
     ensures one { (first : ℕ) (numbers : List ℕ) → Contains (first ∷ numbers) (least_below first numbers) }
+{}
+
+/// The second least of some numbers and of two more is the least of all these without one that is the least of them.
+pub fn second_is_second()
+    ensures { (first second one : ℕ) (numbers before after : List ℕ) → first ≤ second →
+        before ++ one ∷ after ≡ first ∷ second ∷ numbers → one ≡ least_below first numbers →
+        second_below first second numbers ≡ least (before ++ after) }
 {}
 
 /// What is found from the two least of some numbers is the least of them without one of them.
