@@ -1,7 +1,6 @@
 //! The checker: reads a certificate, and returns the value that it proves least, or the sequence. Reads a two-ended
-//! certificate, and returns its bounds and its sequence. It uses nothing of a solver, and computes its bounds of lists
-//! by code of its own, but for a job's lags and the two least of some numbers, which are flow_shop's; the bounds of the
-//! nodes of a two-ended certificate are flow_nodes'.
+//! certificate, and returns its bounds and its sequence. It uses nothing of a solver: docs/proved.md lists the code
+//! below it that the searches may call too.
 #![tactic(auto)]
 
 mod bounds;

@@ -1,5 +1,5 @@
 -- The tails of some jobs behind a machine, their lags to it, and the two least of some numbers.
-use Rattle.std.specs.Prelude.{ℕ, ◌≡◌, ◌≢◌, ◌+◌, ◌-◌, ◌<◌, List, [], ◌∷◌, map, min, max, slice_index}
+use Rattle.std.specs.Prelude.{ℕ, ◌≡◌, ◌≢◌, ◌+◌, ◌-◌, ◌<◌, ◌≤◌, List, [], ◌∷◌, ◌++◌, map, min, max, slice_index}
 use Rattle.flow_shop.specs.Shop.{Shop, time_between}
 use Rattle.flow_shop.specs.declared.least_pairs.LeastPairs.{LeastPairs}
 
@@ -7,12 +7,12 @@ use Rattle.flow_shop.specs.declared.least_pairs.LeastPairs.{LeastPairs}
 abbrev pub tails : Shop → ℕ → List ℕ → List ℕ
 tails shop machine jobs = map (λ job. time_between shop job (machine + 1) shop.machines) jobs
 
--- the least of some numbers and of one more
+-- the least of some numbers and of one more (tied: least_is_least)
 abbrev pub least_below : ℕ → List ℕ → ℕ
 least_below a [] = a
 least_below a (x ∷ xs) = least_below (min a x) xs
 
--- the second least of some numbers and of two more, the lesser one first
+-- the second least of some numbers and of two more, the lesser one first (tied: second_is_second)
 abbrev pub second_below : ℕ → ℕ → List ℕ → ℕ
 second_below a b [] = b
 second_below a b (x ∷ xs) = second_below (min a x) (min b (max a x)) xs
@@ -22,14 +22,25 @@ abbrev pub least_of_none : ℕ
 least_of_none = 4294967295
 
 -- a value is the least of some numbers without one of them, where these are the least and the second least of all
+-- (tied: least_without_one)
 abbrev pub IsLeastWithout : ℕ → ℕ → ℕ → ℕ → Type 0
 IsLeastWithout one least second value = (one ≡ least → value ≡ second) × (one ≢ least → value ≡ least)
+
+-- from the two least of some numbers the least of them without one of them is found; first and second stand for the two
+-- least of no numbers (law: least_without_one)
+abbrev pub LeastWithoutOneIsFound : Type 0
+LeastWithoutOneIsFound =
+    (first second one value : ℕ) (before after : List ℕ) → first ≤ second →
+    IsLeastWithout one (least_below first (before ++ one ∷ after)) (second_below first second (before ++ one ∷ after))
+    value →
+    value ≡ least_below first (before ++ after)
 
 -- the lag of a job from the machine at a place to another: its time on the machines from there to the one before
 abbrev pub time_to : Shop → ℕ → ℕ → ℕ → ℕ
 time_to shop machine place job = time_between shop job (place + 1) (machine - 1)
 
--- the two least of the numbers that some jobs have at the first places
+-- the two least of the numbers that some jobs have at the first places: 4294967295 stands for the second least where
+-- there is no second job, and for both where there is no job
 abbrev pub AreTwoLeast : (ℕ → ℕ → ℕ) → ℕ → List ℕ → LeastPairs → Type 0
 AreTwoLeast number count jobs two =
     (place : ℕ) → place < count →

@@ -1,6 +1,6 @@
 //! Laws of the definitions: each contract is a theorem, and no body does anything.
 
-ghost use Rattle.std.specs.Prelude.{◌≡◌, ℕ, ◌+◌, ◌<◌, ◌≤◌, max, None, List, [], ◌∷◌, ◌++◌, length};
+ghost use Rattle.std.specs.Prelude.{◌≡◌, ℕ, ◌+◌, ◌<◌, ◌≤◌, max, None, List, [], ◌∷◌, ◌++◌, length, All, Contains};
 ghost use Rattle.flow_shop.specs.Shop.{Shop, IsWithinLimits, time};
 ghost use Rattle.flow_shop.specs.Paths.{IsPath, weight, completion};
 ghost use Rattle.flow_shop.specs.Sequences.{IsSequence, IsLeastMakespan};
@@ -9,6 +9,8 @@ ghost use Rattle.flow_shop.specs.SequenceFaults.{sequence_fault};
 ghost use Rattle.flow_shop.specs.Bound.{BoundIsAdmissible, ReleasedBoundIsAdmissible, ReleasedBoundIsStronger};
 ghost use Rattle.flow_shop.specs.Ends.{BackByRecurrence, EndBoundIsAdmissible, EndBoundIsExact, FrontByRecurrence};
 ghost use Rattle.flow_shop.specs.Directions.{DirectionsAreOne, DirectionsAreSound, ProvedIsLowerBound};
+ghost use Rattle.flow_shop.specs.Least.{least};
+ghost use Rattle.flow_shop.specs.TwoLeast.{least_below, second_below, LeastWithoutOneIsFound};
 
 /// A completion time is the weight of a heaviest staircase path.
 pub fn completion_is_greatest()
@@ -76,6 +78,25 @@ pub fn least_makespan_is_one()
     ensures some { (shop : Shop) → (value : ℕ) × IsLeastMakespan shop value }
     ensures one { (shop : Shop) (value other : ℕ) → IsLeastMakespan shop value → IsLeastMakespan shop other →
         value ≡ other }
+{}
+
+/// The least of some numbers and of one more is at most each of these, and it is one of them.
+pub fn least_is_least()
+    ensures least { (first : ℕ) (numbers : List ℕ) → All (λ number. least_below first numbers ≤ number)
+        (first ∷ numbers) }
+    ensures one { (first : ℕ) (numbers : List ℕ) → Contains (first ∷ numbers) (least_below first numbers) }
+{}
+
+/// The second least of some numbers and of two more is the least of all these without one that is the least of them.
+pub fn second_is_second()
+    ensures { (first second one : ℕ) (numbers before after : List ℕ) → first ≤ second →
+        before ++ one ∷ after ≡ first ∷ second ∷ numbers → one ≡ least_below first numbers →
+        second_below first second numbers ≡ least (before ++ after) }
+{}
+
+/// What is found from the two least of some numbers is the least of them without one of them.
+pub fn least_without_one()
+    ensures { LeastWithoutOneIsFound }
 {}
 
 /// Numbers have no fault exactly where they are an instance within the limits.

@@ -1,6 +1,6 @@
 //! The two least numbers of some jobs at each of several places: their tails behind machines, or their lags from them.
 
-ghost use Rattle.std.specs.Prelude.{◌≡◌, ℕ, ◌<◌, ◌≤◌, List, [], ◌∷◌, ◌++◌, slice_index};
+ghost use Rattle.std.specs.Prelude.{◌≡◌, ℕ, ◌<◌, ◌≤◌, min, max, List, [], ◌∷◌, ◌++◌, slice_index};
 ghost use Rattle.flow_limits.specs.Limits.{most_machines};
 ghost use Rattle.flow_shop.specs.TwoLeast.{AreTwoLeast};
 
@@ -41,11 +41,19 @@ impl LeastPairs {
         }
     }
 
-    /// Takes one job more in, by its numbers at the first places. Of the other places nothing is said.
+    /// Takes one job more in, by its numbers at the first places. The other places stay as they were.
     #[inline]
     pub fn take(&mut self, numbers: &[u32; MAX_MACHINES], count: usize)
         requires { count ≤ most_machines }
-        ensures { (number : ℕ → ℕ → ℕ) (jobs : List ℕ) (job : ℕ) →
+        ensures least { (place : ℕ) → place < count →
+            slice_index self.new.least place ≡ min (slice_index self.old.least place) (slice_index numbers.now place) }
+        ensures second { (place : ℕ) → place < count →
+            slice_index self.new.second place ≡ min (slice_index self.old.second place)
+            (max (slice_index self.old.least place) (slice_index numbers.now place)) }
+        ensures others { (place : ℕ) → count ≤ place →
+            (slice_index self.new.least place ≡ slice_index self.old.least place) ×
+            (slice_index self.new.second place ≡ slice_index self.old.second place) }
+        ensures two { (number : ℕ → ℕ → ℕ) (jobs : List ℕ) (job : ℕ) →
             ((place : ℕ) → place < count → slice_index numbers.now place ≡ number place job) →
             AreTwoLeast number count jobs self.old → AreTwoLeast number count (jobs ++ job ∷ []) self.new }
     {

@@ -19,8 +19,9 @@ pub use job_set::JobSet;
 pub use laws::{
     bound_is_admissible, completion_by_recurrence, completion_is_greatest, directions_are_one,
     directions_are_sound, end_bound_is_admissible, end_bound_is_exact, ends_by_recurrence,
-    instances_have_no_fault, least_makespan_is_one, released_bound_is_admissible,
-    released_bound_is_stronger, sequences_have_no_fault,
+    instances_have_no_fault, least_is_least, least_makespan_is_one, least_without_one,
+    released_bound_is_admissible, released_bound_is_stronger, second_is_second,
+    sequences_have_no_fault,
 };
 pub use least_pairs::LeastPairs;
 pub use row::{Row, rows};

@@ -67,7 +67,7 @@ jobs-preserved c =
             append_assoc taken.0 (job ∷ []) (left_from n list (job + 1))
                 ∙ ap (λ js. taken.0 ++ js) (sym (left-next n list c.jobs.last job next c.if-job-eq0.false))
                 ∙ taken.1,
-            c.take.ensures (time_to shop c.args.machine) taken.0 job
+            c.take.ensures.two (time_to shop c.args.machine) taken.0 job
                 (λ place low. c.lags_to-to_machine.ensures shop job row c.requires.machine.1 place low) taken.2,
           );
     }

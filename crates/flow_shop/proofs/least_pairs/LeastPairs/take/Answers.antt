@@ -56,8 +56,18 @@ loop-place-preserved c =
           );
     }
 
-pub returns : goal.returns
-returns c number jobs job are old place low =
+pub returns-clause-least : goal.returns-clause-least
+returns-clause-least c place low = (c.loop-place.invariant.done place (omega (arith, low, c.loop-place-test.false))).0
+
+pub returns-clause-second : goal.returns-clause-second
+returns-clause-second c place low = (c.loop-place.invariant.done place (omega (arith, low, c.loop-place-test.false))).1
+
+pub returns-clause-others : goal.returns-clause-others
+returns-clause-others c place above =
+    c.loop-place.invariant.others place (omega (arith, above, c.loop-place.auto.place-end))
+
+pub returns-clause-two : goal.returns-clause-two
+returns-clause-two c number jobs job are old place low =
     let was = old place low in
     let is : slice_index c.args.numbers.now place ≡ number place job = are place low in
     let done = c.loop-place.invariant.done place
