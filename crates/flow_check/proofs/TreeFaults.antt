@@ -10,12 +10,12 @@ use Rattle.std.proofs.lemmas.Bool.{eq-eqb, false≢true, false_from_ne_true}
 use Rattle.std.proofs.lemmas.Result.{IfErr-weaker}
 use Rattle.flow_shop.specs.Shop.{Shop}
 use Rattle.flow_shop.specs.Paths.{span}
-use Rattle.flow_shop.specs.Sequences.{jobs_left}
+use Rattle.flow_shop.specs.Sequences.{Extends, jobs_left}
 use Rattle.flow_shop.specs.Bound.{Bound, letter, point, plus}
 use Rattle.flow_shop.specs.Characters.{line_feed}
 use Rattle.flow_check.specs.Certificate.{Covers}
 use Rattle.flow_check.specs.TextLines.{line, ending}
-use Rattle.flow_check.specs.CertificateFaults.{BeginsWith, HasFaultAmong, HasTreeFault, HasLineFault}
+use Rattle.flow_check.specs.CertificateFaults.{HasFaultAmong, HasTreeFault, HasLineFault}
 use Rattle.flow_check.specs.internal.ReadTrees.{read_tree, each_tree, then_read, leaf_fault, cut_fault, is_letter}
 use Rattle.flow_check.specs.internal.ReadTrees.{after_tree, trees_value}
 use Rattle.flow_check.specs.declared.fault.CheckFault.{CheckFault}
@@ -37,13 +37,13 @@ abbrev pub IsSome : List ℕ → Type 0
 IsSome [] = ⊥
 IsSome (byte ∷ rest) = Unit {0}
 
-pub nothing-begins : (byte : ℕ) → BeginsWith [] (byte ∷ []) → ⊥
+pub nothing-begins : (byte : ℕ) → Extends [] (byte ∷ []) → ⊥
 nothing-begins byte h = subst IsSome (sym h.1) tt
 
-pub begins-is : (byte start : ℕ) (rest : List ℕ) → BeginsWith (byte ∷ rest) (start ∷ []) → byte ≡ start
+pub begins-is : (byte start : ℕ) (rest : List ℕ) → Extends (byte ∷ rest) (start ∷ []) → byte ≡ start
 begins-is byte start rest h = ap first_of h.1
 
-pub is-begun : (byte start : ℕ) (rest : List ℕ) → byte ≡ start → BeginsWith (byte ∷ rest) (start ∷ [])
+pub is-begun : (byte start : ℕ) (rest : List ℕ) → byte ≡ start → Extends (byte ∷ rest) (start ∷ [])
 is-begun byte start rest e = (rest, ap (λ b. b ∷ rest) e)
 
 -- a fault that is read is one that the text has
@@ -245,7 +245,7 @@ read-to shop bound value left prefix prefixes place text tree rest is covers =
     ∙ ap (after_tree place (trees_value shop bound value left prefixes (place + 1)))
     (tree-complete shop bound value place left prefix tree rest covers)
 
-no-end : (rest : List ℕ) (next : List ℕ → Result ℕ CheckFault) (place : ℕ) → (BeginsWith rest (line_feed ∷ []) → ⊥) →
+no-end : (rest : List ℕ) (next : List ℕ → Result ℕ CheckFault) (place : ℕ) → (Extends rest (line_feed ∷ []) → ⊥) →
     after_tree place next (Ok rest) ≡ Err (Tree place)
 no-end [] next place h = refl
 no-end (byte ∷ rest) next place h = ap (λ b. cond b (next rest) (Err (Tree place)))
