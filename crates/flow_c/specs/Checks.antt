@@ -1,7 +1,7 @@
 -- What the check of a text reports.
 use Rattle.std.specs.Prelude.{ℕ, ◌≡◌, ◌⊎◌, List, Option, Some, None}
 use Rattle.flow_shop.specs.Shop.{Shop}
-use Rattle.flow_check.specs.Check.{HasFaultAs}
+use Rattle.flow_check.specs.Faults.{HasFaultAs}
 use Rattle.flow_check.specs.Kinds.{IsReadAs}
 use Rattle.flow_check.specs.Stated.{GivesAs}
 use Rattle.flow_check.specs.declared.bounds.Bounds.{Bounds}

@@ -4,7 +4,7 @@ ghost use Rattle.std.specs.Prelude.{◌≡◌, ◌⊎◌, ◌+◌, ◌≤◌, No
 ghost use Rattle.flow_shop.specs.Shop.{IsWithinLimits};
 ghost use Rattle.flow_shop.specs.Paths.{span};
 ghost use Rattle.flow_shop.specs.Sequences.{IsSequence, IsLeastMakespan};
-ghost use Rattle.flow_check.specs.Certificate.{AreBounds};
+ghost use Rattle.flow_check.specs.Bounds.{AreBounds};
 ghost use Rattle.flow_check.specs.TwoEnded.{two_ended_text};
 ghost use Rattle.flow_c.specs.Statuses.{number, done, memory};
 ghost use Rattle.flow_c.specs.Faults.{shop_of, numbers_fault};

@@ -3,7 +3,7 @@
 ghost use Rattle.std.specs.Prelude.{◌≡◌, ◌⊎◌, ◌≤◌, None, Some, IfOk, OnOk, IfErr, length, take, drop};
 ghost use Rattle.flow_shop.specs.Paths.{span};
 ghost use Rattle.flow_shop.specs.Sequences.{IsSequence, IsLeastMakespan};
-ghost use Rattle.flow_check.specs.Certificate.{AreBounds};
+ghost use Rattle.flow_check.specs.Bounds.{AreBounds};
 ghost use Rattle.flow_c.specs.Statuses.{number, done, memory};
 ghost use Rattle.flow_c.specs.Faults.{shop_of, numbers_fault, instance_room_fault};
 ghost use Rattle.flow_c.specs.Checks.{IsRefusedText, ReportsCheck, ShowsText};

@@ -1,13 +1,12 @@
 -- The line of two bounds: what is read of it is what it states.
-use Rattle.std.proofs.Common.{◌≡◌, ◌&&◌, nat_lt, ◌^◌, ℕ, Bool, true, cond, List, [], ◌∷◌, Option, Some, None, ap, subst}
+use Rattle.std.proofs.Common.{◌≡◌, ◌&&◌, nat_lt, ◌^◌, ℕ, cond, List, [], ◌∷◌, Option, Some, None, ap, subst}
 use Rattle.std.proofs.Common.{◌∙◌}
-use Rattle.std.proofs.lemmas.Bool.{ltb-true, lt-ltb, and_parts}
-use Rattle.std.proofs.lemmas.Option.{none-some}
+use Rattle.std.proofs.lemmas.Bool.{ltb-true, lt-ltb, and_from, and_parts}
+use Rattle.std.proofs.lemmas.Option.{none-some, cond_some}
 use Rattle.flow_check.specs.TextLines.{spaced}
 use Rattle.flow_check.specs.TwoEnded.{AreInRange}
 use Rattle.flow_check.specs.internal.Reading.{numbers_in}
 use Rattle.flow_check.specs.declared.bounds.Bounds.{Bounds}
-use Rattle.flow_check.proofs.ExactLines.{stated-if}
 use Rattle.flow_check.proofs.Numbers.{IsPlain, numbers-sound, numbers-complete, spaced-plain}
 
 -- the numbers of the line
@@ -23,15 +22,12 @@ bounds_of other = None
 pub bounds-plain : (bounds : Bounds) → AreInRange bounds → IsPlain (spaced (numbers_of bounds))
 bounds-plain bounds fits = spaced-plain (numbers_of bounds) (fits.0, (fits.1, tt))
 
-true-both : (a b : Bool) → a ≡ true → b ≡ true → (a && b) ≡ true
-true-both a b e f = ap (λ t. t && b) e ∙ f
-
 pub bounds-known : (bounds : Bounds) → AreInRange bounds →
     bounds_of (numbers_in (spaced (numbers_of bounds))) ≡ Some bounds
 bounds-known bounds fits =
     ap bounds_of (numbers-complete bounds.lower (bounds.upper ∷ []) (fits.0, (fits.1, tt)))
     ∙ ap (λ b. cond b (Some bounds) None)
-    (true-both (nat_lt bounds.lower (2 ^ 64)) (nat_lt bounds.upper (2 ^ 64))
+    (and_from (nat_lt bounds.lower (2 ^ 64)) (nat_lt bounds.upper (2 ^ 64))
     (lt-ltb bounds.lower (2 ^ 64) fits.0) (lt-ltb bounds.upper (2 ^ 64) fits.1))
 
 -- numbers that state bounds are those of their line
@@ -43,7 +39,7 @@ states (Some (a ∷ [])) bounds e = absurd (none-some bounds e)
 states (Some (a ∷ b ∷ n ∷ ns)) bounds e = absurd (none-some bounds e)
 states (Some (lower ∷ upper ∷ [])) bounds e =
     let read : Bounds = record { lower = lower; upper = upper } in
-    let is = stated-if (nat_lt lower (2 ^ 64) && nat_lt upper (2 ^ 64)) read bounds e in
+    let is = cond_some (nat_lt lower (2 ^ 64) && nat_lt upper (2 ^ 64)) read bounds e in
     let small = and_parts (nat_lt lower (2 ^ 64)) (nat_lt upper (2 ^ 64)) is.0 in (
       subst AreInRange is.1 (ltb-true lower (2 ^ 64) small.0, ltb-true upper (2 ^ 64) small.1),
       ap (λ (b : Bounds). Some (numbers_of b)) is.1,

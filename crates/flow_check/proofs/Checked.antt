@@ -7,7 +7,7 @@ use Rattle.flow_shop.specs.Shop.{Shop, IsWithinLimits}
 use Rattle.flow_check.specs.Certificate.{IsCertificate}
 use Rattle.flow_check.specs.TextLines.{line, ending}
 use Rattle.flow_check.specs.CertificateFaults.{UnlessMemory, HasFirstFault}
-use Rattle.flow_check.specs.Check.{IsFirstFault, IsOfNoValue}
+use Rattle.flow_check.specs.Faults.{IsFirstFault, IsOfNoValue}
 use Rattle.flow_check.specs.internal.Heading.{IsHeadingOf}
 use Rattle.flow_check.specs.internal.Reading.{text_value}
 use Rattle.flow_check.specs.internal.ReadTrees.{cut_value, end_value}

@@ -5,11 +5,11 @@ use Rattle.std.proofs.lemmas.Bool.{cases_Bool, leb-false, lt-leb}
 use Rattle.std.proofs.lemmas.Option.{none-some}
 use Rattle.std.proofs.lemmas.Result.{IfErr-weaker}
 use Rattle.flow_shop.specs.Shop.{Shop}
-use Rattle.flow_shop.specs.Sequences.{jobs_left}
+use Rattle.flow_shop.specs.Sequences.{Extends, jobs_left}
 use Rattle.flow_shop.specs.declared.end.End.{End}
 use Rattle.flow_shop.specs.Ends.{end_bound}
 use Rattle.flow_shop.specs.Directions.{sign, first_with, last_with}
-use Rattle.flow_check.specs.CertificateFaults.{BeginsWith, HasFaultAmong}
+use Rattle.flow_check.specs.CertificateFaults.{HasFaultAmong}
 use Rattle.flow_check.specs.TwoEndedFaults.{HasDirectionsFault}
 use Rattle.flow_check.specs.internal.ReadDirections.{Reading, end_of_sign, read_at, read_node}
 use Rattle.flow_check.specs.declared.fault.CheckFault.{CheckFault}
@@ -20,7 +20,7 @@ use Rattle.flow_check.proofs.DirectionsRead.{end-sign, sign-end, child_read, chi
 use Rattle.flow_check.proofs.DirectionsRead.{read-split, read-sound, read-complete}
 
 -- a text that begins with the sign of no end is read at none
-no-end : (byte : ℕ) (after : List ℕ) → ((end : End) → ¬ BeginsWith (byte ∷ after) (sign end ∷ [])) →
+no-end : (byte : ℕ) (after : List ℕ) → ((end : End) → ¬ Extends (byte ∷ after) (sign end ∷ [])) →
     end_of_sign byte ≡ None
 no-end byte after none = one (end_of_sign byte) refl
   where
@@ -88,7 +88,7 @@ module _ (shop : Shop) (number : ℕ) where
 
   -- a fault that a text has is the one that is read
 
-  unsigned : (left : ℕ) (first last text : List ℕ) → ((end : End) → ¬ BeginsWith text (sign end ∷ [])) →
+  unsigned : (left : ℕ) (first last text : List ℕ) → ((end : End) → ¬ Extends text (sign end ∷ [])) →
       opened shop number left first last text ≡ Err (Tree 5)
   unsigned left first last [] none = refl
   unsigned left first last (byte ∷ after) none =

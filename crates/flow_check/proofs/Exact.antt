@@ -4,8 +4,8 @@ use Rattle.std.proofs.Common.{cond, List, []}
 use Rattle.std.proofs.Common.{◌∷◌, ◌++◌, length, Option, Some, None, Result, Ok, Err, refl, ap, sym, subst, ◌∙◌}
 use Rattle.std.proofs.Common.{arith, append_assoc}
 use Rattle.std.specs.Option.{option_map_or}
-use Rattle.std.specs.List.{AllByRecursion, flat_map}
-use Rattle.std.proofs.lemmas.List.Elements.{recursion_from_All}
+use Rattle.std.specs.List.{flat_map}
+use Rattle.std.proofs.lemmas.List.Elements.{recursion_from_All, All-weaker}
 use Rattle.std.proofs.lemmas.Bool.{eqb-true, leb-true, le-leb, eq-eqb, and_parts}
 use Rattle.flow_shop.specs.Limits.{most_jobs, most_machines, greatest_depth}
 use Rattle.flow_shop.specs.Shop.{Shop, IsWithinLimits}
@@ -29,10 +29,6 @@ use Rattle.flow_check.proofs.TreesExact.{trees-sound, trees-complete, fault-valu
 use Rattle.flow_check.proofs.Numbers.{Fit, numbers-sound, numbers-complete, spaced-plain}
 use Rattle.flow_check.proofs.ExactLines.{on-line-sound, on-line-complete, title-known, title-plain, known-title}
 use Rattle.flow_check.proofs.ExactLines.{value-plain, value-known, value-text}
-
-all-weaken : (P Q : ℕ → Type 0) (xs : List ℕ) → ((x : ℕ) → P x → Q x) → AllByRecursion P xs → AllByRecursion Q xs
-all-weaken P Q [] f h = tt
-all-weaken P Q (x ∷ xs) f h = (f x h.0, all-weaken P Q xs f h.1)
 
 -- the lines that the form prescribes
 
@@ -131,9 +127,9 @@ small-fit n h = omega arith
 
 pub sequence-fit : (n : ℕ) (jobs : List ℕ) → n ≤ most_jobs → IsSequence n jobs → Fit jobs
 sequence-fit n jobs limit is =
-    all-weaken (λ job. (1 ≤ job) × (job ≤ n)) (λ job. job
-    < 2 ^ 64) jobs (λ job h. small-fit job (omega (arith, h.1, limit)))
-    (recursion_from_All (λ job. (1 ≤ job) × (job ≤ n)) jobs is.each.range)
+    recursion_from_All (λ job. job < 2 ^ 64) jobs
+    (All-weaker (λ job. (1 ≤ job) × (job ≤ n)) (λ job. job < 2 ^ 64)
+    (λ job h. small-fit job (omega (arith, h.1, limit))) jobs is.each.range)
 
 pub size-fit : (shop : Shop) (depth : ℕ) → IsWithinLimits shop → depth ≤ greatest_depth →
     Fit (shop.jobs ∷ shop.machines ∷ depth ∷ [])

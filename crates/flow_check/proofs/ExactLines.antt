@@ -1,5 +1,5 @@
 -- The lines of a text, one by one: what is read of each is what it says.
-use Rattle.std.proofs.Common.{◌≡◌, nat_eq, nat_lt, ◌^◌, ℕ, zero, suc, ◌<◌, Bool, true, false}
+use Rattle.std.proofs.Common.{◌≡◌, nat_eq, nat_lt, ◌^◌, ℕ, zero, suc, ◌<◌, true, false}
 use Rattle.std.proofs.Common.{cond, not, List, []}
 use Rattle.std.proofs.Common.{◌∷◌, ◌++◌, Option, Some, None, Result, Ok, Err, refl, ap, sym, subst, ◌∙◌, inl}
 use Rattle.std.proofs.Common.{inr, arith, ap₂, ◌+◌}
@@ -10,7 +10,7 @@ use Rattle.std.specs.Prelude.{codes}
 use Rattle.std.specs.List.{list_all}
 use Rattle.std.specs.Fmt.{decimal}
 use Rattle.std.proofs.lemmas.Fmt.{decimal_digit}
-use Rattle.std.proofs.lemmas.Option.{none-some, same_Some}
+use Rattle.std.proofs.lemmas.Option.{none-some, cond_some}
 use Rattle.std.proofs.lemmas.Bool.{cases_Bool, eqb-true, ltb-true, lt-ltb, and_parts, not-true}
 use Rattle.flow_check.specs.TextLines.{IsVersion, title}
 use Rattle.flow_check.specs.internal.Reading.{value_of}
@@ -122,12 +122,6 @@ value-known value fits =
     ap value_of (numbers-complete value [] (fits, tt))
     ∙ ap (λ b. cond b (Some value) None) (lt-ltb value (2 ^ 64) fits)
 
--- what is stated where a test holds
-pub stated-if : {A : Type 0} (b : Bool) (read stated : A) → cond b (Some read) None ≡ Some stated →
-    (b ≡ true) × (read ≡ stated)
-stated-if true read stated e = (refl, same_Some read stated e)
-stated-if false read stated e = absurd (none-some stated e)
-
 -- numbers that state a value are those of its line
 states : (numbers : Option (List ℕ)) (value : ℕ) → value_of numbers ≡ Some value →
     (value < 2 ^ 64) × (numbers ≡ Some (value ∷ []))
@@ -135,7 +129,7 @@ states None value e = absurd (none-some value e)
 states (Some []) value e = absurd (none-some value e)
 states (Some (a ∷ b ∷ ns)) value e = absurd (none-some value e)
 states (Some (read ∷ [])) value e =
-    let is = stated-if (nat_lt read (2 ^ 64)) read value e in
+    let is = cond_some (nat_lt read (2 ^ 64)) read value e in
     (subst (λ n. n < 2 ^ 64) is.1 (ltb-true read (2 ^ 64) is.0), ap (λ n. Some (n ∷ [])) is.1)
 
 -- a text whose numbers state a value is its line

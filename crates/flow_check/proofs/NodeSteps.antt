@@ -1,9 +1,9 @@
 -- The fronts, the work left and the bounds of lists.
 use Rattle.std.proofs.Common.{◌≡◌, ◌≢◌, ℕ, suc, ◌+◌, ◌-◌, ◌*◌, ◌≤◌, false, not, List, []}
-use Rattle.std.proofs.Common.{◌∷◌, ◌++◌, length, slice_index, replicate, ap, sym, ◌∙◌, subst, inl, inr, arith}
+use Rattle.std.proofs.Common.{◌∷◌, ◌++◌, length, slice_index, ap, sym, ◌∙◌, subst, inl, inr, arith}
 use Rattle.std.proofs.Common.{set, length-append, map}
 use Rattle.std.specs.List.{sum_by}
-use Rattle.std.proofs.lemmas.List.{get_or-set_same, get_or-set_other, get_or-replicate, length-set}
+use Rattle.std.proofs.lemmas.List.{get_or-set_same, get_or-set_other, length-set}
 use Rattle.flow_shop.specs.Limits.{most_jobs, most_machines, greatest_time}
 use Rattle.flow_shop.specs.Shop.{Shop, AreOf, time, time_between, IsWithinLimits}
 use Rattle.flow_shop.specs.Paths.{completion}
@@ -15,9 +15,10 @@ use Rattle.flow_shop.proofs.Admissible.{front_of-is}
 use Rattle.flow_shop.proofs.Extremes.{map-map-append}
 use Rattle.flow_shop.proofs.JobsLeft.{kept-small, none-has}
 use Rattle.std.proofs.lemmas.Bool.Decides.{eqb_tells}
-use Rattle.flow_shop.specs.TwoLeast.{tails, least_below, second_below, least_of_none, IsLeastWithout}
+use Rattle.flow_shop.specs.TwoLeast.{AreTwoLeast, tails, least_below, second_below, least_of_none, IsLeastWithout}
 use Rattle.flow_check.specs.internal.Nodes.{IsListNode, AreKnown, AreTwoLeastTails}
 use Rattle.flow_check.specs.declared.node.ListNode.{ListNode}
+use Rattle.flow_shop.specs.declared.least_pairs.LeastPairs.{LeastPairs}
 use Rattle.flow_shop.specs.declared.two_least.TwoLeast.{TwoLeast}
 use Rattle.flow_shop.proofs.Taken.{left-sum, left-count, left-split, left-without, left_under, left_from}
 use Rattle.flow_shop.proofs.TwoLeastSteps.{without-one, same-without, least-below-cap}
@@ -30,10 +31,10 @@ work-small shop list machine limits =
     (λ k. time-small shop k machine limits)
 
 -- before any bound asks for a tail
-none-known : (shop : Shop) (list least second : List ℕ) →
-    ((machine : ℕ) → 1 ≤ machine → machine ≤ shop.machines → slice_index least (machine - 1) ≡ least_of_none) →
-    length least ≡ most_machines → length second ≡ most_machines → AreKnown shop list least second
-none-known shop list least second none least_size second_size = record {
+none-known : (shop : Shop) (list : List ℕ) (kept : LeastPairs) →
+    ((machine : ℕ) → 1 ≤ machine → machine ≤ shop.machines → slice_index kept.least (machine - 1) ≡ least_of_none) →
+    length kept.least ≡ most_machines → length kept.second ≡ most_machines → AreKnown shop list kept
+none-known shop list kept none least_size second_size = record {
   each = λ machine from to. inl (none machine from to);
   least_size = least_size;
   second_size = second_size;
@@ -46,9 +47,10 @@ pub known-more : (shop : Shop) (list : List ℕ) (node : ListNode) (left machine
     IsListNode shop list (record {
       front = node.front;
       work = node.work;
-      least =
-          set node.least (machine - 1) two.least;
-      second = set node.second (machine - 1) two.second;
+      tails = record {
+        least = set node.tails.least (machine - 1) two.least;
+        second = set node.tails.second (machine - 1) two.second;
+      };
     }) left
 known-more shop list node left machine two limits is from to low = record {
   times = is.times;
@@ -58,30 +60,30 @@ known-more shop list node left machine two limits is from to low = record {
     each = λ k low_k high_k. elim (eqb_tells k machine) [
       | inl same ↦
           let most : shop.machines ≤ most_machines = limits.machines in
-          let a : two.least ≡ slice_index (set node.least (machine - 1) two.least) (k - 1) = sym (ap (λ i. slice_index
-          (set node.least (machine - 1) two.least) (i - 1)) same.1
-          ∙ get_or-set_same node.least (machine - 1) two.least 0 (omega
+          let a : two.least ≡ slice_index (set node.tails.least (machine - 1) two.least) (k - 1) = sym (ap (λ i. slice_index
+          (set node.tails.least (machine - 1) two.least) (i - 1)) same.1
+          ∙ get_or-set_same node.tails.least (machine - 1) two.least 0 (omega
           (arith, is.known.least_size, from, to, most))) in
-          let b : two.second ≡ slice_index (set node.second (machine - 1) two.second) (k - 1) = sym (ap
-          (λ i. slice_index (set node.second (machine - 1) two.second) (i - 1)) same.1
-          ∙ get_or-set_same node.second (machine - 1) two.second 0 (omega
+          let b : two.second ≡ slice_index (set node.tails.second (machine - 1) two.second) (k - 1) = sym (ap
+          (λ i. slice_index (set node.tails.second (machine - 1) two.second) (i - 1)) same.1
+          ∙ get_or-set_same node.tails.second (machine - 1) two.second 0 (omega
           (arith, is.known.second_size, from, to, most))) in
           let here : AreTwoLeastTails shop list k two = subst (λ i. AreTwoLeastTails shop list i two)
           (sym same.1) low in
           inr (sym a ∙ here.0, sym b ∙ here.1)
       | inr other ↦
           let apart : k - 1 ≢ machine - 1 = omega (arith, other.1, low_k, from) in
-          let a : slice_index (set node.least (machine - 1) two.least) (k - 1) ≡ slice_index node.least (k - 1) =
-          get_or-set_other node.least (machine - 1) (k - 1) two.least 0 apart in
-          let b : slice_index (set node.second (machine - 1) two.second) (k - 1) ≡ slice_index node.second (k - 1) =
-          get_or-set_other node.second (machine - 1) (k - 1) two.second 0 apart in
+          let a : slice_index (set node.tails.least (machine - 1) two.least) (k - 1) ≡ slice_index node.tails.least (k - 1) =
+          get_or-set_other node.tails.least (machine - 1) (k - 1) two.least 0 apart in
+          let b : slice_index (set node.tails.second (machine - 1) two.second) (k - 1) ≡ slice_index node.tails.second (k - 1) =
+          get_or-set_other node.tails.second (machine - 1) (k - 1) two.second 0 apart in
           elim (is.known.each k low_k high_k) [
             | inl none ↦ inl (a ∙ none)
             | inr was ↦ inr (a ∙ was.0, b ∙ was.1)
           ]
     ];
-    least_size = length-set node.least (machine - 1) two.least ∙ is.known.least_size;
-    second_size = length-set node.second (machine - 1) two.second ∙ is.known.second_size;
+    least_size = length-set node.tails.least (machine - 1) two.least ∙ is.known.least_size;
+    second_size = length-set node.tails.second (machine - 1) two.second ∙ is.known.second_size;
   };
   count = is.count;
   some = is.some;
@@ -90,17 +92,17 @@ known-more shop list node left machine two limits is from to low = record {
 -- the empty list
 pub root-node : (shop : Shop) (node : ListNode) → IsWithinLimits shop → IsFrontOf shop [] node.front →
     AreOf shop (λ machine. sum_by (λ job. time shop job machine) (jobs_left shop.jobs [])) node.work →
-    length node.work ≡ most_machines → node.least ≡ replicate most_machines least_of_none →
-    node.second ≡ replicate most_machines least_of_none → IsListNode shop [] node shop.jobs
-root-node shop node limits times work size least second =
+    length node.work ≡ most_machines → AreTwoLeast (λ place job. 0) most_machines [] node.tails →
+    length node.tails.least ≡ most_machines → length node.tails.second ≡ most_machines →
+    IsListNode shop [] node shop.jobs
+root-node shop node limits times work size none least_size second_size =
     let most : shop.machines ≤ most_machines = limits.machines in
     record {
       times = times;
       work = work;
       size = size;
-      known = none-known shop [] node.least node.second (λ machine from to. ap (λ l. slice_index l (machine - 1)) least
-          ∙ get_or-replicate most_machines (machine - 1) least_of_none 0 (omega (arith, from, to, most)))
-          (ap length least) (ap length second);
+      known = none-known shop [] node.tails
+          (λ machine from to. (none (machine - 1) (omega (arith, from, to, most))).0) least_size second_size;
       count = omega arith;
       some = none-has shop.jobs;
     }
@@ -111,8 +113,9 @@ pub child-node : (shop : Shop) (list : List ℕ) (node child : ListNode) (left j
     IsFrontOf shop (list ++ job ∷ []) child.front → length child.work ≡ most_machines →
     ((machine : ℕ) → 1 ≤ machine → machine ≤ shop.machines →
     slice_index child.work (machine - 1) + time shop job machine ≡ slice_index node.work (machine - 1)) →
-    ((machine : ℕ) → 1 ≤ machine → machine ≤ shop.machines → slice_index child.least (machine - 1) ≡ least_of_none) →
-    length child.least ≡ most_machines → length child.second ≡ most_machines →
+    ((machine : ℕ) → 1 ≤ machine → machine ≤ shop.machines → slice_index child.tails.least (machine - 1)
+    ≡ least_of_none) →
+    length child.tails.least ≡ most_machines → length child.tails.second ≡ most_machines →
     IsListNode shop (list ++ job ∷ []) child left
 child-node shop list node child left job limits is low high fresh times size less least least_size second_size =
     record {
@@ -125,7 +128,7 @@ child-node shop list node child left job limits is low high fresh times size les
             (λ j. time shop j machine) shop.jobs list job low high fresh,
       );
       size = size;
-      known = none-known shop (list ++ job ∷ []) child.least child.second least least_size second_size;
+      known = none-known shop (list ++ job ∷ []) child.tails least least_size second_size;
       count = omega (arith, is.count, length-append list (job ∷ []));
       some = omega (arith, is.some, left-count shop.jobs list job low high fresh);
     }

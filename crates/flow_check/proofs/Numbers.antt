@@ -1,6 +1,6 @@
 -- The numbers of a line.
-use Rattle.std.proofs.Common.{◌≡◌, ◌≢◌, ◌&&◌, ◌^◌, ◌<◌, ◌≤◌, ℕ, zero, suc, nat_eq, nat_le, Bool, true, false, cond, not}
-use Rattle.std.proofs.Common.{List, [], ◌∷◌, ◌++◌, length, map, get_or, Option, Some, None, refl, ap, sym, subst, ◌∙◌}
+use Rattle.std.proofs.Common.{◌≡◌, ◌≢◌, ◌&&◌, ◌^◌, ◌<◌, ◌≤◌, ℕ, zero, suc, nat_eq, nat_le, true, false, cond, not}
+use Rattle.std.proofs.Common.{List, [], ◌∷◌, ◌++◌, length, map, get_or, Some, None, refl, ap, sym, subst, ◌∙◌}
 use Rattle.std.proofs.Common.{arith}
 use Rattle.std.specs.Fmt.{decimal}
 use Rattle.std.specs.Str.Parse.{digits_value}
@@ -9,6 +9,7 @@ use Rattle.std.proofs.lemmas.List.Elements.{All-from_recursion}
 use Rattle.std.proofs.lemmas.List.Splits.{slice_split_none, slice_split_at, join_with_byte-slice_split}
 use Rattle.std.proofs.lemmas.Fmt.{decimal_is_IsNumeral, decimal_digit, decimal-digits_value, first_decimal}
 use Rattle.std.proofs.lemmas.Str.Parse.{IsNumeralModel, IsDigitsTest, numerals_by_value}
+use Rattle.std.proofs.lemmas.Option.{cond_some}
 use Rattle.std.proofs.lemmas.Bool.{leb-true, le-leb, eq-eqb, false≢true, ne_eqb, and_parts, not-true}
 use Rattle.flow_check.specs.TextLines.{spaced}
 use Rattle.flow_shop.specs.Digits.{is_digit}
@@ -79,23 +80,11 @@ words-written (w ∷ ws) e fits =
     ap (λ x. x ∷ map decimal (map (digits_value 10) ws)) (numeral-decimal w k.0 fits.0)
     ∙ ap (λ xs. w ∷ xs) (words-written ws k.1 fits.1)
 
-abbrev SomeOnly : Option (List ℕ) → Type 0
-SomeOnly None = ⊥
-SomeOnly (Some ns) = Unit {0}
-
-abbrev inside : Option (List ℕ) → List ℕ
-inside None = []
-inside (Some ns) = ns
-
-parts-sound : (b : Bool) (ms ns : List ℕ) → cond b (Some ms) None ≡ Some ns → (b ≡ true) × (ms ≡ ns)
-parts-sound true ms ns e = (refl, ap inside e)
-parts-sound false ms ns e = absurd (subst SomeOnly (sym e) tt)
-
 -- a line that holds numbers alone is how they are written
 pub numbers-sound : (text ns : List ℕ) → numbers_in text ≡ Some ns → Fit ns → text ≡ spaced ns
 numbers-sound text ns e fits =
     let words : List (List ℕ) = slice_split (λ byte. nat_eq byte 32) text in
-    let k = parts-sound (list_all is_numeral words) (map (digits_value 10) words) ns e in
+    let k = cond_some (list_all is_numeral words) (map (digits_value 10) words) ns e in
     let written : map decimal (map (digits_value 10) words) ≡ words =
     words-written words k.0 (subst Fit (sym k.1) fits) in
     sym (join_with_byte-slice_split 32 text) ∙ ap (join_with_byte 32) (sym written) ∙ ap spaced k.1

@@ -3,8 +3,9 @@ use Rattle.std.proofs.Common.{◌≡◌, ℕ, ◌≤◌, List, ap, sym, subst, �
 use Rattle.flow_shop.specs.Shop.{Shop}
 use Rattle.flow_shop.specs.Paths.{span}
 use Rattle.flow_shop.specs.Sequences.{IsSequence, IsLeastMakespan}
-use Rattle.flow_check.specs.Certificate.{AreBounds, IsCertificate}
-use Rattle.flow_check.specs.Check.{IsOfNoValue, IsUnlawfulAs}
+use Rattle.flow_check.specs.Bounds.{AreBounds}
+use Rattle.flow_check.specs.Certificate.{IsCertificate}
+use Rattle.flow_check.specs.Faults.{IsOfNoValue, IsUnlawfulAs}
 use Rattle.flow_check.specs.Stated.{GivesAs, both}
 use Rattle.flow_check.specs.declared.bounds.Bounds.{Bounds}
 use Rattle.flow_check.specs.declared.fault.CheckFault.{CheckFault}

@@ -6,16 +6,16 @@ use Rattle.std.specs.Str.{bytes_eq}
 use Rattle.std.specs.Cmp.Lexicographic.{bytes_decides}
 use Rattle.std.proofs.lemmas.Bool.{cases_Bool, eqb-true, leb-true, leb-false, ltb-true, lt-leb, lt-ltb, le-leb}
 use Rattle.std.proofs.lemmas.Bool.{and_parts}
-use Rattle.std.proofs.lemmas.Bool.{eq-eqb, false≢true}
+use Rattle.std.proofs.lemmas.Bool.{eq-eqb, false≢true, false_from_ne_true}
 use Rattle.std.proofs.lemmas.Result.{IfErr-weaker}
 use Rattle.flow_shop.specs.Shop.{Shop}
 use Rattle.flow_shop.specs.Paths.{span}
-use Rattle.flow_shop.specs.Sequences.{jobs_left}
+use Rattle.flow_shop.specs.Sequences.{Extends, jobs_left}
 use Rattle.flow_shop.specs.Bound.{Bound, letter, point, plus}
 use Rattle.flow_shop.specs.Characters.{line_feed}
 use Rattle.flow_check.specs.Certificate.{Covers}
 use Rattle.flow_check.specs.TextLines.{line, ending}
-use Rattle.flow_check.specs.CertificateFaults.{BeginsWith, HasFaultAmong, HasTreeFault, HasLineFault}
+use Rattle.flow_check.specs.CertificateFaults.{HasFaultAmong, HasTreeFault, HasLineFault}
 use Rattle.flow_check.specs.internal.ReadTrees.{read_tree, each_tree, then_read, leaf_fault, cut_fault, is_letter}
 use Rattle.flow_check.specs.internal.ReadTrees.{after_tree, trees_value}
 use Rattle.flow_check.specs.declared.fault.CheckFault.{CheckFault}
@@ -37,18 +37,14 @@ abbrev pub IsSome : List ℕ → Type 0
 IsSome [] = ⊥
 IsSome (byte ∷ rest) = Unit {0}
 
-pub nothing-begins : (byte : ℕ) → BeginsWith [] (byte ∷ []) → ⊥
+pub nothing-begins : (byte : ℕ) → Extends [] (byte ∷ []) → ⊥
 nothing-begins byte h = subst IsSome (sym h.1) tt
 
-pub begins-is : (byte start : ℕ) (rest : List ℕ) → BeginsWith (byte ∷ rest) (start ∷ []) → byte ≡ start
+pub begins-is : (byte start : ℕ) (rest : List ℕ) → Extends (byte ∷ rest) (start ∷ []) → byte ≡ start
 begins-is byte start rest h = ap first_of h.1
 
-pub is-begun : (byte start : ℕ) (rest : List ℕ) → byte ≡ start → BeginsWith (byte ∷ rest) (start ∷ [])
+pub is-begun : (byte start : ℕ) (rest : List ℕ) → byte ≡ start → Extends (byte ∷ rest) (start ∷ [])
 is-begun byte start rest e = (rest, ap (λ b. b ∷ rest) e)
-
-pub off-where : (b : Bool) → (b ≡ true → ⊥) → b ≡ false
-off-where true h = absurd (h refl)
-off-where false h = refl
 
 -- a fault that is read is one that the text has
 
@@ -185,7 +181,7 @@ tree-read shop bound value place zero node [] fault (inl h) = ap refused (sym h.
 tree-read shop bound value place zero node [] fault (inr h) = absurd (nothing-begins point h.1)
 tree-read shop bound value place zero node (byte ∷ rest) fault (inl h) =
     ap (λ p. leaf_fault p (nat_le value (span shop node)) place rest)
-    (off-where (nat_eq byte 46) (λ same. h.1 (is-begun byte 46 rest (eqb-true byte 46 same))))
+    (false_from_ne_true (nat_eq byte 46) (λ same. h.1 (is-begun byte 46 rest (eqb-true byte 46 same))))
     ∙ ap refused (sym h.0)
 tree-read shop bound value place zero node (byte ∷ rest) fault (inr h) =
     leaf-low shop bound value place zero node byte (span shop node) refl (begins-is byte 46 rest h.1) refl h.2 rest
@@ -249,11 +245,11 @@ read-to shop bound value left prefix prefixes place text tree rest is covers =
     ∙ ap (after_tree place (trees_value shop bound value left prefixes (place + 1)))
     (tree-complete shop bound value place left prefix tree rest covers)
 
-no-end : (rest : List ℕ) (next : List ℕ → Result ℕ CheckFault) (place : ℕ) → (BeginsWith rest (line_feed ∷ []) → ⊥) →
+no-end : (rest : List ℕ) (next : List ℕ → Result ℕ CheckFault) (place : ℕ) → (Extends rest (line_feed ∷ []) → ⊥) →
     after_tree place next (Ok rest) ≡ Err (Tree place)
 no-end [] next place h = refl
 no-end (byte ∷ rest) next place h = ap (λ b. cond b (next rest) (Err (Tree place)))
-    (off-where (nat_eq byte 10) (λ same. h (is-begun byte 10 rest (eqb-true byte 10 same))))
+    (false_from_ne_true (nat_eq byte 10) (λ same. h (is-begun byte 10 rest (eqb-true byte 10 same))))
 
 ending-has : (P : CheckFault → Type 0) (value : ℕ) (b : Bool) → (b ≡ false → P End) →
     IfErr (cond b (okay value) (Err End)) P
@@ -312,7 +308,7 @@ pub lines-read : (shop : Shop) (bound : Bound) (value left : ℕ) (prefixes : Li
     trees_value shop bound value left prefixes place text ≡ Err fault
 lines-read shop bound value left [] place text fault h =
     ap (λ b. cond b (okay value) (Err End))
-    (off-where (bytes_eq text (line ending)) (λ same. h.1 ((bytes_decides text (line ending)).0 same)))
+    (false_from_ne_true (bytes_eq text (line ending)) (λ same. h.1 ((bytes_decides text (line ending)).0 same)))
     ∙ ap none (sym h.0)
 lines-read shop bound value left (prefix ∷ prefixes) place text fault (inl bad) =
     ap (after_tree place (trees_value shop bound value left prefixes (place + 1)))

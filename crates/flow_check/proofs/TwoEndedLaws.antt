@@ -4,7 +4,7 @@ use Rattle.std.proofs.Common.{Err, MatchResult, refl, ap, sym, subst, ◌∙◌,
 use Rattle.std.specs.Option.{option_map_or}
 use Rattle.std.specs.Str.{bytes_eq}
 use Rattle.std.specs.Cmp.Lexicographic.{bytes_decides}
-use Rattle.std.proofs.lemmas.Bool.{eq-eqb, ne_eqb}
+use Rattle.std.proofs.lemmas.Bool.{eq-eqb, false_from_ne_true, ne_eqb}
 use Rattle.flow_shop.specs.Characters.{line_feed}
 use Rattle.flow_shop.specs.Shop.{Shop, IsWithinLimits}
 use Rattle.flow_shop.specs.Paths.{span}
@@ -21,7 +21,6 @@ use Rattle.flow_check.specs.declared.bounds.Bounds.{Bounds}
 use Rattle.flow_check.specs.declared.fault.CheckFault.{CheckFault}
 use Rattle.flow_check.specs.declared.fault.CheckFault.TheVariants.{Memory, Header, Size, Value, Sequence, NotAttained}
 use Rattle.flow_check.specs.declared.fault.CheckFault.TheVariants.{Tree, Weak, Low, End}
-use Rattle.flow_check.proofs.TreeFaults.{off-where}
 use Rattle.flow_check.proofs.TextBegins.{cancel, outer}
 use Rattle.flow_check.proofs.DirectionsRead.{read-complete}
 use Rattle.flow_check.proofs.DirectionFaults.{directions-fault}
@@ -146,7 +145,7 @@ module _ (shop : Shop) (text : List ℕ) (limits : IsWithinLimits shop) where
       ∙ ap refuse (sym is)
     where
       other-bytes : (xs ys : List ℕ) → xs ≢ ys → bytes_eq xs ys ≡ false
-      other-bytes xs ys apart = off-where (bytes_eq xs ys) (λ same. apart ((bytes_decides xs ys).0 same))
+      other-bytes xs ys apart = false_from_ne_true (bytes_eq xs ys) (λ same. apart ((bytes_decides xs ys).0 same))
 
   after-four : (fault : CheckFault) → FailsAfterFour shop text fault → statement shop text ≡ Err fault
   after-four fault h = last-read h.bounds h.sequence h.rest fault h.four h.attained h.faulty

@@ -4,10 +4,9 @@ use Rattle.std.specs.List.{AllZip, concat}
 use Rattle.flow_shop.specs.Limits.{greatest_depth}
 use Rattle.flow_shop.specs.Shop.{Shop, IsWithinLimits}
 use Rattle.flow_shop.specs.Paths.{span}
-use Rattle.flow_shop.specs.Sequences.{IsSequence, IsLowerBound, IsLeastMakespan, jobs_left, cut}
+use Rattle.flow_shop.specs.Sequences.{IsSequence, IsLeastMakespan, jobs_left, cut}
 use Rattle.flow_shop.specs.Bound.{Bound, bound_of, letter, point, plus}
 use Rattle.flow_check.specs.TextLines.{IsVersion, certificate_text}
-use Rattle.flow_check.specs.declared.bounds.Bounds.{Bounds}
 
 -- a text is a tree that covers a value below a list with so many jobs left: a point where none is left, the letter of
 -- a machine whose bound reaches the value, or a plus before the trees of the list's children in increasing order
@@ -40,13 +39,6 @@ IsCertificateWith shop bytes value sequence =
 -- a text is a lawful certificate of a value (law: certificate_is_sound, value_is_exact, text_states_one)
 abbrev pub IsCertificate : Shop → List ℕ → ℕ → Type 0
 IsCertificate shop bytes value = (sequence : List ℕ) × IsCertificateWith shop bytes value sequence
-
--- no sequence is below the lower bound, and one has the upper bound as its makespan; so the least makespan is between
--- them
-pub record AreBounds (shop : Shop) (bounds : Bounds) : Type 0 where
-  pub lower : IsLowerBound shop bounds.lower
-  pub upper : (sequence : List ℕ) × IsSequence shop.jobs sequence × (span shop sequence ≡ bounds.upper)
-  pub between : (least : ℕ) → IsLeastMakespan shop least → (bounds.lower ≤ least) × (least ≤ bounds.upper)
 
 -- the value of a lawful certificate, whoever made it, is the least makespan (law: certificate_is_sound)
 abbrev pub CertificateIsSound : Type 0

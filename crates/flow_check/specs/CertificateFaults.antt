@@ -4,7 +4,7 @@ use Rattle.std.specs.Prelude.{ℕ, zero, suc, ◌≡◌, ◌≢◌, ◌+◌, ◌
 use Rattle.flow_shop.specs.Characters.{line_feed}
 use Rattle.flow_shop.specs.Shop.{Shop, IsWithinLimits}
 use Rattle.flow_shop.specs.Paths.{span}
-use Rattle.flow_shop.specs.Sequences.{IsSequence, jobs_left, cut}
+use Rattle.flow_shop.specs.Sequences.{Extends, IsSequence, jobs_left, cut}
 use Rattle.flow_shop.specs.Bound.{Bound, bound_of, letter, point, plus}
 use Rattle.flow_check.specs.Certificate.{Covers, IsCertificate}
 use Rattle.flow_check.specs.TextLines.{IsVersion, IsDepth}
@@ -12,10 +12,6 @@ use Rattle.flow_check.specs.TextLines.{line, ending, upto_title, upto_sizes, upt
 use Rattle.flow_check.specs.declared.fault.CheckFault.{CheckFault}
 use Rattle.flow_check.specs.declared.fault.CheckFault.TheVariants.{Memory, Header, Size, Value, Sequence, NotAttained}
 use Rattle.flow_check.specs.declared.fault.CheckFault.TheVariants.{Tree, Weak, Low, End}
-
--- a text begins with another one
-abbrev pub BeginsWith : List ℕ → List ℕ → Type 0
-BeginsWith text start = (rest : List ℕ) × (text ≡ start ++ rest)
 
 -- what a fault says; `Memory` says nothing
 abbrev pub UnlessMemory : (CheckFault → Type 0) → CheckFault → Type 0
@@ -38,13 +34,13 @@ HasFaultAmong lawful faulty (item ∷ items) text fault =
 -- or, after a plus, the trees of the list's children have the fault
 abbrev pub HasTreeFault : Shop → Bound → ℕ → ℕ → ℕ → List ℕ → List ℕ → CheckFault → Type 0
 HasTreeFault shop bound value place zero jobs text fault =
-    ((fault ≡ Tree place) × ¬ BeginsWith text (point ∷ []))
-    ⊎ ((fault ≡ Low place) × BeginsWith text (point ∷ []) × (span shop jobs < value))
+    ((fault ≡ Tree place) × ¬ Extends text (point ∷ []))
+    ⊎ ((fault ≡ Low place) × Extends text (point ∷ []) × (span shop jobs < value))
 HasTreeFault shop bound value place (suc left) jobs text fault =
-    ((fault ≡ Tree place) × (¬ BeginsWith text (plus ∷ []))
-    × ((machine : ℕ) → 1 ≤ machine → machine ≤ shop.machines → ¬ BeginsWith text (letter machine ∷ [])))
+    ((fault ≡ Tree place) × (¬ Extends text (plus ∷ []))
+    × ((machine : ℕ) → 1 ≤ machine → machine ≤ shop.machines → ¬ Extends text (letter machine ∷ [])))
     ⊎ ((machine : ℕ) × (1 ≤ machine) × (machine ≤ shop.machines) × (fault ≡ Weak place)
-    × BeginsWith text (letter machine ∷ []) × (bound shop jobs machine < value))
+    × Extends text (letter machine ∷ []) × (bound shop jobs machine < value))
     ⊎ ((children : List ℕ) × (text ≡ plus ∷ children)
     × HasFaultAmong (λ job. Covers shop bound value left (jobs ++ job ∷ []))
     (λ job. HasTreeFault shop bound value place left (jobs ++ job ∷ [])) (jobs_left shop.jobs jobs) children fault)
@@ -57,30 +53,30 @@ HasLineFault shop bound value left [] place text fault = (fault ≡ End) × (tex
 HasLineFault shop bound value left (prefix ∷ prefixes) place text fault =
     HasTreeFault shop bound value place left prefix text fault
     ⊎ ((tree : List ℕ) × (rest : List ℕ) × (text ≡ tree ++ rest) × Covers shop bound value left prefix tree
-    × (((fault ≡ Tree place) × ¬ BeginsWith rest (line_feed ∷ []))
+    × (((fault ≡ Tree place) × ¬ Extends rest (line_feed ∷ []))
     ⊎ ((lines : List ℕ) × (rest ≡ line_feed ∷ lines)
     × HasLineFault shop bound value left prefixes (place + 1) lines fault)))
 
 -- the first fault of a text that is no lawful certificate. The first tree stands in line 5 (law: fault_is_exact)
 abbrev pub HasFirstFault : Shop → List ℕ → CheckFault → Type 0
 HasFirstFault shop text Memory = ⊥
-HasFirstFault shop text Header = (version : ℕ) → IsVersion version → ¬ BeginsWith text (upto_title version)
+HasFirstFault shop text Header = (version : ℕ) → IsVersion version → ¬ Extends text (upto_title version)
 HasFirstFault shop text Size =
-    (version : ℕ) × IsVersion version × BeginsWith text (upto_title version)
-    × ((depth : ℕ) → IsDepth shop depth → ¬ BeginsWith text (upto_sizes shop version depth))
+    (version : ℕ) × IsVersion version × Extends text (upto_title version)
+    × ((depth : ℕ) → IsDepth shop depth → ¬ Extends text (upto_sizes shop version depth))
 HasFirstFault shop text Value =
     (version : ℕ) × (depth : ℕ) × IsVersion version × IsDepth shop depth
-    × BeginsWith text (upto_sizes shop version depth)
-    × ((value : ℕ) → value < 2 ^ 64 → ¬ BeginsWith text (upto_value shop version depth value))
+    × Extends text (upto_sizes shop version depth)
+    × ((value : ℕ) → value < 2 ^ 64 → ¬ Extends text (upto_value shop version depth value))
 HasFirstFault shop text Sequence =
     (version : ℕ) × (depth : ℕ) × (value : ℕ) × IsVersion version × IsDepth shop depth
-    × (value < 2 ^ 64) × BeginsWith text (upto_value shop version depth value)
+    × (value < 2 ^ 64) × Extends text (upto_value shop version depth value)
     × ((sequence : List ℕ) → IsSequence shop.jobs sequence →
-    ¬ BeginsWith text (heading shop version depth value sequence))
+    ¬ Extends text (heading shop version depth value sequence))
 HasFirstFault shop text NotAttained =
     (version : ℕ) × (depth : ℕ) × (value : ℕ) × (sequence : List ℕ) × IsVersion version
     × IsDepth shop depth × (value < 2 ^ 64) × IsSequence shop.jobs sequence
-    × BeginsWith text (heading shop version depth value sequence) × (span shop sequence ≢ value)
+    × Extends text (heading shop version depth value sequence) × (span shop sequence ≢ value)
 HasFirstFault shop text fault =
     (version : ℕ) × (depth : ℕ) × (value : ℕ) × (sequence : List ℕ) × IsVersion version
     × IsDepth shop depth × (value < 2 ^ 64) × IsSequence shop.jobs sequence × (span shop sequence ≡ value)

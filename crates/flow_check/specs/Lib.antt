@@ -1,6 +1,7 @@
+pub mod Bounds
 pub mod Certificate
 pub mod CertificateFaults
-pub mod Check
+pub mod Faults
 pub mod Kinds
 pub mod Stated
 pub mod TextLines

@@ -3,10 +3,10 @@
 use Rattle.std.specs.Prelude.{ℕ, ◌≡◌, ◌^◌, ◌<◌, List, [], ◌∷◌, ◌++◌, codes}
 use Rattle.flow_shop.specs.Shop.{Shop, IsWithinLimits}
 use Rattle.flow_shop.specs.Paths.{span}
-use Rattle.flow_shop.specs.Sequences.{IsSequence, IsLeastMakespan}
+use Rattle.flow_shop.specs.Sequences.{IsSequence}
 use Rattle.flow_shop.specs.Directions.{Proves}
+use Rattle.flow_check.specs.Bounds.{AreProved}
 use Rattle.flow_check.specs.TextLines.{line, spaced, ending}
-use Rattle.flow_check.specs.Certificate.{AreBounds}
 use Rattle.flow_check.specs.declared.bounds.Bounds.{Bounds}
 
 -- the first line
@@ -52,11 +52,6 @@ pub record IsTwoEnded (shop : Shop) (bytes : List ℕ) (bounds : Bounds) (sequen
   pub directions : List ℕ
   pub shows : ShowsBounds shop bounds sequence directions
   pub text : bytes ≡ two_ended_text shop bounds sequence directions
-
--- bounds that are proved: they hold, and where they are the same they are the least makespan
-pub record AreProved (shop : Shop) (bounds : Bounds) : Type 0 where
-  pub hold : AreBounds shop bounds
-  pub least : bounds.lower ≡ bounds.upper → IsLeastMakespan shop bounds.lower
 
 -- two statements are one: the same bounds, sequence and directions (law: two_ended_states_one)
 pub record AreOne (bounds other : Bounds) (sequence jobs directions signs : List ℕ) : Type 0 where

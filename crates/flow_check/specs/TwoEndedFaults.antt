@@ -4,12 +4,12 @@ use Rattle.std.specs.Prelude.{ℕ, zero, suc, ◌≡◌, ◌≢◌, ◌<◌, ◌
 use Rattle.flow_shop.specs.Characters.{line_feed}
 use Rattle.flow_shop.specs.Shop.{Shop, IsWithinLimits}
 use Rattle.flow_shop.specs.Paths.{span}
-use Rattle.flow_shop.specs.Sequences.{IsSequence, jobs_left}
+use Rattle.flow_shop.specs.Sequences.{Extends, IsSequence, jobs_left}
 use Rattle.flow_shop.specs.Ends.{end_bound}
 use Rattle.flow_shop.specs.Directions.{sign, first_with, last_with, ProvesWith, Proves}
 use Rattle.flow_shop.specs.declared.end.End.{End as SequenceEnd}
 use Rattle.flow_check.specs.TextLines.{line, ending}
-use Rattle.flow_check.specs.CertificateFaults.{BeginsWith, UnlessMemory, HasFaultAmong}
+use Rattle.flow_check.specs.CertificateFaults.{UnlessMemory, HasFaultAmong}
 use Rattle.flow_check.specs.TwoEnded.{title_line, size_lines, bounds_lines, sequence_lines, AreInRange, IsTwoEnded}
 use Rattle.flow_check.specs.declared.bounds.Bounds.{Bounds}
 use Rattle.flow_check.specs.declared.fault.CheckFault.{CheckFault}
@@ -25,7 +25,7 @@ HasDirectionsFault shop number zero first last text fault =
     (fault ≡ Low 5) × (end_bound shop first last < number)
 HasDirectionsFault shop number (suc left) first last text fault =
     (end_bound shop first last < number)
-    × (((fault ≡ Tree 5) × ((end : SequenceEnd) → ¬ BeginsWith text (sign end ∷ [])))
+    × (((fault ≡ Tree 5) × ((end : SequenceEnd) → ¬ Extends text (sign end ∷ [])))
     ⊎ ((end : SequenceEnd) × (children : List ℕ) × (text ≡ sign end ∷ children)
     × HasFaultAmong (λ job. ProvesWith shop number left (first_with end first job) (last_with end last job))
     (λ job. HasDirectionsFault shop number left (first_with end first job) (last_with end last job))
@@ -37,7 +37,7 @@ pub record LineGoesOn (shop : Shop) (number : ℕ) (text : List ℕ) : Type 0 wh
   pub rest : List ℕ
   pub goes_on : text ≡ directions ++ rest
   pub proved : Proves shop number directions
-  pub no_end : ¬ BeginsWith rest (line_feed ∷ [])
+  pub no_end : ¬ Extends rest (line_feed ∷ [])
 
 -- the line of directions that prove a number begins a text, but what follows is not the last line alone
 pub record EndsOtherwise (shop : Shop) (number : ℕ) (text : List ℕ) : Type 0 where
@@ -56,21 +56,21 @@ HasLastFault shop number text fault =
 
 -- the first line is lawful, but no line of the jobs and machines follows
 pub record HasNoSize (shop : Shop) (text : List ℕ) : Type 0 where
-  pub title : BeginsWith text title_line
-  pub none : ¬ BeginsWith text (size_lines shop)
+  pub title : Extends text title_line
+  pub none : ¬ Extends text (size_lines shop)
 
 -- two lines are lawful, but no line of two bounds follows
 pub record HasNoBounds (shop : Shop) (text : List ℕ) : Type 0 where
-  pub size : BeginsWith text (size_lines shop)
-  pub none : (bounds : Bounds) → AreInRange bounds → ¬ BeginsWith text (bounds_lines shop bounds)
+  pub size : Extends text (size_lines shop)
+  pub none : (bounds : Bounds) → AreInRange bounds → ¬ Extends text (bounds_lines shop bounds)
 
 -- three lines are lawful, but no line of a sequence follows
 pub record HasNoSequence (shop : Shop) (text : List ℕ) : Type 0 where
   pub bounds : Bounds
   pub fit : AreInRange bounds
-  pub begins : BeginsWith text (bounds_lines shop bounds)
+  pub begins : Extends text (bounds_lines shop bounds)
   pub none : (sequence : List ℕ) → IsSequence shop.jobs sequence →
-      ¬ BeginsWith text (sequence_lines shop bounds sequence)
+      ¬ Extends text (sequence_lines shop bounds sequence)
 
 -- four lines are lawful, and a text follows
 pub record HasFourLines (shop : Shop) (text : List ℕ) (bounds : Bounds) (sequence rest : List ℕ) : Type 0 where
@@ -98,7 +98,7 @@ pub record FailsAfterFour (shop : Shop) (text : List ℕ) (fault : CheckFault) :
 -- the first fault of a text (law: two_ended_fault_is_exact)
 abbrev pub HasTwoEndedFault : Shop → List ℕ → CheckFault → Type 0
 HasTwoEndedFault shop text Memory = ⊥
-HasTwoEndedFault shop text Header = ¬ BeginsWith text title_line
+HasTwoEndedFault shop text Header = ¬ Extends text title_line
 HasTwoEndedFault shop text Size = HasNoSize shop text
 HasTwoEndedFault shop text Value = HasNoBounds shop text
 HasTwoEndedFault shop text Sequence = HasNoSequence shop text

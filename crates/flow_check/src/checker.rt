@@ -6,7 +6,7 @@ ghost use Rattle.flow_shop.specs.Paths.{span};
 ghost use Rattle.flow_shop.specs.LeastMakespan.{IsLeastMakespan, IsSequence};
 ghost use Rattle.flow_check.specs.Certificate.{IsCertificate};
 ghost use Rattle.flow_check.specs.TextLines.{line, ending};
-ghost use Rattle.flow_check.specs.Check.{IsFirstFault, IsOfNoValue};
+ghost use Rattle.flow_check.specs.Faults.{IsFirstFault, IsOfNoValue};
 ghost use Rattle.flow_check.specs.Stated.{GivesAs, GivesSequence};
 ghost use Rattle.flow_check.specs.declared.bounds.Bounds.{Bounds};
 ghost use Rattle.flow_check.specs.declared.fault.CheckFault.TheVariants.{Memory};

@@ -1,12 +1,14 @@
 //! The nodes of the trees: what is kept of a list of jobs, and the machine bounds.
 
-ghost use Rattle.std.specs.Prelude.{◌≡◌, ℕ, ◌+◌, ◌-◌, ◌*◌, ◌≤◌, ◌<◌, List, [], ◌∷◌, ◌++◌, suc, false};
-ghost use Rattle.flow_shop.specs.Limits.{greatest_time, greatest_completion};
+ghost use Rattle.std.specs.Prelude.{◌≡◌, ◌≢◌, ℕ, ◌+◌, ◌-◌, ◌*◌, ◌≤◌, ◌<◌, List, [], ◌∷◌, ◌++◌, suc, false};
+ghost use Rattle.std.specs.Prelude.{length, slice_index};
+ghost use Rattle.flow_shop.specs.Limits.{greatest_time, greatest_completion, most_machines};
 ghost use Rattle.flow_shop.specs.Shop.{time};
 ghost use Rattle.flow_shop.specs.Paths.{completion};
 ghost use Rattle.flow_shop.specs.Front.{IsFrontOf, IsWithinFront};
 ghost use Rattle.flow_shop.specs.Sequences.{has};
 ghost use Rattle.flow_shop.specs.Bound.{bound_at};
+ghost use Rattle.flow_shop.specs.TwoLeast.{least_of_none};
 ghost use Rattle.flow_check.specs.internal.Links.{AreLinks};
 ghost use Rattle.flow_check.specs.internal.Nodes.{IsListNode, IsAt, AreTwoLeastTails, IsChild};
 ghost use Rattle.flow_nodes.specs.Nodes.{IsMachine, IsJob};
@@ -15,7 +17,7 @@ ghost use Rattle.flow_check.specs.internal.Nodes.{grown, left_before};
 use crate::trees_text::TreesText;
 use flow_limits::MAX_MACHINES;
 use flow_nodes::time_of_all;
-use flow_shop::{Instance, TwoLeast};
+use flow_shop::{Instance, LeastPairs, TwoLeast};
 
 /// What is kept of a list of jobs. The machine bounds of the list and of its children are computed from it. A job's
 /// tail after a machine is its time on all later machines. The two least tails after a machine are found when the
@@ -26,10 +28,9 @@ pub(crate) struct ListNode {
     pub(crate) front: [u64; MAX_MACHINES],
     /// For each machine the sum of the times of the jobs left.
     work: [u64; MAX_MACHINES],
-    /// The least tail of the jobs left after each machine. The greatest number means that it is not found yet.
-    least: [u32; MAX_MACHINES],
-    /// The second least tail, once the least is found. The child that takes the job with the least tail needs it.
-    second: [u32; MAX_MACHINES],
+    /// The two least tails of the jobs left after each machine. Where the least is the greatest number, they are not
+    /// found yet. The child that takes the job with the least tail needs the second.
+    tails: LeastPairs,
 }
 
 impl ListNode {
@@ -45,8 +46,7 @@ impl ListNode {
         ListNode {
             front: [0; MAX_MACHINES],
             work,
-            least: [u32::MAX; MAX_MACHINES],
-            second: [u32::MAX; MAX_MACHINES],
+            tails: LeastPairs::none(),
         }
     }
 
@@ -69,9 +69,22 @@ impl ListNode {
             free = list.front[place].max(free) + time;
             self.front[place] = free;
             self.work[place] = list.work[place] - time;
-            self.least[place] = u32::MAX;
+            forget_tails(&mut self.tails, place);
         }
     }
+}
+
+/// Forgets the tails at a place, so that they are found anew. The second least is not written.
+#[inline(always)]
+fn forget_tails(tails: &mut LeastPairs, place: usize)
+    requires { place < most_machines }
+    ensures least_size { length tails.new.least ≡ most_machines }
+    ensures second_size { length tails.new.second ≡ most_machines }
+    ensures none { slice_index tails.new.least place ≡ least_of_none }
+    ensures others { (other : ℕ) → other ≢ place →
+        slice_index tails.new.least other ≡ slice_index tails.old.least other }
+{
+    tails.least[place] = u32::MAX;
 }
 
 /// The completion time of a child on a machine, from the front of the list and the job at the child's end.
@@ -123,16 +136,13 @@ fn tails_of(text: &TreesText, node: &mut ListNode, links: &[u16], machine: u16) 
         IsAt text.now.shop.now list node.new links.now left }
 {
     let place = machine as usize - 1;
-    let known = node.least[place];
-    if known != u32::MAX {
-        return TwoLeast {
-            least: known,
-            second: node.second[place],
-        };
+    let known = node.tails.at(place);
+    if known.least != u32::MAX {
+        return known;
     }
     let two = find_tails(text, links, machine);
-    node.least[place] = two.least;
-    node.second[place] = two.second;
+    node.tails.least[place] = two.least;
+    node.tails.second[place] = two.second;
     two
 }
 

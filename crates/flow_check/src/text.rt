@@ -2,8 +2,8 @@
 
 ghost use Rattle.std.specs.Prelude.{◌≡◌, ◌⊎◌, ℕ, List, IfOk, IfErr, IsOkAnd, Err};
 ghost use Rattle.flow_shop.specs.LeastMakespan.{IsLeastMakespan, IsSequence};
-ghost use Rattle.flow_check.specs.Certificate.{AreBounds};
-ghost use Rattle.flow_check.specs.Check.{IsFaultAs, IsUnlawfulAs};
+ghost use Rattle.flow_check.specs.Bounds.{AreBounds};
+ghost use Rattle.flow_check.specs.Faults.{IsFaultAs, IsUnlawfulAs};
 ghost use Rattle.flow_check.specs.Stated.{GivesAs};
 ghost use Rattle.flow_check.specs.declared.bounds.Bounds.{Bounds};
 ghost use Rattle.flow_check.specs.declared.fault.CheckFault.TheVariants.{Memory};

@@ -3,7 +3,7 @@
 ghost use Rattle.std.specs.Prelude.{◌≡◌, ◌⊎◌, ◌∷◌, ℕ, List, IfOk, IfErr, IsOkAnd, OnOk, Err};
 ghost use Rattle.flow_shop.specs.Characters.{line_feed};
 ghost use Rattle.flow_shop.specs.LeastMakespan.{IsSequence, IsLeastMakespan};
-ghost use Rattle.flow_check.specs.Certificate.{AreBounds};
+ghost use Rattle.flow_check.specs.Bounds.{AreBounds};
 ghost use Rattle.flow_check.specs.TextLines.{line, ending};
 ghost use Rattle.flow_check.specs.TwoEnded.{IsTwoEnded};
 ghost use Rattle.flow_check.specs.TwoEndedFaults.{IsTwoEndedFault, IsNotTwoEnded};

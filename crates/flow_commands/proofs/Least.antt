@@ -4,8 +4,8 @@ use Rattle.std.proofs.lemmas.Bool.{eq-eqb}
 use Rattle.flow_core.specs.Paths.{span}
 use Rattle.flow_core.specs.Sequences.{IsLeastMakespan, IsSequence}
 use Rattle.flow_core.specs.Shop.{Shop}
+use Rattle.flow_check.specs.Bounds.{AreProved}
 use Rattle.flow_check.specs.Stated.{GivesAs}
-use Rattle.flow_check.specs.TwoEnded.{AreProved}
 use Rattle.flow_check.specs.declared.bounds.Bounds.{Bounds}
 use Rattle.flow_check.specs.declared.kind.TextKind.{TextKind}
 use Rattle.flow_check.specs.declared.kind.TextKind.TheVariants.{Certificate}

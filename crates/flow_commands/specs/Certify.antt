@@ -5,7 +5,8 @@ use Rattle.flow_core.specs.Shop.{Shop}
 use Rattle.flow_core.specs.Ends.{end_bound}
 use Rattle.flow_core.specs.Limits.{most_certificate, most_workers}
 use Rattle.flow_core.specs.Refusals.{fault_unless, first_fault}
-use Rattle.flow_check.specs.TwoEnded.{AreProved, IsTwoEnded}
+use Rattle.flow_check.specs.Bounds.{AreProved}
+use Rattle.flow_check.specs.TwoEnded.{IsTwoEnded}
 use Rattle.flow_check.specs.declared.bounds.Bounds.{Bounds}
 use Rattle.flow_certify.specs.Signs.{may_be_most}
 use Rattle.flow_requests.specs.declared.CertifyRequest.{CertifyRequest}

@@ -3,10 +3,10 @@ use Rattle.std.specs.Prelude.{◌≡◌, ◌≢◌, ℕ, ◌⊎◌, Bool, false,
 use Rattle.flow_core.specs.Shop.{Shop}
 use Rattle.flow_core.specs.Paths.{span}
 use Rattle.flow_core.specs.Sequences.{IsLeastMakespan, IsSequence}
-use Rattle.flow_check.specs.Check.{HasFaultAs}
+use Rattle.flow_check.specs.Bounds.{AreProved}
+use Rattle.flow_check.specs.Faults.{HasFaultAs}
 use Rattle.flow_check.specs.Kinds.{IsReadAs}
 use Rattle.flow_check.specs.Stated.{GivesAs}
-use Rattle.flow_check.specs.TwoEnded.{AreProved}
 use Rattle.flow_check.specs.declared.bounds.Bounds.{Bounds}
 use Rattle.flow_check.specs.declared.fault.CheckFault.{CheckFault}
 use Rattle.flow_check.specs.declared.kind.TextKind.{TextKind}

@@ -1,13 +1,13 @@
 -- What a file is read as, and how many bytes it may have.
 use Rattle.std.specs.Prelude.{◌≤◌, ℕ, List, length, codes}
 use Rattle.flow_core.specs.Limits.{most_certificate, most_text}
-use Rattle.flow_check.specs.CertificateFaults.{BeginsWith}
+use Rattle.flow_core.specs.Sequences.{Extends}
 use Rattle.flow_commands.specs.declared.files.FileKind.{FileKind}
 use Rattle.flow_commands.specs.declared.files.FileKind.TheVariants.{Certificate, StartOrCertificate, Text}
 
 -- a text begins as every certificate does
 abbrev pub BeginsAsCertificate : List ℕ → Type 0
-BeginsAsCertificate text = BeginsWith text (codes "flowshop ")
+BeginsAsCertificate text = Extends text (codes "flowshop ")
 
 -- a file of a kind may have these bytes: no more than a text or a certificate may have. One that is to be a start or a
 -- certificate may be as long as a certificate where it begins as one, and else as long as a text

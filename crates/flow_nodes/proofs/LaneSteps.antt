@@ -7,7 +7,7 @@ use Rattle.std.proofs.lemmas.Bool.{cases_lt, lt-ltb, le-ltb}
 use Rattle.std.proofs.lemmas.List.{length-map, get_or-map, get_or_past}
 use Rattle.std.proofs.lemmas.Nat.{bit_set_by_shift, and_mask}
 use Rattle.std.proofs.lemmas.Simd.{tops_compared, length-sel_l, get_or-sel_l, length-zip2, get_or-zip2}
-use Rattle.std.proofs.lemmas.Simd.{length-replicate, get_or-replicate, bitmask_splat, bit_mask_l}
+use Rattle.std.proofs.lemmas.Simd.{bitmask_splat, bit_mask_l}
 use native.Mathlib.Nat.{mod-eq_of_lt}
 use mir.Syntax.{Width}
 use mir.Val.{bits, hbits}
@@ -88,14 +88,6 @@ module _ (w : Width) (cap width : ℕ) (xs ys : List ℕ) (lane one two : ℕ) (
             ∙ mod-eq_of_lt fits
             ∙ sum;
       }
-
-pub has-all : (cap width number value lane : ℕ) → value ≡ capped cap number → lane < width →
-    HasLane cap width (replicate width value) lane number
-has-all cap width number value lane is within = record {
-  count = length-replicate width value;
-  within = within;
-  value = get_or-replicate width lane value 0 within ∙ is;
-}
 
 -- a bit of the mask is set where the lane is below
 pub is-below : (w : Width) (cap width : ℕ) (xs : List ℕ) (lane value number : ℕ) → width ≤ 64 → number ≤ cap →

@@ -2,6 +2,7 @@
 use Rattle.std.specs.Prelude.{ℕ, ◌≡◌, ◌+◌, ◌-◌, ◌*◌, ◌/◌, ◌<◌, ◌≤◌, false, min, List, ◌++◌, length, slice_index}
 use Rattle.std.specs.Prelude.{slice_index_or}
 use Rattle.std.specs.Global.{Vec}
+use Rattle.flow_limits.specs.Limits.{most_jobs}
 use Rattle.flow_shop.specs.Shop.{Shop, IsWithinLimits, time}
 use Rattle.flow_shop.specs.Ends.{end_bound}
 use Rattle.flow_shop.specs.Directions.{first_with, last_with}
@@ -29,6 +30,10 @@ AreNames shop group names =
 -- how many groups so many jobs have
 abbrev pub group_count : ℕ → ℕ
 group_count jobs = (jobs + 15) / 16
+
+-- how many groups the most jobs have
+abbrev pub most_groups : ℕ
+most_groups = group_count most_jobs
 
 -- the groups of all jobs, sixteen to a group
 pub record AreGroups {V : Type 0} (list : V → List ℕ) (cap width : ℕ) (shop : Shop) (groups : List (Vec V)) :

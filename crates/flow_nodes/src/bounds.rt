@@ -10,7 +10,7 @@ ghost use Rattle.flow_shop.specs.declared.end.End.{End};
 ghost use Rattle.flow_shop.specs.declared.end.End.TheVariants.{Front, Back};
 ghost use Rattle.flow_nodes.specs.Lanes.{HasLane, limit_of};
 ghost use Rattle.flow_nodes.specs.Nodes.{IsNode};
-ghost use Rattle.flow_nodes.specs.Groups.{IsGroup, child_bound};
+ghost use Rattle.flow_nodes.specs.Groups.{IsGroup, child_bound, most_groups};
 ghost use Rattle.flow_nodes.specs.Marks.{mark};
 ghost use Rattle.flow_nodes.specs.internal.Children.{greatest_at};
 
@@ -105,7 +105,7 @@ impl Node {
     )
         requires wide { V.WIDTH ≡ 16 }
         requires limit { limit ≤ V.CAP }
-        requires few { length groups.now ≤ 50 }
+        requires few { length groups.now ≤ most_groups }
         requires machines { (group : ℕ) (none : Vec V) → group < length groups.now →
             length (slice_index_or groups.now group none).items ≤ most_machines }
         ensures rest { (place : ℕ) → length groups.now ≤ place / 16 →

@@ -3,14 +3,18 @@
 ghost use Rattle.std.specs.Prelude.{◌≡◌, ℕ, ◌<◌, ◌≤◌, length, slice_index, IfOk};
 ghost use Rattle.flow_shop.specs.Shop.{time};
 ghost use Rattle.flow_nodes.specs.Nodes.{IsJob, IsMachine};
-ghost use Rattle.flow_nodes.specs.Groups.{AreGroups, AreNames, IsGroup, group_count};
+ghost use Rattle.flow_nodes.specs.Groups.{AreGroups, AreNames, IsGroup, group_count, most_groups};
 
 use crate::lanes::Lanes;
+use flow_limits::MAX_JOBS;
 use flow_shop::Instance;
 use std::alloc::{AllocError, Global};
 
 /// How many jobs stand in each group of `groups`.
 pub const LANES: usize = 16;
+
+/// How many groups the most jobs have.
+pub const MAX_GROUPS: usize = (MAX_JOBS + (LANES - 1)) / LANES;
 
 /// The most lanes.
 const MOST_LANES: usize = 64;
@@ -46,7 +50,7 @@ pub fn write_group<V: Lanes>(instance: &Instance, jobs: &[u16], group: &mut [V])
 
 /// The jobs of a group. The places behind the last job of the instance have that job.
 fn names_of(instance: &Instance, group: usize) -> [u16; LANES]
-    requires { group < 50 }
+    requires { group < most_groups }
     ensures count { length result ≡ 16 }
     ensures each { AreNames instance.now group result }
 {

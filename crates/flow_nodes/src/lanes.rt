@@ -6,6 +6,9 @@ ghost use Rattle.flow_nodes.specs.Lanes.{capped, HasLane};
 
 use std::simd::prelude::*;
 
+/// The greatest number of a lane of 16 bits.
+const NARROW_CAP: u32 = 65_535;
+
 /// Numbers side by side. A lane has its number, or the cap where that is less. So for each limit up to the cap, a
 /// number is below the limit exactly where its lane is.
 pub trait Lanes: Copy {
@@ -59,7 +62,7 @@ pub trait Lanes: Copy {
 }
 
 impl Lanes for u16x16 {
-    const CAP: u32 = 65_535;
+    const CAP: u32 = NARROW_CAP;
 
     ghost CAP = { 65535 };
 
@@ -71,7 +74,7 @@ impl Lanes for u16x16 {
 
     #[inline(always)]
     fn all(number: u64) -> u16x16 {
-        u16x16::splat(number.min(65_535) as u16)
+        u16x16::splat(number.min(NARROW_CAP as u64) as u16)
     }
 
     #[inline(always)]
@@ -98,7 +101,7 @@ impl Lanes for u16x16 {
     fn load(numbers: &[u32]) -> u16x16 {
         let mut lanes = [0; 16];
         for lane in 0..16 {
-            lanes[lane] = numbers[lane].min(65_535) as u16;
+            lanes[lane] = numbers[lane].min(NARROW_CAP) as u16;
         }
         u16x16::from_array(lanes)
     }

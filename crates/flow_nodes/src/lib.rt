@@ -12,7 +12,7 @@ mod plain_end;
 #[cfg(test)]
 mod tests;
 
-pub use group::{LANES, group_count, groups, write_group};
+pub use group::{LANES, MAX_GROUPS, group_count, groups, write_group};
 pub use lanes::Lanes;
 pub use limit::{fits_narrow_lanes, limit_of};
 pub use marks::Marks;

@@ -3,34 +3,34 @@
 ghost use Rattle.std.specs.Prelude.{◌≡◌, ◌≢◌, ℕ, ◌+◌, ◌*◌, ◌/◌, ◌<◌, ◌≤◌, List, ◌∷◌, ◌++◌, length, slice_index, take};
 ghost use Rattle.std.specs.Prelude.{[], IfSome, IfNone};
 ghost use Rattle.flow_limits.specs.Limits.{most_jobs};
+ghost use Rattle.flow_nodes.specs.Groups.{most_groups};
 ghost use Rattle.flow_nodes.specs.Marks.{chosen, mark};
 
-use crate::group::LANES;
-
-/// How many words have marks of the most jobs.
-const WORDS: usize = 50;
+use crate::group::{LANES, MAX_GROUPS};
 
 /// Which places are marked, of as many as a shop may have jobs. The first word has the marks of the first sixteen, the
 /// lowest bit first.
 #[derive(Clone, Copy)]
 pub struct Marks {
-    /// The words.
-    pub words: [u16; WORDS],
+    /// The words, one for each group.
+    pub words: [u16; MAX_GROUPS],
 }
 
 impl Marks {
     /// No place is marked.
     pub fn none() -> Marks
-        ensures size { length result.words ≡ 50 }
+        ensures size { length result.words ≡ most_groups }
         ensures each { (place : ℕ) → mark result.words place ≡ 0 }
     {
-        Marks { words: [0; WORDS] }
+        Marks {
+            words: [0; MAX_GROUPS],
+        }
     }
 
     /// The first places are marked, so many of them.
     pub fn first(count: u16) -> Marks
         requires { count ≤ most_jobs }
-        ensures size { length result.words ≡ 50 }
+        ensures size { length result.words ≡ most_groups }
         ensures marked { (place : ℕ) → place < count → mark result.words place ≡ 1 }
         ensures others { (place : ℕ) → count ≤ place → mark result.words place ≡ 0 }
         ensures begin { (names : List ℕ) → count ≤ length names → chosen result.words names ≡ take count names }
@@ -46,7 +46,7 @@ impl Marks {
     #[inline(always)]
     pub fn set(&mut self, place: usize)
         requires { place < most_jobs }
-        ensures size { length self.new.words ≡ 50 }
+        ensures size { length self.new.words ≡ most_groups }
         ensures same { mark self.new.words place ≡ 1 }
         ensures others { (other : ℕ) → other ≢ place → mark self.new.words other ≡ mark self.old.words other }
     {
@@ -57,7 +57,7 @@ impl Marks {
     #[inline(always)]
     pub fn clear(&mut self, place: usize)
         requires { place < most_jobs }
-        ensures size { length self.new.words ≡ 50 }
+        ensures size { length self.new.words ≡ most_groups }
         ensures same { mark self.new.words place ≡ 0 }
         ensures others { (other : ℕ) → other ≢ place → mark self.new.words other ≡ mark self.old.words other }
         ensures parted { (names : List ℕ) → place < length names → mark self.old.words place ≡ 1 →
@@ -80,7 +80,7 @@ impl Marks {
     /// The first marked place from one on, of the places of so many words.
     #[inline(always)]
     pub fn next(&self, from: usize, words: usize) -> Option<usize>
-        requires { words ≤ 50 }
+        requires { words ≤ most_groups }
         ensures from { IfSome result (λ place. from ≤ place) }
         ensures within { IfSome result (λ place. place < words * 16) }
         ensures marked { IfSome result (λ place. mark self.now.words place ≡ 1) }
@@ -104,8 +104,8 @@ impl Marks {
     /// Takes the mark of the first marked place of so many words away. Returns the place.
     #[inline(always)]
     pub fn pop(&mut self, words: usize) -> Option<usize>
-        requires { words ≤ 50 }
-        ensures size { length self.new.words ≡ 50 }
+        requires { words ≤ most_groups }
+        ensures size { length self.new.words ≡ most_groups }
         ensures within { IfSome result (λ place. place < words * 16) }
         ensures marked { IfSome result (λ place. mark self.old.words place ≡ 1) }
         ensures taken { IfSome result (λ place. mark self.new.words place ≡ 0) }
@@ -128,7 +128,7 @@ impl Marks {
     /// How many places of so many words are marked.
     #[inline(always)]
     pub fn count(&self, words: usize) -> u32
-        requires { words ≤ 50 }
+        requires { words ≤ most_groups }
         ensures { (names : List ℕ) → length names ≡ words * 16 →
             result ≡ length (chosen self.now.words names) }
     {

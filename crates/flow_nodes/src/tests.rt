@@ -3,7 +3,7 @@
 ghost use Rattle.std.specs.Prelude.{◌≡◌, ℕ, ◌+◌, ◌<◌, ◌≤◌, length, slice_index};
 ghost use Rattle.flow_nodes.specs.Nodes.{IsJob};
 
-use crate::{LANES, Lanes, Marks, Node, groups, time_of_all, write_group};
+use crate::{LANES, Lanes, MAX_GROUPS, Marks, Node, groups, time_of_all, write_group};
 use flow_shop::{End, Instance};
 use std::simd::prelude::*;
 use std::test::Fail;
@@ -178,15 +178,15 @@ fn marks_of_three_children(rt: HostRuntime) -> Result<(), Fail> {
 #[test]
 fn marks_of_all_places(rt: HostRuntime) {
     let mut marks = Marks::first(800);
-    assert_eq!(rt; marks.count(50), 800);
+    assert_eq!(rt; marks.count(MAX_GROUPS), 800);
     marks.clear(0);
     marks.clear(799);
-    assert_eq!(rt; marks.next(0, 50), Some(1));
-    assert_eq!(rt; marks.next(799, 50), None);
+    assert_eq!(rt; marks.next(0, MAX_GROUPS), Some(1));
+    assert_eq!(rt; marks.next(799, MAX_GROUPS), None);
     marks.set(799);
-    assert_eq!(rt; marks.next(799, 50), Some(799));
-    assert_eq!(rt; marks.next(799, 49), None);
-    assert_eq!(rt; marks.pop(50), Some(1));
-    assert_eq!(rt; marks.count(50), 798);
-    assert_eq!(rt; Marks::none().pop(50), None);
+    assert_eq!(rt; marks.next(799, MAX_GROUPS), Some(799));
+    assert_eq!(rt; marks.next(799, MAX_GROUPS - 1), None);
+    assert_eq!(rt; marks.pop(MAX_GROUPS), Some(1));
+    assert_eq!(rt; marks.count(MAX_GROUPS), 798);
+    assert_eq!(rt; Marks::none().pop(MAX_GROUPS), None);
 }

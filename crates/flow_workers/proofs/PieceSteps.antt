@@ -1,12 +1,9 @@
 -- What pieces stand for, where they are joined, and where a search made them.
-use Rattle.std.proofs.Common.{◌≡◌, ℕ, suc, ◌<◌, List, [], ◌∷◌, ◌++◌, length, slice_index_or, slice_set, Some, None}
-use Rattle.std.proofs.lemmas.Bool.{cases_eq}
-use Rattle.std.proofs.lemmas.List.{get_or-set_other, get_or-set_same}
+use Rattle.std.proofs.Common.{◌≡◌, ℕ, suc, ◌<◌, List, [], ◌∷◌, ◌++◌, length, slice_index_or, Some, None}
 use Rattle.std.proofs.Common.{refl, ap, sym, ◌∙◌, ◌+◌, inl, inr, map, arith, false}
 use Rattle.flow_shop.specs.Shop.{Shop}
 use Rattle.flow_directions.specs.Search.{Visit, signs, first_reached, visits, part_visits, parts_visits}
-use Rattle.flow_directions.specs.Search.{Continues, IsAdvanced, child_visits}
-use Rattle.flow_directions.specs.declared.found.Advanced.TheVariants.{Proved, Below}
+use Rattle.flow_directions.specs.Search.{Continues, child_visits}
 use Rattle.flow_directions.specs.declared.found.Part.TheVariants.{Node, Children}
 use Rattle.flow_shop.specs.declared.end.End.{End}
 use Rattle.flow_shop.specs.Directions.{first_with, last_with}
@@ -21,9 +18,6 @@ use Rattle.flow_workers.specs.internal.Pieces.{has_reached, written}
 use Rattle.flow_workers.specs.declared.piece.Piece.{Piece}
 use Rattle.flow_workers.specs.declared.piece.Piece.TheVariants.{Done, Left, Reached}
 use Rattle.flow_workers.specs.declared.piece.Dealt.{Dealt}
-use Rattle.flow_workers.specs.declared.piece.Dealt.TheVariants.{Searched}
-use Rattle.flow_workers.specs.declared.piece.Reply.{Reply}
-use Rattle.flow_workers.specs.internal.Replies.{HasPlace, StandsFor}
 use Rattle.flow_workers.proofs.Behind.{pair, behind-nil, behind-assoc}
 
 -- what two lists of visits meet
@@ -125,24 +119,6 @@ module _ (shop : Shop) (number : ℕ) where
       ∙ ap (behind (dealt_met shop number x))
       (all-same xs ys (omega (arith, same)) (λ k d within. each (suc k) d (omega (arith, within))))
 
-  -- a reply in the place of its piece
-  pub reply-put : (first now : List Dealt) (reply : Reply) (one : Dealt) → one ≡ Searched reply.pieces →
-      length now ≡ length first → HasPlace first reply → StandsFor shop number first reply →
-      ((k : ℕ) (d : Dealt) → k < length first → dealt_met shop number (slice_index_or now k d)
-      ≡ dealt_met shop number (slice_index_or first k d)) →
-      (k : ℕ) (d : Dealt) → k < length first →
-      dealt_met shop number (slice_index_or (slice_set now reply.place one) k d)
-      ≡ dealt_met shop number (slice_index_or first k d)
-  reply-put first now reply one is same place stands each k d within = elim (cases_eq k reply.place) [
-    | inl at ↦
-        ap (λ i. dealt_met shop number (slice_index_or (slice_set now reply.place one) i d)) at
-        ∙ ap (dealt_met shop number) (get_or-set_same now reply.place one d (omega (arith, same, place)))
-        ∙ ap (dealt_met shop number) is ∙ stands d
-        ∙ sym (ap (λ i. dealt_met shop number (slice_index_or first i d)) at)
-    | inr apart ↦
-        ap (dealt_met shop number) (get_or-set_other now reply.place k one d apart) ∙ each k d within
-  ]
-
   -- parts that are left
   pub parts-met : (parts : List Part) →
       pieces_met shop number (map Left parts) ≡ met (parts_visits shop number parts)
@@ -160,32 +136,6 @@ module _ (shop : Shop) (number : ℕ) where
       (first_reached (visits shop number first last)) (first_reached (parts_visits shop number parts))
       goes.0 goes.1
       ∙ sym (ap (behind (text, None)) (parts-met parts))
-
-  -- a node that is left
-  pub node-met : (piece : Piece) (part : Part) (begin end : Vec ℕ) (first last : List ℕ) → piece ≡ Left part →
-      part ≡ Node begin end → first ≡ begin.items → last ≡ end.items →
-      piece_met shop number piece ≡ met (visits shop number first last)
-  node-met piece part begin end first last piece_is part_is first_is last_is =
-      ap (piece_met shop number) piece_is
-      ∙ ap (λ p. met (part_visits shop number p)) part_is
-      ∙ sym (ap (λ xs. met (visits shop number xs end.items)) first_is)
-      ∙ sym (ap (λ xs. met (visits shop number first xs)) last_is)
-
-  -- a node whose directions were found
-  pub proved-met : (budget : ℕ) (first last : List ℕ) (text : Vec ℕ) →
-      IsAdvanced shop number budget first last (Proved text) →
-      met (visits shop number first last) ≡ (text.items, None)
-  proved-met budget first last text is =
-      pair (signs (visits shop number first last)) text.items (first_reached (visits shop number first last)) None
-      (sym is.1) is.0
-
-  -- a node of which a sequence was reached
-  pub below-met : (budget : ℕ) (first last jobs : List ℕ) (makespan : ℕ) (text : Vec ℕ) →
-      IsAdvanced shop number budget first last (Below jobs makespan text) →
-      met (visits shop number first last) ≡ (text.items, Some jobs)
-  below-met budget first last jobs makespan text is =
-      pair (signs (visits shop number first last)) text.items (first_reached (visits shop number first last))
-      (Some jobs) (sym is.1) is.0.0
 
   -- a part that is the node of some lists
   node-visits : (first last : List ℕ) (part : Part) → IsNodeOf first last part →

@@ -2,7 +2,6 @@
 //! other.
 
 ghost use Rattle.std.specs.Prelude.{◌≡◌, ◌<◌, All, length, IfOk, IfSome};
-ghost use denote.Param.Send.{IsSync};
 ghost use Rattle.flow_workers.specs.internal.Pieces.{all_met, pieces_met};
 ghost use Rattle.flow_workers.specs.internal.Replies.{HasPlace, StandsFor};
 ghost use Rattle.flow_workers.specs.declared.piece.Dealt.TheVariants.{Searched};

@@ -9,6 +9,7 @@ use Rattle.flow_shop.specs.Sequences.{has, jobs_left}
 use Rattle.flow_shop.specs.TwoLeast.{tails, least_below, second_below, least_of_none}
 use Rattle.flow_check.specs.internal.Links.{AreLinks}
 use Rattle.flow_check.specs.declared.node.ListNode.{ListNode}
+use Rattle.flow_shop.specs.declared.least_pairs.LeastPairs.{LeastPairs}
 use Rattle.flow_shop.specs.declared.two_least.TwoLeast.{TwoLeast}
 
 -- the two least tails of the jobs left after a machine
@@ -18,20 +19,20 @@ AreTwoLeastTails shop list machine two =
     × (two.second ≡ second_below least_of_none least_of_none (tails shop machine (jobs_left shop.jobs list)))
 
 -- the two least tails after each machine. Where they are not known, the least is the number that stands for no tail
-pub record AreKnown (shop : Shop) (list least second : List ℕ) : Type 0 where
+pub record AreKnown (shop : Shop) (list : List ℕ) (kept : LeastPairs) : Type 0 where
   pub each : (machine : ℕ) → 1 ≤ machine → machine ≤ shop.machines →
-      (slice_index least (machine - 1) ≡ least_of_none)
+      (slice_index kept.least (machine - 1) ≡ least_of_none)
       ⊎ AreTwoLeastTails shop list machine
-      (record { least = slice_index least (machine - 1); second = slice_index second (machine - 1) })
-  pub least_size : length least ≡ most_machines
-  pub second_size : length second ≡ most_machines
+      (record { least = slice_index kept.least (machine - 1); second = slice_index kept.second (machine - 1) })
+  pub least_size : length kept.least ≡ most_machines
+  pub second_size : length kept.second ≡ most_machines
 
 -- what is kept of a list with so many jobs left: its front, and the time of the jobs left on each machine
 pub record IsListNode (shop : Shop) (list : List ℕ) (node : ListNode) (left : ℕ) : Type 0 where
   pub times : IsFrontOf shop list node.front
   pub work : AreOf shop (λ machine. sum_by (λ job. time shop job machine) (jobs_left shop.jobs list)) node.work
   pub size : length node.work ≡ most_machines
-  pub known : AreKnown shop list node.least node.second
+  pub known : AreKnown shop list node.tails
   pub count : length list + left ≡ shop.jobs
   pub some : length (jobs_left shop.jobs list) ≡ left
 

@@ -15,7 +15,7 @@ use Rattle.flow_check.specs.declared.reader.TreeReader.{TreeReader}
 -- the frame at a place; any frame past the end
 abbrev pub frame_at : List ListFrame → ℕ → ListFrame
 frame_at frames place = slice_index_or frames place
-    (record { node = record { front = []; work = []; least = []; second = [] }; job = 0; last = 0 })
+    (record { node = record { front = []; work = []; tails = record { least = []; second = [] } }; job = 0; last = 0 })
 
 -- the node of the list at which a reader stands
 abbrev pub here : TreeReader → ListNode

@@ -1,9 +1,9 @@
 -- What the lines of a two-ended certificate begin with, as they are read.
 use Rattle.std.specs.Prelude.{ℕ, ◌≡◌, ◌≢◌, ◌⊎◌, List, [], ◌∷◌, ◌++◌}
 use Rattle.flow_shop.specs.Characters.{line_feed}
+use Rattle.flow_shop.specs.Sequences.{Extends}
 use Rattle.flow_check.specs.TextLines.{line, spaced, ending}
 use Rattle.flow_check.specs.TwoEnded.{AreInRange}
-use Rattle.flow_check.specs.CertificateFaults.{BeginsWith}
 use Rattle.flow_check.specs.declared.bounds.Bounds.{Bounds}
 use Rattle.flow_check.specs.declared.fault.CheckFault.{CheckFault}
 use Rattle.flow_check.specs.declared.fault.CheckFault.TheVariants.{Tree, End}
@@ -21,5 +21,5 @@ BeginsWithBounds text bounds rest =
 -- the last line alone
 abbrev pub IsEndFault : List ℕ → CheckFault → Type 0
 IsEndFault text fault =
-    ((fault ≡ Tree 5) × ¬ BeginsWith text (line_feed ∷ []))
+    ((fault ≡ Tree 5) × ¬ Extends text (line_feed ∷ []))
     ⊎ ((fault ≡ End) × ((rest : List ℕ) × (text ≡ line_feed ∷ rest) × (rest ≢ line ending)))

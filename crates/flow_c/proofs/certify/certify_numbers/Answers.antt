@@ -1,5 +1,5 @@
 use Rattle.std.proofs.lemmas.Result.{IfErr-weaker, IfOk-weaker}
-use Rattle.flow_check.specs.Certificate.{AreBounds}
+use Rattle.flow_check.specs.Bounds.{AreBounds}
 use Rattle.flow_check.proofs.TwoEndedLaws.{two_ended_is_sound}
 use Rattle.flow_c.specs.Faults.{shop_of}
 use Rattle.flow_c.specs.internal.Around.{with_directions}

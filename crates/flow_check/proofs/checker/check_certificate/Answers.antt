@@ -1,7 +1,7 @@
 use Rattle.std.proofs.Common.{◌≡◌, Ok, Err, inl, refl, ap, sym, ◌∙◌}
 use Rattle.flow_check.specs.Certificate.{IsCertificateWith}
 use Rattle.flow_check.specs.Stated.{both}
-use Rattle.flow_check.specs.Check.{IsFirstFault}
+use Rattle.flow_check.specs.Faults.{IsFirstFault}
 use Rattle.flow_check.specs.internal.Reading.{text_value}
 use Rattle.flow_check.specs.declared.fault.CheckFault.TheVariants.{End}
 use Rattle.flow_check.proofs.Exact.{value_is_exact}

@@ -1,4 +1,4 @@
-use Rattle.std.proofs.Common.{inl, inr}
+use Rattle.std.proofs.Common.{◌∙◌, inl, inr}
 use Rattle.flow_check.proofs.NodeSteps.{known-more}
 use Rattle.flow_check.proofs.node.tails_of.Goals as goal
 
@@ -8,8 +8,8 @@ find_tails-two-requires-clause-links c = (c.requires.at.0, c.requires.at.2.are_l
 pub returns-then-known-clause-tails : goal.returns-then-known-clause-tails
 returns-then-known-clause-tails c list left at =
     elim (at.is_node.known.each c.args.machine c.requires.machine.0 c.requires.machine.1) [
-      | inl none ↦ absurd (c.if-known.true none)
-      | inr two ↦ two
+      | inl none ↦ absurd (c.if-known.true (c.at-known.ensures.least ∙ none))
+      | inr two ↦ (c.at-known.ensures.least ∙ two.0, c.at-known.ensures.second ∙ two.1)
     ]
 
 pub returns-clause-tails : goal.returns-clause-tails

@@ -1,6 +1,6 @@
 use Rattle.std.proofs.Common.{IfErr, subst, sym}
 use Rattle.std.proofs.lemmas.Result.{IfOk-weaker, IfErr-weaker}
-use Rattle.flow_check.specs.Check.{IsUnlawfulAs}
+use Rattle.flow_check.specs.Faults.{IsUnlawfulAs}
 use Rattle.flow_check.specs.declared.kind.TextKind.TheVariants.{Certificate}
 use Rattle.flow_check.specs.declared.shown.Shown.{Shown}
 use Rattle.flow_check.proofs.TextGiven.{given-bounds, least-of, gives-nothing}

@@ -1,11 +1,11 @@
-use Rattle.std.proofs.Common.{◌≡◌, ℕ, ◌+◌, ◌-◌, ◌<◌, ◌≤◌, max, slice_index, refl, ap, sym, ◌∙◌, arith}
+use Rattle.std.proofs.Common.{◌≡◌, ℕ, ◌+◌, ◌-◌, ◌<◌, ◌≤◌, max, slice_index, refl, ap, sym, ◌∙◌, inl, inr, arith}
+use Rattle.std.proofs.lemmas.Bool.Decides.{eqb_tells}
 use Rattle.std.proofs.lemmas.List.{length-set}
 use Rattle.flow_shop.specs.Limits.{most_machines, greatest_completion}
 use Rattle.flow_shop.specs.Shop.{time}
 use Rattle.flow_shop.proofs.Lists.{filled-more}
 use Rattle.flow_shop.proofs.Recurrence.{after}
 use Rattle.flow_shop.proofs.Fronts.{free_at, after-step, child-completion, time-small}
-use Rattle.flow_shop.specs.TwoLeast.{least_of_none}
 use Rattle.flow_check.proofs.NodeSteps.{node-within, work-covers, child-node}
 use Rattle.flow_check.proofs.node.ListNode.become_child.Goals as goal
 use Rattle.flow_check.proofs.node.ListNode.become_child.Goals.{After-max}
@@ -14,8 +14,8 @@ pub loop-machine-init : goal.loop-machine-init
 loop-machine-init c = record {
   front_size = omega arith;
   work_size = omega arith;
-  least_size = omega arith;
-  second_size = omega arith;
+  least_size = λ more. absurd (omega (arith, more));
+  second_size = λ more. absurd (omega (arith, more));
   free = refl;
   small = omega arith;
   front = λ machine low high. absurd (omega (arith, low, high));
@@ -78,8 +78,8 @@ loop-machine-preserved c =
     record {
       front_size = length-set c.loop-machine.self.front place free ∙ i.front_size;
       work_size = length-set c.loop-machine.self.work place work ∙ i.work_size;
-      least_size = length-set c.loop-machine.self.least place least_of_none ∙ i.least_size;
-      second_size = i.second_size;
+      least_size = λ _. c.forget_tails.ensures.least_size;
+      second_size = λ _. c.forget_tails.ensures.second_size;
       free = value ∙ ap (after c.args.text.now.shop.now (free_at c.args.list.now.front) c.args.job) (sym next);
       small = omega (
         arith,
@@ -98,9 +98,12 @@ loop-machine-preserved c =
       work = filled-more (λ k v. v + time c.args.text.now.shop.now c.args.job k
           ≡ slice_index c.args.list.now.work (k - 1)) c.loop-machine.self.work c.loop-machine.machine work is.0 (omega
           (arith, is.0, is.1, most, i.work_size)) (omega (arith, is.2, is.3)) i.work;
-      least = filled-more (λ k v. v
-          ≡ least_of_none) c.loop-machine.self.least c.loop-machine.machine least_of_none is.0 (omega
-          (arith, is.0, is.1, most, i.least_size)) refl i.least;
+      least = λ k low high. elim (eqb_tells (k - 1) place) [
+        | inl same ↦ ap (slice_index c.forget_tails.new.tails.least) same.1 ∙ c.forget_tails.ensures.none
+        | inr other ↦
+            c.forget_tails.ensures.others (k - 1) other.1
+            ∙ i.least k low (omega (arith, high, low, is.0, other.1))
+      ];
     }
 
 pub returns : goal.returns
@@ -108,9 +111,11 @@ returns c jobs left is fresh =
     let i = c.loop-machine.invariant in
     let past : (machine : ℕ) → machine ≤ c.args.text.now.shop.now.machines → machine < c.loop-machine.machine =
     λ machine high. omega (arith, high, c.loop-machine-test.false, c.machines-machines.ensures.value) in
+    let some : 1 < c.loop-machine.machine =
+    omega (arith, past 1 c.args.text.now.are_rows.limits.some_machine) in
     child-node c.args.text.now.shop.now jobs c.args.list.now c.loop-machine.self left c.args.job
     c.args.text.now.are_rows.limits is c.requires.job.0 c.requires.job.1 fresh
     (λ machine low high. i.front machine low (past machine high)
     ∙ child-completion c.args.text.now.shop.now jobs c.args.list.now.front c.args.job machine high is.times)
     i.work_size (λ machine low high. i.work machine low (past machine high)) (λ machine low high. i.least machine low
-    (past machine high)) i.least_size i.second_size
+    (past machine high)) (i.least_size some) (i.second_size some)

@@ -10,8 +10,8 @@ abbrev pub invariant-loop-machine : goal.invariant-loop-machine
 invariant-loop-machine l = record {
   front_size : length l.self.front ≡ most_machines;
   work_size : length l.self.work ≡ most_machines;
-  least_size : length l.self.least ≡ most_machines;
-  second_size : length l.self.second ≡ most_machines;
+  least_size : 1 < l.machine → length l.self.tails.least ≡ most_machines;
+  second_size : 1 < l.machine → length l.self.tails.second ≡ most_machines;
   free : l.free ≡ after l.text.shop.now (free_at l.list.front) l.job (l.machine - 1);
   small : l.free ≤ greatest_completion + (l.machine - 1) * greatest_time;
   front : (machine : ℕ) → 1 ≤ machine → machine < l.machine →
@@ -19,5 +19,6 @@ invariant-loop-machine l = record {
   work : (machine : ℕ) → 1 ≤ machine → machine < l.machine →
       slice_index l.self.work (machine - 1) + time l.text.shop.now l.job machine
       ≡ slice_index l.list.work (machine - 1);
-  least : (machine : ℕ) → 1 ≤ machine → machine < l.machine → slice_index l.self.least (machine - 1) ≡ least_of_none;
+  least : (machine : ℕ) → 1 ≤ machine → machine < l.machine →
+      slice_index l.self.tails.least (machine - 1) ≡ least_of_none;
 }

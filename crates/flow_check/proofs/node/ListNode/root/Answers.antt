@@ -1,6 +1,5 @@
 use Rattle.flow_shop.specs.Limits.{most_machines}
-use Rattle.std.proofs.Common.{refl, replicate, arith}
-use Rattle.flow_shop.specs.TwoLeast.{least_of_none}
+use Rattle.std.proofs.Common.{replicate, arith, rules}
 use Rattle.flow_shop.proofs.Fronts.{front-empty}
 use Rattle.flow_check.proofs.NodeSteps.{root-node}
 use Rattle.flow_check.proofs.node.ListNode.root.Goals as goal
@@ -12,12 +11,10 @@ returns c =
           replicate most_machines 0;
       work =
           c.loop-machine.work;
-      least =
-          replicate most_machines least_of_none;
-      second =
-          replicate most_machines least_of_none;
+      tails = c.none.result;
     }) c.machines-machines.ensures.limits
     (λ machine from to. front-empty c.args.instance.now machine)
     (λ machine from to. c.loop-machine.invariant.done machine from (omega
     (arith, to, c.loop-machine-test.false, c.machines-machines.ensures.value)))
-    c.loop-machine.invariant.size refl refl
+    c.loop-machine.invariant.size (c.none.ensures (λ place job. 0) most_machines (omega arith))
+    (search rules) (search rules)

@@ -1,5 +1,5 @@
-use Rattle.std.proofs.Common.{◌≡◌, ◌≢◌, ℕ, suc, ◌+◌, ◌-◌, ◌<◌, ◌≤◌, List, ◌∷◌, length, drop, get_or, nat_le, Result}
-use Rattle.std.proofs.Common.{refl, ap, sym, subst, ◌∙◌, arith}
+use Rattle.std.proofs.Common.{◌≡◌, ◌≢◌, ℕ, suc, ◌+◌, ◌-◌, ◌<◌, ◌≤◌, List, ◌∷◌, length, drop, get_or, nat_le, set}
+use Rattle.std.proofs.Common.{Result, refl, ap, sym, subst, ◌∙◌, arith}
 use Rattle.std.specs.Vec.{with_items}
 use Rattle.std.proofs.lemmas.List.{with_items_is}
 use Rattle.flow_shop.specs.Bound.{bound_of}
@@ -7,8 +7,9 @@ use Rattle.flow_check.specs.internal.ReadTrees.{read_tree}
 use Rattle.flow_check.specs.internal.Lags.{AreKept}
 use Rattle.flow_check.specs.internal.Links.{AreLinks}
 use Rattle.flow_check.specs.internal.Nodes.{IsAt, IsChild, grown, left_before, left_here}
-use Rattle.flow_check.specs.internal.Reader.{here, Stands}
+use Rattle.flow_check.specs.internal.Reader.{here, Stands, IsBack}
 use Rattle.flow_check.specs.declared.fault.CheckFault.{CheckFault}
+use Rattle.flow_check.specs.declared.reader.TreeReader.{TreeReader}
 use Rattle.flow_check.proofs.Readers.{frame-is, before-here, at-same, learnt}
 use Rattle.flow_check.proofs.TreeBytes.{leaf-low, leaf-high, cut-before, cut-past, cut-weak, cut-strong}
 use Rattle.flow_check.proofs.TreeReading.{drop-step}
@@ -48,83 +49,42 @@ read c list r is =
     ∷ drop (c.args.spot.at + 1) c.args.text.now.bytes.now)) (sym c.left_here.ensures)
     ∙ is
 
+-- the reader, where the list's node is as it was read
+as-read : (c : After-left_here) (new : TreeReader) → new.child_left ≡ c.args.self.now.child_left →
+    new.links.items ≡ c.args.self.now.links.items →
+    new.frames.items ≡ set c.args.self.now.frames.items c.args.self.now.child_left (record {
+      node = c.index_mut.result.now.node;
+      job = c.index_mut.result.now.job;
+      last = c.index_mut.result.now.last;
+    }) → new.lags.items ≡ c.args.self.now.lags.items → IsBack c.args.text.now.shop.now c.args.self.now new
+as-read c new child_left links frames lags =
+    learnt c.args.text.now.shop.now c.args.self.now new _ child_left links frames
+    (omega (arith, c.requires.at.1.room, c.requires.at.1.at.is_node.count)) (reached c)
+    (λ list stands. subst (AreKept c.args.text.now.shop.now list) (sym lags) stands.lags)
+
 pub returns-then-byte-ne46-clause-back : goal.returns-then-byte-ne46-clause-back
 returns-then-byte-ne46-clause-back c =
-    let before = (goal.at.returns-then-byte-ne46-clause-back c).After-left_here in
-    let within : c.args.self.now.child_left < length c.args.self.now.frames.items =
-    omega (arith, c.requires.at.1.room, c.requires.at.1.at.is_node.count) in
-    learnt c.args.text.now.shop.now c.args.self.now _ (record {
-      node = c.index_mut.result.now.node;
-      job =
-          c.index_mut.result.now.job;
-      last =
-          c.index_mut.result.now.last;
-    }) refl refl refl within (reached before) (λ list stands. stands.lags)
+    as-read (goal.at.returns-then-byte-ne46-clause-back c).After-left_here _ refl refl refl refl
 
 pub returns-then-makespan_at-text-clause-back : goal.returns-then-makespan_at-text-clause-back
 returns-then-makespan_at-text-clause-back c =
-    let before = (goal.at.returns-then-makespan_at-text-clause-back c).After-left_here in
-    let within : c.args.self.now.child_left < length c.args.self.now.frames.items =
-    omega (arith, c.requires.at.1.room, c.requires.at.1.at.is_node.count) in
-    learnt c.args.text.now.shop.now c.args.self.now _ (record {
-      node = c.index_mut.result.now.node;
-      job =
-          c.index_mut.result.now.job;
-      last =
-          c.index_mut.result.now.last;
-    }) refl refl refl within (reached before) (λ list stands. stands.lags)
+    as-read (goal.at.returns-then-makespan_at-text-clause-back c).After-left_here _ refl refl refl refl
 
 pub returns-then-left_here-eq0-clause-back : goal.returns-then-left_here-eq0-clause-back
 returns-then-left_here-eq0-clause-back c =
-    let before = (goal.at.returns-then-left_here-eq0-clause-back c).After-left_here in
-    let within : c.args.self.now.child_left < length c.args.self.now.frames.items =
-    omega (arith, c.requires.at.1.room, c.requires.at.1.at.is_node.count) in
-    learnt c.args.text.now.shop.now c.args.self.now _ (record {
-      node = c.index_mut.result.now.node;
-      job =
-          c.index_mut.result.now.job;
-      last =
-          c.index_mut.result.now.last;
-    }) refl refl refl within (reached before) (λ list stands. stands.lags)
+    as-read (goal.at.returns-then-left_here-eq0-clause-back c).After-left_here _ refl refl refl refl
 
 pub returns-then-byte-eq43-clause-back : goal.returns-then-byte-eq43-clause-back
 returns-then-byte-eq43-clause-back c =
-    let before = (goal.at.returns-then-byte-eq43-clause-back c).After-left_here in
-    let within : c.args.self.now.child_left < length c.args.self.now.frames.items =
-    omega (arith, c.requires.at.1.room, c.requires.at.1.at.is_node.count) in
-    learnt c.args.text.now.shop.now c.args.self.now _ (record {
-      node = c.index_mut.result.now.node;
-      job =
-          c.index_mut.result.now.job;
-      last =
-          c.index_mut.result.now.last;
-    }) refl refl refl within (reached before) (λ list stands. stands.lags)
+    as-read (goal.at.returns-then-byte-eq43-clause-back c).After-left_here _ refl refl refl refl
 
 pub returns-then-byte-lt65-clause-back : goal.returns-then-byte-lt65-clause-back
 returns-then-byte-lt65-clause-back c =
-    let before = (goal.at.returns-then-byte-lt65-clause-back c).After-left_here in
-    let within : c.args.self.now.child_left < length c.args.self.now.frames.items =
-    omega (arith, c.requires.at.1.room, c.requires.at.1.at.is_node.count) in
-    learnt c.args.text.now.shop.now c.args.self.now _ (record {
-      node = c.index_mut.result.now.node;
-      job =
-          c.index_mut.result.now.job;
-      last =
-          c.index_mut.result.now.last;
-    }) refl refl refl within (reached before) (λ list stands. stands.lags)
+    as-read (goal.at.returns-then-byte-lt65-clause-back c).After-left_here _ refl refl refl refl
 
 pub returns-then-machine-machines-clause-back : goal.returns-then-machine-machines-clause-back
 returns-then-machine-machines-clause-back c =
-    let before = (goal.at.returns-then-machine-machines-clause-back c).After-left_here in
-    let within : c.args.self.now.child_left < length c.args.self.now.frames.items =
-    omega (arith, c.requires.at.1.room, c.requires.at.1.at.is_node.count) in
-    learnt c.args.text.now.shop.now c.args.self.now _ (record {
-      node = c.index_mut.result.now.node;
-      job =
-          c.index_mut.result.now.job;
-      last =
-          c.index_mut.result.now.last;
-    }) refl refl refl within (reached before) (λ list stands. stands.lags)
+    as-read (goal.at.returns-then-machine-machines-clause-back c).After-left_here _ refl refl refl refl
 
 pub returns-then-makespan_at-text-clause-gives : goal.returns-then-makespan_at-text-clause-gives
 returns-then-makespan_at-text-clause-gives c list stands kid =

@@ -1,6 +1,7 @@
 use Rattle.std.proofs.Common.{rules, ◌≡◌, ◌<◌, ◌+◌, ◌*◌, ◌^◌, suc, length, slice_index, drop, ap, ◌∙◌, arith}
 use Rattle.std.proofs.lemmas.List.{drop_all}
 use Rattle.std.proofs.lemmas.Nat.{ones-le}
+use Rattle.flow_nodes.specs.Groups.{most_groups}
 use Rattle.flow_nodes.specs.Marks.{chosen}
 use Rattle.flow_nodes.proofs.ChosenNames.{chosen-nothing}
 use Rattle.flow_nodes.proofs.MarkSteps.{count-step}
@@ -10,7 +11,7 @@ pub loop-word-preserved : goal.loop-word-preserved
 loop-word-preserved c =
     let words = c.args.self.now.words in
     let g = c.loop-word.word in
-    let size : length words ≡ 50 = search rules in
+    let size : length words ≡ most_groups = search rules in
     let within : g < length words = omega (arith, size, c.requires, c.loop-word-test.true) in
     let fits : slice_index words g < 2 ^ 16 = search rules in
     record {

@@ -5,14 +5,14 @@ use Rattle.flow_shop.specs.Shop.{Shop}
 use Rattle.flow_shop.specs.Sequences.{has}
 use Rattle.flow_nodes.specs.Lanes.{limit_of}
 use Rattle.flow_nodes.specs.Nodes.{IsNode}
-use Rattle.flow_nodes.specs.Groups.{IsGroup, child_bound}
+use Rattle.flow_nodes.specs.Groups.{IsGroup, child_bound, most_groups}
 use Rattle.flow_nodes.specs.Marks.{mark}
 use Rattle.flow_nodes.proofs.node.Node.mark_below.Given as goal
 
 -- the words so far have their marks, and the others those from before
 abbrev pub invariant-loop-group : goal.invariant-loop-group
 invariant-loop-group g l = record {
-  size : length l.below.words ≡ 50;
+  size : length l.below.words ≡ most_groups;
   rest : (place : ℕ) → l.group ≤ place / 16 → mark l.below.words place ≡ mark l.initial.below.words place;
   within : (place : ℕ) → place / 16 < l.group → mark l.below.words place ≡ 1 → mark l.left.words place ≡ 1;
   exact : (shop : Shop) (number : ℕ) (first last jobs : List ℕ) (place : ℕ) (none : Vec g.row.V.Denot) →
