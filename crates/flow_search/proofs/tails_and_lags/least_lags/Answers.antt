@@ -39,7 +39,7 @@ loop-job-preserved c =
           (sym w.lags-is)
           (subst (λ js. AreTwoLeast (time_to shop c.args.machine) count js w.take.new.self) (sym (filter-take
           (contains set) job c.loop-job.auto.job there))
-          (w.take.ensures (time_to shop c.args.machine) (filter (contains set) (numbers 1 (job - 1))) job
+          (w.take.ensures.two (time_to shop c.args.machine) (filter (contains set) (numbers 1 (job - 1))) job
           (λ place low. w.lags_to-own.ensures shop job row c.requires.to place (omega (arith, low)))
           c.loop-job.invariant))
       | else-contains w ↦

@@ -27,7 +27,7 @@ loop-job-preserved c =
           1))) l) (sym w.tails-is)
           (subst (λ js. AreTwoLeast (tail_at shop) c.machines-machines.result js w.take.new.self) (sym (filter-take
           (contains set) job c.loop-job.auto.job there))
-          (w.take.ensures (tail_at shop) (filter (contains set) (numbers 1 (job - 1))) job
+          (w.take.ensures.two (tail_at shop) (filter (contains set) (numbers 1 (job - 1))) job
           (λ place low.
           let e : place + 1 - 1 ≡ place = omega arith in
           let row = c.args.setting.now.are_rows.each job (record { times = []; tails = [] }) c.loop-job.auto.job
