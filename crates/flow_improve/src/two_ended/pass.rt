@@ -1,6 +1,6 @@
 //! A pass: from the node at which all jobs are left, list by list to nodes at which none is.
 
-ghost use Rattle.std.specs.Prelude.{◌≡◌, ◌<◌, vec_len, IfOk, IfSome};
+ghost use Rattle.std.specs.Prelude.{◌≡◌, ◌<◌, min, vec_len, IfOk, IfSome};
 ghost use Rattle.flow_shop.specs.Rows.{AreRows};
 ghost use Rattle.flow_shop.specs.Sequences.{IsSequence};
 ghost use Rattle.flow_improve.specs.internal.Beams.{ArePasses, HasBounds, IsEntry};
@@ -29,7 +29,14 @@ pub(crate) struct PassPlan {
 
 impl PassPlan {
     /// The same pass over children below a number too.
-    pub(crate) fn at_most(&self, number: u64) -> PassPlan {
+    pub(crate) fn at_most(&self, number: u64) -> PassPlan
+        ensures { result ≡ record {
+          width = self.now.width;
+          mode = self.now.mode;
+          fewer = self.now.fewer;
+          below = min self.now.below number;
+        } }
+    {
         PassPlan {
             width: self.width,
             mode: self.mode,
