@@ -1,6 +1,6 @@
 //! What a search comes to: a sequence and its makespan.
 
-ghost use Rattle.std.specs.Prelude.{◌≡◌, ◌≤◌, false, nat_lt, cond, length, IfOk};
+ghost use Rattle.std.specs.Prelude.{◌≡◌, ◌≤◌, min, false, nat_lt, cond, length, IfOk};
 ghost use Rattle.flow_shop.specs.Shop.{Shop};
 ghost use Rattle.flow_shop.specs.Paths.{span};
 ghost use Rattle.flow_shop.specs.Sequences.{IsSequence};
@@ -51,6 +51,7 @@ impl Reached {
         requires jobs { IsSequence instance.now.jobs jobs.now }
         ensures reached { HasMakespan instance.now self.new }
         ensures least { self.new.value ≤ self.old.value }
+        ensures value { IfOk result (λ unit. self.new.value ≡ min self.old.value (span instance.now jobs.now)) }
         ensures whole { self.new.whole ≡ self.old.whole }
     {
         let sequence = Sequence::of_known(alloc, jobs)?;

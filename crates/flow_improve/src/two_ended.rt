@@ -1,7 +1,7 @@
 //! The two-ended beam search: sequences built from both ends at once.
 
-ghost use Rattle.std.specs.Prelude.{◌≡◌, ◌-◌, ◌^◌, ◌<◌, ◌≤◌, ◌↔◌, true, cond, length};
-ghost use Rattle.std.specs.Prelude.{is_some, unwrap_or, IfOk, IfSome, IfNone, IsTrue, IsFalse};
+ghost use Rattle.std.specs.Prelude.{◌≡◌, ◌-◌, ◌^◌, ◌<◌, ◌≤◌, ◌↔◌, true, false, cond, length};
+ghost use Rattle.std.specs.Prelude.{is_some, unwrap_or, Ok, IfOk, IfSome, IfNone, IsTrue, IsFalse};
 ghost use Rattle.flow_bound.specs.Taillard.{taillard_bound};
 ghost use Rattle.flow_shop.specs.Paths.{span};
 ghost use Rattle.flow_shop.specs.Rows.{AreRows};
@@ -144,6 +144,8 @@ fn ends_with<V: Lanes>(
     ensures passes { ArePasses V.list V.CAP V.WIDTH instance.now passes.new }
     ensures reached { HasMakespan instance.now reached.new }
     ensures least { reached.new.value ≤ reached.old.value }
+    ensures bound { reached.old.value ≤ limits.now.least → (result ≡ Ok true) × (reached.new.whole ≡ true) }
+    ensures open { result ≡ Ok false → reached.new.whole ≡ false }
 {
     if reached.value <= limits.least {
         reached.whole = true;
