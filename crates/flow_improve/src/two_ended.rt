@@ -80,8 +80,8 @@ impl Limits {
         self.aim.is_some_and(|number| makespan < number)
     }
 
-    /// A pass of a width in a mode. Where a number is aimed at, all children that are kept are below it, so their bounds
-    /// say little: then the deficit decides, and the mode does not matter.
+    /// A pass of a width in a mode. Where a number is aimed at, all children that are kept are below it, so their
+    /// bounds say little: then the deficit decides, and the mode does not matter.
     fn plan(&self, width: u32, mode: Mode, fewer: u64) -> PassPlan
         ensures { result ≡ record {
           width = width;
