@@ -1,6 +1,7 @@
 //! A better sequence than a given one: by a beam, and then by rounds from the start and from the best of the beam.
 
-ghost use Rattle.std.specs.Prelude.{◌≡◌, ◌≤◌, length, IfOk};
+ghost use Rattle.std.specs.Prelude.{◌≡◌, ◌≤◌, true, nat_le, ◌||◌, length, IfOk};
+ghost use Rattle.flow_bound.specs.Taillard.{taillard_bound};
 ghost use Rattle.flow_shop.specs.Paths.{span};
 ghost use Rattle.flow_shop.specs.Sequences.{IsSequence};
 
@@ -27,6 +28,8 @@ pub fn rounds_of_both(
     ensures value { IfOk result (λ reached. reached.value ≡ span instance.now reached.sequence) }
     ensures least { IfOk result (λ reached. reached.value ≤ span instance.now start.now) }
     ensures beamed { IfOk result (λ reached. reached.value ≤ span instance.now beamed.now.sequence) }
+    ensures whole { IfOk result
+        (λ reached. reached.whole ≡ (nat_le reached.value (taillard_bound instance.now) || beamed.now.whole)) }
 {
     let is_done = beamed.whole || makespan(instance, &beamed.sequence) <= taillard_bound(instance);
     // Rounds from the same sequence would be the first ones of those from the best of the beam.
@@ -53,6 +56,7 @@ pub fn improve(
     ensures each { IfOk result (λ reached. IsSequence instance.now.jobs reached.sequence) }
     ensures value { IfOk result (λ reached. reached.value ≡ span instance.now reached.sequence) }
     ensures least { IfOk result (λ reached. reached.value ≤ span instance.now start.now) }
+    ensures whole { IfOk result (λ reached. reached.value ≤ taillard_bound instance.now → reached.whole ≡ true) }
 {
     let beamed = beam(alloc, instance, start, effort.width(), effort.beam_work())?;
     rounds_of_both(alloc, instance, start, &beamed, effort)

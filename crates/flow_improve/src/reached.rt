@@ -1,6 +1,6 @@
 //! What a search comes to: a sequence and its makespan.
 
-ghost use Rattle.std.specs.Prelude.{◌≡◌, ◌≤◌, length, IfOk};
+ghost use Rattle.std.specs.Prelude.{◌≡◌, ◌≤◌, min, false, nat_lt, cond, length, IfOk};
 ghost use Rattle.flow_shop.specs.Shop.{Shop};
 ghost use Rattle.flow_shop.specs.Paths.{span};
 ghost use Rattle.flow_shop.specs.Sequences.{IsSequence};
@@ -31,6 +31,7 @@ impl Reached {
         requires { length sequence.now ≡ instance.now.jobs }
         ensures reached { IfOk result (HasMakespan instance.now) }
         ensures value { IfOk result (λ reached. reached.value ≡ span instance.now sequence.now) }
+        ensures whole { IfOk result (λ reached. reached.whole ≡ false) }
     {
         Ok(Reached {
             sequence: Sequence::of_known(alloc, sequence.jobs())?,
@@ -50,6 +51,8 @@ impl Reached {
         requires jobs { IsSequence instance.now.jobs jobs.now }
         ensures reached { HasMakespan instance.now self.new }
         ensures least { self.new.value ≤ self.old.value }
+        ensures value { IfOk result (λ unit. self.new.value ≡ min self.old.value (span instance.now jobs.now)) }
+        ensures whole { self.new.whole ≡ self.old.whole }
     {
         let sequence = Sequence::of_known(alloc, jobs)?;
         let value = makespan(instance, &sequence);
@@ -65,6 +68,7 @@ impl Reached {
         ensures reached { (shop : Shop) → HasMakespan shop self → HasMakespan shop other → HasMakespan shop result }
         ensures least { result.value ≤ self.value }
         ensures other { result.value ≤ other.value }
+        ensures one { result ≡ cond (nat_lt other.value self.value) other self }
     {
         if other.value < self.value {
             other

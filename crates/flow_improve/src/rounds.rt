@@ -1,6 +1,7 @@
 //! Rounds of iterated greedy search, each from the best list of late.
 
-ghost use Rattle.std.specs.Prelude.{◌≡◌, ◌≤◌, length, IfOk};
+ghost use Rattle.std.specs.Prelude.{◌≡◌, ◌≤◌, nat_le, length, IfOk};
+ghost use Rattle.flow_bound.specs.Taillard.{taillard_bound};
 ghost use Rattle.flow_shop.specs.Paths.{span};
 ghost use Rattle.flow_shop.specs.Sequences.{IsSequence};
 ghost use Rattle.flow_improve.specs.internal.Rooms.{IsKnown, IsRunOf};
@@ -106,6 +107,7 @@ pub fn rounds_from(
     ensures each { IfOk result (λ reached. IsSequence instance.now.jobs reached.sequence) }
     ensures value { IfOk result (λ reached. reached.value ≡ span instance.now reached.sequence) }
     ensures least { IfOk result (λ reached. reached.value ≤ span instance.now start.now) }
+    ensures whole { IfOk result (λ reached. reached.whole ≡ nat_le reached.value (taillard_bound instance.now)) }
 {
     let least = taillard_bound(instance);
     let mut run = RoundsRun::new(alloc, instance, start, limits.draws())?;

@@ -1,11 +1,14 @@
 //! The two-ended beam search: sequences built from both ends at once.
 
-ghost use Rattle.std.specs.Prelude.{◌≡◌, ◌≤◌, length, IfOk};
+ghost use Rattle.std.specs.Prelude.{◌≡◌, ◌-◌, ◌^◌, ◌<◌, ◌≤◌, ◌↔◌, true, false, cond, length};
+ghost use Rattle.std.specs.Prelude.{is_some, unwrap_or, Ok, IfOk, IfSome, IfNone, IsTrue, IsFalse};
+ghost use Rattle.flow_bound.specs.Taillard.{taillard_bound};
 ghost use Rattle.flow_shop.specs.Paths.{span};
 ghost use Rattle.flow_shop.specs.Rows.{AreRows};
 ghost use Rattle.flow_shop.specs.Sequences.{IsSequence};
 ghost use Rattle.flow_improve.specs.internal.Beams.{ArePasses};
 ghost use Rattle.flow_improve.specs.internal.Reaches.{HasMakespan};
+ghost use Rattle.flow_improve.specs.declared.two_ended.child_order.Mode.TheVariants.{Bound, Sum, Deficit};
 
 mod best_children;
 mod bounds;
@@ -40,7 +43,12 @@ struct Limits {
 
 impl Limits {
     /// Those of an instance.
-    fn of(instance: &Instance, aim: Option<u64>, width: u32, work: u64) -> Limits {
+    fn of(instance: &Instance, aim: Option<u64>, width: u32, work: u64) -> Limits
+        ensures least { result.least ≡ taillard_bound instance.now }
+        ensures aim { result.aim ≡ aim }
+        ensures width { result.width ≡ width }
+        ensures work { result.work ≡ work }
+    {
         let jobs = u64::from(instance.jobs());
         let machines = u64::from(instance.machines());
         Limits {
@@ -65,13 +73,23 @@ impl Limits {
     }
 
     /// Whether a sequence of this makespan is below the number that is aimed at.
-    fn is_reached(&self, makespan: u64) -> bool {
+    fn is_reached(&self, makespan: u64) -> bool
+        ensures aimed { IfSome self.now.aim (λ number. IsTrue result ↔ makespan < number) }
+        ensures free { IfNone self.now.aim (IsFalse result) }
+    {
         self.aim.is_some_and(|number| makespan < number)
     }
 
-    /// A pass of a width in a mode. Where a number is aimed at, all children are below it, so their bounds say little:
-    /// then the deficit decides, and the mode does not matter.
-    fn plan(&self, width: u32, mode: Mode, fewer: u64) -> PassPlan {
+    /// A pass of a width in a mode. Where a number is aimed at, all children that are kept are below it, so their
+    /// bounds say little: then the deficit decides, and the mode does not matter.
+    fn plan(&self, width: u32, mode: Mode, fewer: u64) -> PassPlan
+        ensures { result ≡ record {
+          width = width;
+          mode = cond (is_some self.now.aim) Deficit mode;
+          fewer = fewer;
+          below = unwrap_or self.now.aim (2 ^ 64 - 1);
+        } }
+    {
         let mode = if self.aim.is_some() {
             Mode::Deficit
         } else {
@@ -86,12 +104,26 @@ impl Limits {
     }
 
     /// The first pass of a width.
-    fn first(&self, width: u32) -> PassPlan {
+    fn first(&self, width: u32) -> PassPlan
+        ensures { result ≡ record {
+          width = width;
+          mode = cond (is_some self.now.aim) Deficit Bound;
+          fewer = unwrap_or self.now.aim 0;
+          below = unwrap_or self.now.aim (2 ^ 64 - 1);
+        } }
+    {
         self.plan(width, Mode::Bound, self.aim.unwrap_or(0))
     }
 
     /// The second pass of a width.
-    fn second(&self, width: u32) -> PassPlan {
+    fn second(&self, width: u32) -> PassPlan
+        ensures { result ≡ record {
+          width = width;
+          mode = cond (is_some self.now.aim) Deficit Sum;
+          fewer = 0;
+          below = unwrap_or self.now.aim (2 ^ 64 - 1);
+        } }
+    {
         self.plan(width, Mode::Sum, 0)
     }
 }
@@ -112,6 +144,8 @@ fn ends_with<V: Lanes>(
     ensures passes { ArePasses V.list V.CAP V.WIDTH instance.now passes.new }
     ensures reached { HasMakespan instance.now reached.new }
     ensures least { reached.new.value ≤ reached.old.value }
+    ensures bound { reached.old.value ≤ limits.now.least → (result ≡ Ok true) × (reached.new.whole ≡ true) }
+    ensures open { result ≡ Ok false → reached.new.whole ≡ false }
 {
     if reached.value <= limits.least {
         reached.whole = true;
@@ -188,6 +222,7 @@ fn best_within(
     requires start { length start.now ≡ instance.now.jobs }
     ensures reached { IfOk result (HasMakespan instance.now) }
     ensures least { IfOk result (λ reached. reached.value ≤ span instance.now start.now) }
+    ensures whole { IfOk result (λ reached. reached.value ≤ limits.now.least → reached.whole ≡ true) }
 {
     let mut reached = Reached::new(alloc, instance, start)?;
     let rows = rows(alloc, instance)?;
@@ -217,6 +252,7 @@ pub fn beam(
     ensures each { IfOk result (λ reached. IsSequence instance.now.jobs reached.sequence) }
     ensures value { IfOk result (λ reached. reached.value ≡ span instance.now reached.sequence) }
     ensures least { IfOk result (λ reached. reached.value ≤ span instance.now start.now) }
+    ensures whole { IfOk result (λ reached. reached.value ≤ taillard_bound instance.now → reached.whole ≡ true) }
 {
     let limits = Limits::of(instance, None, width, work);
     best_within(alloc, instance, start, &limits)
@@ -225,7 +261,8 @@ pub fn beam(
 /// The best sequence of a two-ended beam search for a sequence below a number, and its makespan, which is at most that
 /// of the start. No child is kept whose bound is at least the number, and the search ends as soon as it comes to a
 /// sequence below the number. So it may end with the start. Widths, passes and steps are those of `beam`, but children
-/// are ordered by the deficit.
+/// are ordered by the deficit, and the first pass of each width opens a node at the end where fewer of its children are
+/// below the number.
 pub fn beam_below(
     alloc: Global,
     instance: &Instance,
@@ -238,6 +275,7 @@ pub fn beam_below(
     ensures each { IfOk result (λ reached. IsSequence instance.now.jobs reached.sequence) }
     ensures value { IfOk result (λ reached. reached.value ≡ span instance.now reached.sequence) }
     ensures least { IfOk result (λ reached. reached.value ≤ span instance.now start.now) }
+    ensures whole { IfOk result (λ reached. reached.value ≤ taillard_bound instance.now → reached.whole ≡ true) }
 {
     let limits = Limits::of(instance, Some(number), width, work);
     best_within(alloc, instance, start, &limits)

@@ -1,5 +1,7 @@
 -- What a beam computes in.
 use Rattle.std.specs.Prelude.{ℕ, ◌≡◌, ◌-◌, ◌<◌, ◌≤◌, List, length, take, drop, slice_index, All}
+use Rattle.std.specs.List.{Contains}
+use Rattle.flow_shop.specs.Ends.{end_bound}
 use Rattle.flow_shop.specs.Shop.{Shop}
 use Rattle.flow_shop.specs.Rows.{AreRows}
 use Rattle.flow_shop.specs.Sequences.{IsSequence}
@@ -28,6 +30,16 @@ pub record IsEntry (shop : Shop) (entry : Entry) : Type 0 where
   pub order : entry.first ≤ entry.before
   pub within : entry.before ≤ shop.jobs
   pub node : IsNode shop (first_of entry) (last_of entry) entry.node
+
+-- the bound of an entry's node
+abbrev pub bound_of : Shop → Entry → ℕ
+bound_of shop entry = end_bound shop (first_of entry) (last_of entry)
+
+-- jobs are those of one of some entries, and no node of these has a smaller bound than its node
+abbrev pub HasLeastBound : Shop → List Entry → List ℕ → Type 0
+HasLeastBound shop entries jobs =
+    (entry : Entry) × Contains entries entry × (jobs ≡ entry.jobs.items)
+    × All (λ other. bound_of shop entry ≤ bound_of shop other) entries
 
 -- entries of an instance
 abbrev pub AreEntries : Shop → List Entry → Type 0

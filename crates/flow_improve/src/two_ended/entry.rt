@@ -44,7 +44,11 @@ impl Entry {
     /// Another entry of the same node.
     fn copy(&self, alloc: Global, instance: &Instance) -> Result<Entry, AllocError>
         requires { IsEntry instance.now self.now }
-        ensures { IfOk result (IsEntry instance.now) }
+        ensures entry { IfOk result (IsEntry instance.now) }
+        ensures node { IfOk result (λ entry. entry.node ≡ self.now.node) }
+        ensures jobs { IfOk result (λ entry. entry.jobs.items ≡ self.now.jobs.items) }
+        ensures first { IfOk result (λ entry. entry.first ≡ self.now.first) }
+        ensures before { IfOk result (λ entry. entry.before ≡ self.now.before) }
     {
         Ok(Entry {
             node: self.node,
@@ -59,6 +63,8 @@ impl Entry {
         requires here { IsEntry instance.now self.old }
         requires other { IsEntry instance.now other.now }
         ensures entry { IsEntry instance.now self.new }
+        ensures node { self.new.node ≡ other.now.node }
+        ensures jobs { self.new.jobs.items ≡ other.now.jobs.items }
         ensures first { self.new.first ≡ other.now.first }
         ensures before { self.new.before ≡ other.now.before }
     {

@@ -1,9 +1,9 @@
 //! A pass: from the node at which all jobs are left, list by list to nodes at which none is.
 
-ghost use Rattle.std.specs.Prelude.{◌≡◌, ◌<◌, vec_len, IfOk, IfSome};
+ghost use Rattle.std.specs.Prelude.{◌≡◌, ◌<◌, min, take, vec_len, IfOk, IfSome, IfNone};
 ghost use Rattle.flow_shop.specs.Rows.{AreRows};
 ghost use Rattle.flow_shop.specs.Sequences.{IsSequence};
-ghost use Rattle.flow_improve.specs.internal.Beams.{ArePasses, HasBounds, IsEntry};
+ghost use Rattle.flow_improve.specs.internal.Beams.{ArePasses, HasBounds, HasLeastBound, IsEntry};
 
 use crate::two_ended::best_children::{BestChildren, Child};
 use crate::two_ended::bounds::ChildBounds;
@@ -29,7 +29,14 @@ pub(crate) struct PassPlan {
 
 impl PassPlan {
     /// The same pass over children below a number too.
-    pub(crate) fn at_most(&self, number: u64) -> PassPlan {
+    pub(crate) fn at_most(&self, number: u64) -> PassPlan
+        ensures { result ≡ record {
+          width = self.now.width;
+          mode = self.now.mode;
+          fewer = self.now.fewer;
+          below = min self.now.below number;
+        } }
+    {
         PassPlan {
             width: self.width,
             mode: self.mode,
@@ -245,7 +252,10 @@ impl<V: Lanes> Passes<V> {
     /// The jobs of the first node of least bound in the list, if there is one.
     pub(crate) fn least(&self, instance: &Instance) -> Option<&[u16]>
         requires passes { ArePasses V.list V.CAP V.WIDTH instance.now self.now }
-        ensures { IfSome result (λ jobs. IsSequence instance.now.jobs jobs.now) }
+        ensures each { IfSome result (λ jobs. IsSequence instance.now.jobs jobs.now) }
+        ensures least { IfSome result
+            (λ jobs. HasLeastBound instance.now (take self.now.count self.now.list.items) jobs.now) }
+        ensures none { IfNone result (self.now.count ≡ 0) }
     {
         if self.count == 0 {
             return None;

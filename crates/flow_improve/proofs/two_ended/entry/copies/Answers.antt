@@ -11,7 +11,7 @@ entries-preserved c =
     record {
       entries = subst (AreEntries shop) (sym is)
           (All-push (λ entry. IsEntry shop entry) entries c.in_ok-copy.field-0 c.entries.invariant.entries
-          c.in_ok-copy.ensures);
+          c.in_ok-copy.ensures.entry);
       few = omega (
         arith,
         ap length is,
