@@ -10,10 +10,10 @@ use Rattle.flow_shop.specs.Shop.{Shop, numbers, time}
 use Rattle.flow_shop.specs.JobSet.{contains}
 use Rattle.flow_shop.specs.Sequences.{has}
 use Rattle.flow_search.specs.internal.Nodes.{IsAt}
-use Rattle.flow_search.specs.declared.eight.group.TheConstants.{GONE}
-use Rattle.flow_search.specs.declared.eight.group.MachineRow.{MachineRow}
-use Rattle.flow_search.specs.declared.eight.group.Group.{Group}
-use Rattle.flow_search.specs.declared.eight.group.ColumnFrame.{ColumnFrame}
+use Rattle.flow_search.specs.declared.few_left.group.TheConstants.{GONE}
+use Rattle.flow_search.specs.declared.few_left.group.MachineRow.{MachineRow}
+use Rattle.flow_search.specs.declared.few_left.group.Group.{Group}
+use Rattle.flow_search.specs.declared.few_left.group.ColumnFrame.{ColumnFrame}
 use Rattle.flow_search.specs.internal.Columns.{IsColumnLeft, IsFrameOf, IsRowOf, IsSmallRow, columns_of}
 use Rattle.flow_search.specs.internal.Columns.{AreJobsOf, IsFew}
 use Rattle.flow_search.proofs.Nodes.{filter-here, left-count, left-is, members-are, numbers-none}

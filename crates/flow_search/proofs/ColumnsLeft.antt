@@ -17,8 +17,8 @@ use Rattle.flow_search.specs.internal.ColumnWalks.{IsInColumns, AreTested}
 use Rattle.flow_search.specs.internal.Columns.{columns_of}
 use Rattle.flow_search.specs.internal.ColumnWalks.{column_walked, columns_walked, column_path, columns_left, frame_at}
 use Rattle.flow_search.specs.declared.state.SearchState.{SearchState}
-use Rattle.flow_search.specs.declared.eight.group.Group.{Group}
-use Rattle.flow_search.specs.declared.eight.group.ColumnFrame.{ColumnFrame}
+use Rattle.flow_search.specs.declared.few_left.group.Group.{Group}
+use Rattle.flow_search.specs.declared.few_left.group.ColumnFrame.{ColumnFrame}
 use Rattle.flow_search.proofs.Walk.{answer_of}
 use Rattle.flow_search.proofs.NextChild.{then-assoc, longer-part}
 use Rattle.flow_shop.proofs.Lists.{reverse-push}

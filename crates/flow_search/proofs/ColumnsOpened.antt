@@ -9,10 +9,10 @@ use Rattle.flow_shop.specs.Paths.{completion}
 use Rattle.flow_shop.specs.Sequences.{has, jobs_left}
 use Rattle.flow_shop.specs.Bound.{Bound}
 use Rattle.flow_shop.proofs.JobsLeft.{bool_cases}
-use Rattle.flow_search.specs.declared.eight.group.TheConstants.{GONE}
-use Rattle.flow_search.specs.declared.eight.group.MachineRow.{MachineRow}
-use Rattle.flow_search.specs.declared.eight.group.Group.{Group}
-use Rattle.flow_search.specs.declared.eight.group.ColumnFrame.{ColumnFrame}
+use Rattle.flow_search.specs.declared.few_left.group.TheConstants.{GONE}
+use Rattle.flow_search.specs.declared.few_left.group.MachineRow.{MachineRow}
+use Rattle.flow_search.specs.declared.few_left.group.Group.{Group}
+use Rattle.flow_search.specs.declared.few_left.group.ColumnFrame.{ColumnFrame}
 use Rattle.flow_search.specs.internal.Columns.{IsColumnLeft, IsFrameOf, IsOpened, IsTested, job_of, child, columns_of}
 use Rattle.flow_search.proofs.Increasing.{without-one, places-gone, size-filter}
 use Rattle.flow_shop.proofs.Taken.{left-sum, left-count, has-other, has-more, has-same}

@@ -9,8 +9,8 @@ use Rattle.flow_shop.specs.Shop.{Shop}
 use Rattle.flow_shop.specs.Sequences.{has, jobs_left}
 use Rattle.flow_shop.proofs.JobsLeft.{bool_cases}
 use Rattle.flow_shop.proofs.Lists.{has-first}
-use Rattle.flow_search.specs.declared.eight.group.Group.{Group}
-use Rattle.flow_search.specs.declared.eight.group.ColumnFrame.{ColumnFrame}
+use Rattle.flow_search.specs.declared.few_left.group.Group.{Group}
+use Rattle.flow_search.specs.declared.few_left.group.ColumnFrame.{ColumnFrame}
 use Rattle.flow_search.specs.internal.Columns.{IsColumnLeft, IsFrameOf, job_of, columns_of}
 use Rattle.flow_search.proofs.JobsTaken.{has-cases, range-has, filter-has, left-here}
 use Rattle.flow_bound.proofs.Places.{has-at}

@@ -15,10 +15,10 @@ use Rattle.flow_shop.proofs.Recurrence.{completion-push, completion-after}
 use Rattle.flow_shop.proofs.Fronts.{front-within, time-small}
 use Rattle.flow_shop.proofs.Admissible.{front_of-is}
 use Rattle.flow_shop.proofs.JobsLeft.{kept-small, kept}
-use Rattle.flow_search.specs.declared.eight.group.TheConstants.{GONE}
-use Rattle.flow_search.specs.declared.eight.group.MachineRow.{MachineRow}
-use Rattle.flow_search.specs.declared.eight.group.Group.{Group}
-use Rattle.flow_search.specs.declared.eight.group.ColumnFrame.{ColumnFrame}
+use Rattle.flow_search.specs.declared.few_left.group.TheConstants.{GONE}
+use Rattle.flow_search.specs.declared.few_left.group.MachineRow.{MachineRow}
+use Rattle.flow_search.specs.declared.few_left.group.Group.{Group}
+use Rattle.flow_search.specs.declared.few_left.group.ColumnFrame.{ColumnFrame}
 use Rattle.flow_search.specs.internal.Columns.{IsLeastOfOthers}
 use Rattle.flow_search.specs.internal.Columns.{IsColumnLeft, IsFrameOf, IsUnprunedCount, IsSmallRow, job_of, child}
 use Rattle.flow_shop.proofs.Taken.{left-sum, has-other}
@@ -143,7 +143,7 @@ bound-is shop list group frame row column other place free start behind tails at
     in
     omega (arith, leaves, row_is, front, load, sum, tail)
 
--- the state of a child's unpruned after some machines: still open, or cut before
+-- the state of a child's unpruned after some machines: still open, or pruned before
 pub record IsPassed (shop : Shop) (bound : Bound) (list : List ℕ) (limit machines unpruned flag : ℕ) : Type 0 where
   pub is : IsUnprunedCount shop bound list limit machines unpruned
   pub state : ((flag ≡ 1) × (unpruned ≡ machines)) ⊎ ((flag ≡ 0) × (unpruned < machines))

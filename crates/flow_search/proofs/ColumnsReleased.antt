@@ -14,10 +14,10 @@ use Rattle.flow_shop.proofs.Ranges.{greatest-next}
 use Rattle.flow_shop.proofs.Taken.{left-sum}
 use Rattle.flow_bound.proofs.Releases.{start_from, start-here}
 use Rattle.flow_shop.proofs.Times.{time_between-split}
-use Rattle.flow_search.specs.declared.eight.group.TheConstants.{GONE}
-use Rattle.flow_search.specs.declared.eight.group.MachineRow.{MachineRow}
-use Rattle.flow_search.specs.declared.eight.group.Group.{Group}
-use Rattle.flow_search.specs.declared.eight.group.ColumnFrame.{ColumnFrame}
+use Rattle.flow_search.specs.declared.few_left.group.TheConstants.{GONE}
+use Rattle.flow_search.specs.declared.few_left.group.MachineRow.{MachineRow}
+use Rattle.flow_search.specs.declared.few_left.group.Group.{Group}
+use Rattle.flow_search.specs.declared.few_left.group.ColumnFrame.{ColumnFrame}
 use Rattle.flow_search.specs.internal.Columns.{IsLeastOfOthers, IsColumnLeft, IsFrameOf, IsOpened, job_of, child}
 use Rattle.flow_search.proofs.ColumnsPassed.{least-left, behind-is}
 

@@ -6,7 +6,7 @@ use Rattle.flow_shop.specs.Bound.{Bound}
 use Rattle.flow_search.specs.internal.Columns.{IsUnprunedCount}
 use Rattle.flow_search.proofs.ColumnsPassed.{IsPassed}
 
--- a column that the weaker of two bounds has cut so far was cut by the stronger one, or is cut now
+-- a column that the weaker of two bounds has pruned so far was pruned by the stronger one, or is pruned now
 pub pruned-sooner : (shop : Shop) (weak strong : Bound) (list : List ℕ) (limit place machines first unpruned flag : ℕ) →
     ((machine : ℕ) → 1 ≤ machine → weak shop list machine ≤ strong shop list machine) →
     IsUnprunedCount shop weak list limit machines first → IsPassed shop strong list limit place unpruned flag →
@@ -28,7 +28,7 @@ pruned-sooner shop weak strong list limit place machines first unpruned flag str
       | inr cut ↦ cut.0
     ]
 
--- a column that one of two bounds has cut so far needs no further machine
+-- a column that one of two bounds has pruned so far needs no further machine
 pub still-none : (shop : Shop) (weak strong : Bound) (list : List ℕ)
     (limit place machines first unpruned flag still : ℕ) →
     ((machine : ℕ) → 1 ≤ machine → weak shop list machine ≤ strong shop list machine) →

@@ -12,8 +12,8 @@ use Rattle.flow_search.specs.internal.Nodes.{Wrote, Entered, Gave, Walked, walke
 use Rattle.flow_search.specs.internal.Columns.{IsFrameOf, IsColumnLeft, IsUnprunedCount, IsTested, job_of, child}
 use Rattle.flow_search.specs.internal.ColumnWalks.{column_walked}
 use Rattle.flow_search.specs.declared.state.SearchState.{SearchState}
-use Rattle.flow_search.specs.declared.eight.group.Group.{Group}
-use Rattle.flow_search.specs.declared.eight.group.ColumnFrame.{ColumnFrame}
+use Rattle.flow_search.specs.declared.few_left.group.Group.{Group}
+use Rattle.flow_search.specs.declared.few_left.group.ColumnFrame.{ColumnFrame}
 use Rattle.flow_search.proofs.Walk.{answer_of}
 use Rattle.flow_shop.proofs.Taken.{left-count}
 use Rattle.flow_search.proofs.JobsTaken.{left-child}

@@ -35,7 +35,7 @@ none-stricter p q from (suc n) low h none = elim (cases_Bool (p from)) [
       ∙ none-stricter p q (from + 1) n (omega arith) h rest
 ]
 
--- the tree of a node, by its cut
+-- the tree of a node, by the machine that prunes it
 abbrev node_text : List ℕ → Option ℕ → List ℕ
 node_text texts prunes = option_map_or (λ machine. letter machine ∷ []) prunes (43 ∷ texts)
 

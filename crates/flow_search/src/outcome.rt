@@ -8,7 +8,7 @@ ghost use Rattle.flow_search.specs.internal.Nodes.{found_if};
 ghost use Rattle.flow_search.specs.Outcomes.{IsLawful, solution_of};
 
 use crate::budget::SearchFault;
-use crate::eight::ColumnMemory;
+use crate::few_left::ColumnMemory;
 use crate::plan::Plan;
 use crate::setting::Setting;
 use crate::state::SearchState;

@@ -13,7 +13,7 @@ pub struct Setting<'a> {
     pub rows: &'a [Row],
     /// The most bytes that the tree may have.
     pub budget: usize,
-    /// The version of the certificate, which says by which bound nodes are cut.
+    /// The version of the certificate, which says by which bound nodes are pruned.
     pub version: u32,
     ghost are_rows: { AreRows instance.now rows.now },
 }

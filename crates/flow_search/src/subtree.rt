@@ -11,7 +11,7 @@ ghost use Rattle.flow_search.specs.internal.Settings.{shop_of, pruning_bound, pr
 ghost use Rattle.flow_search.specs.internal.Settings.{node_walk, children_walk, child_walk, IsTooLong};
 
 use crate::budget::SearchFault;
-use crate::eight::{ColumnMemory, FEW, walk_few};
+use crate::few_left::{ColumnMemory, FEW, walk_few};
 use crate::frame::Frame;
 use crate::pruning::{pruning_of_child, pruning_of_node};
 use crate::setting::Setting;

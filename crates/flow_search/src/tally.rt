@@ -43,12 +43,12 @@ impl Tally {
         })
     }
 
-    /// Adds the best and the tree of the next prefix, where its outcome is `Done`; else it stays as it is.
+    /// Adds the best and the tree of the next prefix, where its outcome is `Done`; else there is no error, and it stays as it is.
     pub fn add(&mut self, outcome: Outcome) -> Result<(), AllocError>
         ensures done { OnOk result ((plan : Planned) (number : ℕ) → number < length (prefixes_of plan) →
             IsTally plan number self.old → IsLawful plan number outcome → IsDone outcome →
             IsTally plan (number + 1) self.new) }
-        ensures other { (¬ IsDone outcome) → self.new ≡ self.old }
+        ensures other { (¬ IsDone outcome) → (self.new ≡ self.old) × (result ≡ Ok tt) }
     {
         let Outcome::Done { best, tree } = outcome else {
             return Ok(());

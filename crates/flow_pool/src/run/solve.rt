@@ -5,12 +5,12 @@ ghost use Rattle.flow_pool.specs.declared.run.solve.SolveFault.TheVariants.{Memo
 ghost use Rattle.flow_pool.specs.Report.{IsReport, IsSolveFault, solve_fault};
 ghost use Rattle.flow_pool.specs.internal.Runs.{IsMade, IsRun};
 
-use crate::gate::HubGate;
 use crate::lane_ends::HubState;
 use crate::refusal::Refusal;
 use crate::run::make::{Made, make_run};
 use crate::settling::{LanePair, settle_all};
 use crate::threads::{Ended, Started, run_workers};
+use crate::waker::HubGate;
 use crate::{Answer, Gate};
 use flow_search::{Outcome, Plan, RunFault, Verdict, conclude, first_refusal};
 use std::alloc::{AllocError, Global};

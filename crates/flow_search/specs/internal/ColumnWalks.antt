@@ -7,8 +7,8 @@ use Rattle.flow_search.specs.internal.Walk.{Walk, Incumbent, walk, walk_each}
 use Rattle.flow_search.specs.internal.Nodes.{incumbent_of, then_walk}
 use Rattle.flow_search.specs.internal.Columns.{IsTested, child, columns_of}
 use Rattle.flow_search.specs.declared.state.SearchState.{SearchState}
-use Rattle.flow_search.specs.declared.eight.group.Group.{Group}
-use Rattle.flow_search.specs.declared.eight.group.ColumnFrame.{ColumnFrame}
+use Rattle.flow_search.specs.declared.few_left.group.Group.{Group}
+use Rattle.flow_search.specs.declared.few_left.group.ColumnFrame.{ColumnFrame}
 
 -- the walk of a column's child, with so many jobs left there
 abbrev pub column_walked : Shop → Bound → ℕ → Group → ℕ → SearchState → Walk

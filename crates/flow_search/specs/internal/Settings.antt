@@ -17,7 +17,7 @@ use Rattle.flow_search.specs.declared.state.SearchState.{SearchState}
 abbrev pub shop_of : Setting → Shop
 shop_of setting = setting.instance.now
 
--- the bound by which nodes are cut: that of the version
+-- the bound by which nodes are pruned: that of the version
 abbrev pub pruning_bound : Setting → Bound
 pruning_bound setting = bound_of setting.version
 

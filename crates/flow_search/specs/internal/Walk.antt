@@ -1,4 +1,4 @@
--- The walk of a search through a subtree. It keeps one incumbent, and visits no sequence below a cut.
+-- The walk of a search through a subtree. It keeps one incumbent, and visits no sequence below a pruned node.
 use Rattle.std.specs.Prelude.{ℕ, zero, suc, ◌≡◌, ◌-◌, ◌≤◌, cond, nat_lt, List, [], ◌∷◌, ◌++◌, length}
 use Rattle.std.specs.Prelude.{Option, Some, None}
 use Rattle.std.specs.Option.{option_map_or}

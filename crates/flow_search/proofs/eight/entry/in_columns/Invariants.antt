@@ -1,8 +1,0 @@
-use Rattle.std.proofs.Common.{◌≡◌, ℕ, ◌<◌, length, slice_index}
-use Rattle.flow_search.proofs.eight.entry.in_columns.Given as goal
-
-abbrev pub invariant-loop-column : goal.invariant-loop-column
-invariant-loop-column l = record {
-  size : length l.made ≡ 8;
-  each : (k : ℕ) → k < l.column → slice_index l.made k ≡ slice_index l.jobs k;
-}

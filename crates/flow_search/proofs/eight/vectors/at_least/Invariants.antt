@@ -1,8 +1,0 @@
-use Rattle.std.proofs.Common.{◌≡◌, ℕ, ◌<◌, max, length, slice_index}
-use Rattle.flow_search.proofs.eight.vectors.at_least.Given as goal
-
-abbrev pub invariant-loop-column : goal.invariant-loop-column
-invariant-loop-column l = record {
-  size : length l.made ≡ 8;
-  each : (k : ℕ) → k < l.column → slice_index l.made k ≡ max (slice_index l.numbers k) l.least;
-}
