@@ -1,6 +1,7 @@
 //! Searches for directions, one after the other, and what they found so far.
 
-ghost use Rattle.std.specs.Prelude.{◌≡◌, ◌↔◌, ◌⊎◌, ◌<◌, ◌≤◌, min, false, [], length, IfOk, IsTrue};
+ghost use Rattle.std.specs.Prelude.{◌≡◌, ◌↔◌, ◌⊎◌, ◌<◌, ◌≤◌, min, cond, nat_eq, false, [], length};
+ghost use Rattle.std.specs.Prelude.{Some, IfOk, IsSomeAnd, IsTrue};
 ghost use Rattle.flow_shop.specs.Shop.{Shop};
 ghost use Rattle.flow_shop.specs.Paths.{span};
 ghost use Rattle.flow_shop.specs.Directions.{Proves};
@@ -142,6 +143,7 @@ impl Searches {
     fn note_over(&mut self, number: u64, budget: u64)
         ensures known { self.new.known ≡ self.old.known }
         ensures most { self.new.fund.most ≡ self.old.fund.most }
+        ensures over { self.new.over ≡ cond (nat_eq number self.old.known.upper) (Some budget) self.old.over }
     {
         self.fund.spend(budget);
         if number == self.known.upper {
@@ -150,7 +152,9 @@ impl Searches {
     }
 
     /// Whether the search below a number is known to be over with a budget.
-    fn is_over(&self, number: u64, budget: u64) -> bool {
+    fn is_over(&self, number: u64, budget: u64) -> bool
+        ensures { IsTrue result ↔ ((number ≡ self.now.known.upper) × IsSomeAnd self.now.over (λ over. budget ≤ over)) }
+    {
         number == self.known.upper && self.over.is_some_and(|over| budget <= over)
     }
 
