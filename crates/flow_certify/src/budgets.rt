@@ -38,7 +38,7 @@ pub(crate) struct Fund {
 
 impl Fund {
     /// What searches may write, where the caller's limit is `directions`, and `makespan` is that of the start. One
-    /// search may write as many as the limit, but no more than `check` reads, and than four fifths of what all may.
+    /// search may write the least of three numbers: the limit, what `check` reads, and four fifths of what all may.
     pub(crate) fn new(instance: &Instance, makespan: u64, directions: u32) -> Fund
         ensures { result.most ≤ min directions most_signs }
     {

@@ -64,8 +64,8 @@ fn take_first(alloc: Global, pieces: &mut VecDeque<Piece>) -> Result<Option<Piec
     Ok(Some(Piece::Left(node)))
 }
 
-/// Takes the first pieces off, as far as the pace goes: it counts the nodes, and the directions that are known to come
-/// before the next piece. Those behind a node may be found in vain, so no more of them are kept than a round has.
+/// Takes the first pieces off, until they have as many nodes as the pace allows, or those that are done as many
+/// directions as the round: directions behind a node may have been found in vain.
 pub(crate) fn deal(
     alloc: Global,
     pieces: &mut VecDeque<Piece>,
