@@ -725,6 +725,13 @@ function names_of_several(    j, name, count, text) {
   return text
 }
 
+# In which parts of the unit of the table the program counts, and what to do with what it prints.
+function kept_in(    parts) {
+  if (scale == 1) return ""
+  parts = scale == 2 ? "halves" : scale == 4 ? "quarters" : "in 1/" scale " of the unit"
+  return ", kept in 1/" scale ": the program counts " parts ", so divide what it prints by " scale
+}
+
 # Says what was read.
 function report(    k, text, several) {
   text = jobs (jobs == 1 ? " job, " : " jobs, ") machines (machines == 1 ? " machine" : " machines")
@@ -732,7 +739,7 @@ function report(    k, text, several) {
     text = text (k == 1 ? ": " : ", ") in_sentence(machine_name(k) == "" ? k : machine_name(k))
   if (turned ? above : before)
     text = text "; first job " in_sentence(job_name(1)) ", last job " in_sentence(job_name(jobs))
-  text = text "; times " extreme(1) " to " extreme(-1) (scale > 1 ? ", kept in 1/" scale : "")
+  text = text "; times " extreme(1) " to " extreme(-1) kept_in()
   several = names_of_several()
   if (several != "") text = text "; name of several jobs: " several
   if (left_out != "") text = text "; left out: " left_out
