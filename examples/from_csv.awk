@@ -188,6 +188,18 @@ function read_rows(    i, text, begun, open, last) {
 
 # --- The words on the command line ---
 
+# Stops at a word NAME=VALUE whose name is none of those below: awk itself takes any.
+function test_names_of_words(    i, name) {
+  for (i = 1; i < ARGC; i++) {
+    name = ARGV[i]
+    if (name !~ /^[A-Za-z_][A-Za-z_0-9]*=/) continue
+    sub(/=.*/, "", name)
+    if (!index(" header first rows totals decimal skip keep from ", " " name " "))
+      stop("there is no word " name "=: the words are header=, first=, rows=, totals=, decimal=, skip=, keep= and " \
+        "from=")
+  }
+}
+
 function test_word(word, value, one, other) {
   if (value != "" && value != one && value != other) stop("the word after " word "= is " one " or " other)
 }
@@ -768,6 +780,8 @@ function test_jobs_and_machines(    j) {
   for (j = 1; j <= jobs && (turned ? above : before); j++)
     if (job_name(j) == "") stop(job_place(j) " has no name")
 }
+
+BEGIN { test_names_of_words() }
 
 FNR == 1 {
   if (NR > 1) stop("there may be one table")
