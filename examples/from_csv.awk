@@ -369,6 +369,15 @@ function find_names(    row) {
   }
 }
 
+# Stops at a row that has the names of the first one again, as where pages of a table were joined.
+function test_names_again(    row, column, words) {
+  for (column = 1; column <= width && above; column++) words += is_word(cell[1, column])
+  for (row = 2; row <= height && words; row++) {
+    for (column = 1; column <= width && cell[row, column] "" == cell[1, column] ""; column++);
+    if (column > width) stop("line " at[row] " repeats line " at[1] ": take it out of the table")
+  }
+}
+
 function row_name(row) {
   return before ? cell[row, 1] : ""
 }
@@ -619,8 +628,18 @@ function place_of(j, k,    row, column) {
   return "line " at[row] ": " column_place(column)
 }
 
+# Whether a row has words in columns of times, and no number in any of them, as where it has their units.
+function has_words_alone(row,    column, words) {
+  for (column = before + 1; column <= width && cell[row, column] !~ /[0-9]/; column++)
+    words += (cell[row, column] !~ /^(-|–|—)*$/)
+  return words && column > width
+}
+
 # Stops at a field that is no time.
-function refuse_field(j, k, text,    i) {
+function refuse_field(j, k, text,    i, row) {
+  row = turned ? machine_at[k] : job_at[j]
+  if (has_words_alone(row))
+    stop(row_place(row) " has no times: take it out of the table, if it is no " (turned ? "machine" : "job"))
   for (i = 1; i <= machines && field_of(j, i) == ""; i++);
   if (i > machines) stop(job_place(j) " has no times: take it out of the table, or write 0 where it skips a machine")
   for (i = 1; i <= jobs && field_of(i, k) == ""; i++);
@@ -800,6 +819,7 @@ END {
   skip_columns()
   skip_rows()
   find_names()
+  test_names_again()
   list_jobs_and_machines()
   test_total_names()
   test_machine_names()
