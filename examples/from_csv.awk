@@ -80,10 +80,14 @@ function looks_like_job(name) {
 }
 
 # The lists, of words in small letters with a blank before and after each. Words: those of totals; those of quantities,
-# dates and the like. Names: of a column of jobs; of a column of machines; of columns that are no machines; of machines.
+# dates and the like. Names: of extremes; of rows below the jobs; of a column of jobs; of a column of machines; of
+# columns that are no machines; of machines. `min` is a unit too, and so it stands in no list of words.
 BEGIN {
-  total_words = " total totals subtotal sum sums summe summen gesamt gesamtsumme gesamtzeit zwischensumme insgesamt" \
-    " somme suma soma somma totale totaal average avg mean mittelwert durchschnitt moyenne Σ σ ∑ Ø ø "
+  total_words = " total totals subtotal sum sums summe summen gesamt ges gesamtsumme gesamtzeit zwischensumme" \
+    " insgesamt somme suma soma somma totale totaal average avg mean median mittelwert durchschnitt moyenne" \
+    " Σ σ ∑ Ø ø "
+  extreme_names = " max min maximum minimum "
+  below_names = extreme_names "count capacity load anzahl kapazität kapazitaet auslastung "
   other_words = " qty quantity quantities pcs pieces amount menge anzahl stück stueck stk stückzahl stueckzahl" \
     " losgröße losgroesse lot lotsize quantité quantite qté qte cantidad quantità quantita aantal due duedate" \
     " deadline date datum termin liefertermin priority prio priorität prioritaet weight gewicht setup rüsten" \
@@ -92,7 +96,8 @@ BEGIN {
     " number nummer id pos position lfdnr name product produkt article artikel part item teil task "
   machine_names = " machine machines maschine maschinen station stations stage workcentre workcenter resource" \
     " arbeitsplatz arbeitsgang operation operations process step anlage "
-  other_names = job_names machine_names " time times zeit dauer duration start end week woche kw units count batch "
+  other_names = extreme_names job_names machine_names " time times zeit dauer duration start end week woche kw units" \
+    " count batch capacity kapazität kapazitaet "
   operations = " cut cutting saw sawing mill milling drill drilling turn turning lathe grind grinding weld welding" \
     " bend bending press pressing punch punching paint painting coat coating polish polishing assemble assembly pack" \
     " packing packaging inspect inspection test testing wash washing clean cleaning dry drying heat hardening oven" \
@@ -467,9 +472,10 @@ function drops_totals(place) {
 }
 
 # Finds totals by their names.
-function test_total_names(    i) {
+function test_total_names(    i, name) {
   for (i = jobs; i >= 1; i--) {
-    if (has_word(job_name(i), total_words) && drops_totals(job_place(i))) drop_job(i)
+    name = job_name(i)
+    if ((has_word(name, total_words) || is_name(name, below_names)) && drops_totals(job_place(i))) drop_job(i)
   }
   for (i = machines; i >= 1; i--) {
     if (has_word(machine_name(i), total_words) && drops_totals(machine_place(i))) drop_machine(i)
