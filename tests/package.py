@@ -369,7 +369,9 @@ def draw_timetables():
     published = Shop.read(PUBLISHED)[0].shop
     equal("the picture of docs/", published.gantt(published.certify(order, **FEW)), shown)
     foreign = Shop.from_jobs([[1, 1, 1]] * 3).certify()
-    equal("a picture of a certificate of another shop", refused(lambda: SHOP.gantt(foreign))[:2], ("NotLawful", "NOT_ATTAINED"))
+    for call in (SHOP.schedule, SHOP.gantt, SHOP.report):
+        got = refused(lambda call=call: call(foreign))
+        equal(f"{call.__name__} of a certificate of another shop", got[:3], ("NotLawful", "NOT_ATTAINED", 4))
 
 
 def use_files():

@@ -273,11 +273,18 @@ class Shop:
         return values
 
     def schedule(self, sequence: Jobs) -> Timetable:
-        """The timetable of a sequence, where each job starts as early as it can. Errors are those of `makespan`.
+        """The timetable of a sequence, where each job starts as early as it can. A Certificate is checked; NotLawful
+        where it is none of the shop. The other errors are those of `makespan`.
 
         >>> list(shop.schedule([2, 1, 3]))[-1]
         Operation(job=3, machine=3, start=12, end=13)
         """
+        if isinstance(sequence, Certificate):
+            self.check(sequence)
+        return self._timetable(sequence)
+
+    def _timetable(self, sequence: Jobs) -> Timetable:
+        """The timetable of a sequence. The text of a Certificate is not read."""
         jobs, count = packed(sequence, self.jobs), self.jobs * self.machines
         starts, ends = (u64 * count)(), (u64 * count)()
         self._call("timetable", jobs, SpansRoom(starts, count, ends, count))
@@ -323,7 +330,7 @@ class Shop:
         """
         times = times_of(self._parts[5], start, unit)
         certificate = self.check(order) if isinstance(order, Certificate) else None
-        timetable = self.schedule(certificate or order)
+        timetable = self._timetable(certificate or order)
         lower = certificate.lower if certificate else self.bound()
         facts = Facts(
             title=title or f"Schedule of {counted(self.jobs, 'job')} on {counted(self.machines, 'machine')}",
