@@ -518,10 +518,11 @@ def keep_reports():
         equal("one that is not", refused(lambda: report.save(folder)), IsADirectoryError)
 
 
-def run(*words):
-    """Runs the command, and gives its status, and what it wrote."""
-    done = subprocess.run([sys.executable, "-m", "flowshop", "report", *words], capture_output=True, check=False)
-    return done.returncode, done.stdout.decode(), done.stderr.decode()
+def run(*words, out=subprocess.PIPE):
+    """Runs the command, and gives its status, and what it wrote; nothing of what it wrote to an `out` of its own."""
+    command = [sys.executable, "-m", "flowshop", "report", *words]
+    done = subprocess.run(command, stdout=out, stderr=subprocess.PIPE, check=False)
+    return done.returncode, (done.stdout or b"").decode(), done.stderr.decode()
 
 
 # What files the command is called with, beside shop.txt, one.txt with a shop of one job, and two.txt with both.
@@ -591,6 +592,12 @@ def refuse_by_the_command():
     ]:
         equal(f"report {words}", run(*words.split()), (status, "", f"flowshop: {said}\n"))
     equal("report alone", run()[:2], (2, ""))
+    reader, terminal = os.openpty()
+    said = "flowshop: a report is a page for a browser, and this is a terminal: write --out report.html\n"
+    equal("report on a terminal", run("shop.txt", "1", "least", out=terminal), (2, "", said))
+    equal("one to a file", run("shop.txt", "1", "least", "--out", "a.html", out=terminal), (0, "", ""))
+    os.close(terminal)
+    os.close(reader)
 
 
 def call_the_command():
