@@ -497,7 +497,8 @@ def write_the_greatest():
     names = [f"Job {job}" for job in range(1, 801)], [f"Machine {machine}" for machine in range(1, 27)]
     root = read(report)
     equal("its pictures", list(root.all("svg")), [])
-    wanted = "The picture is left out: it has too many bars for a page."
+    wanted = "The picture is left out: it has too many bars for a page. In Python "
+    wanted += 'shop.gantt(order).save("shop.svg") draws it anyway, and so does flowshop schedule with --form svg.'
     equal("what is said of them", line_of(root, "The picture"), wanted)
     spans = plain_spans(rows, range(800, 0, -1))
     last = [[str(place), names[0][800 - place], *map(str, each[25])] for place, each in enumerate(spans, 1)]
