@@ -523,11 +523,12 @@ class Shop:
 
         Searches for directions are shared by so many `workers`, 1 to 10,000, which are threads; or by those of a `map`,
         such as that of a pool of processes, where `workers` says how many there are, if it is known. The certificate is
-        the same for any number of workers and any map. After `time_limit` seconds it is one of the best bounds so far.
-        `progress` is called with a Progress, a few times a second; where it is True, a line on standard error tells the
-        same. An interrupt ends the call within a second, as Interrupted, which has a certificate of the best bounds so
-        far. Without a map and a time limit the certificate was read by `check`. Errors are those of `improve`, and
-        those of the map.
+        the same for any number of workers and any map. After `time_limit` seconds it is one of the best bounds so far;
+        with few seconds, less `work` and fewer `directions` may give better ones. A run that ends before gives the same
+        as one without a limit. `progress` is called with a Progress, a few times a second; where it is True, a line on
+        standard error tells the same. An interrupt ends the call within a second, as Interrupted, which has a
+        certificate of the best bounds so far. Without a map and a time limit the certificate was read by `check`.
+        Errors are those of `improve`, and those of the map.
 
         >>> certificate = shop.certify(workers=4, time_limit=60)
         >>> certificate.lower, certificate.upper
@@ -556,8 +557,8 @@ class Shop:
         try:
             run.search_until(watch, workers)
         except KeyboardInterrupt:
-            raise Interrupted(self._certificate(run.known)) from None
-        return self._certificate(run.known)
+            raise Interrupted(self._certificate(run.found())) from None
+        return self._certificate(run.found())
 
     def _certificate(self, known: Known) -> Certificate:
         """The certificate of what is known."""
