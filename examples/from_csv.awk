@@ -80,10 +80,14 @@ function looks_like_job(name) {
 }
 
 # The lists, of words in small letters with a blank before and after each. Words: those of totals; those of quantities,
-# dates and the like. Names: of a column of jobs; of a column of machines; of columns that are no machines; of machines.
+# dates and the like. Names: of extremes; of rows below the jobs; of a column of jobs; of a column of machines; of
+# columns that are no machines; of machines. `min` is a unit too, and so it stands in no list of words.
 BEGIN {
-  total_words = " total totals subtotal sum sums summe summen gesamt gesamtsumme gesamtzeit zwischensumme insgesamt" \
-    " somme suma soma somma totale totaal average avg mean mittelwert durchschnitt moyenne Σ σ ∑ Ø ø "
+  total_words = " total totals subtotal sum sums summe summen gesamt ges gesamtsumme gesamtzeit zwischensumme" \
+    " insgesamt somme suma soma somma totale totaal average avg mean median mittelwert durchschnitt moyenne" \
+    " Σ σ ∑ Ø ø "
+  extreme_names = " max min maximum minimum "
+  below_names = extreme_names "count capacity load anzahl kapazität kapazitaet auslastung "
   other_words = " qty quantity quantities pcs pieces amount menge anzahl stück stueck stk stückzahl stueckzahl" \
     " losgröße losgroesse lot lotsize quantité quantite qté qte cantidad quantità quantita aantal due duedate" \
     " deadline date datum termin liefertermin priority prio priorität prioritaet weight gewicht setup rüsten" \
@@ -92,7 +96,8 @@ BEGIN {
     " number nummer id pos position lfdnr name product produkt article artikel part item teil task "
   machine_names = " machine machines maschine maschinen station stations stage workcentre workcenter resource" \
     " arbeitsplatz arbeitsgang operation operations process step anlage "
-  other_names = job_names machine_names " time times zeit dauer duration start end week woche kw units count batch "
+  other_names = extreme_names job_names machine_names " time times zeit dauer duration start end week woche kw units" \
+    " count batch capacity kapazität kapazitaet "
   operations = " cut cutting saw sawing mill milling drill drilling turn turning lathe grind grinding weld welding" \
     " bend bending press pressing punch punching paint painting coat coating polish polishing assemble assembly pack" \
     " packing packaging inspect inspection test testing wash washing clean cleaning dry drying heat hardening oven" \
@@ -187,6 +192,18 @@ function read_rows(    i, text, begun, open, last) {
 }
 
 # --- The words on the command line ---
+
+# Stops at a word NAME=VALUE whose name is none of those below: awk itself takes any.
+function test_names_of_words(    i, name) {
+  for (i = 1; i < ARGC; i++) {
+    name = ARGV[i]
+    if (name !~ /^[A-Za-z_][A-Za-z_0-9]*=/) continue
+    sub(/=.*/, "", name)
+    if (!index(" header first rows totals decimal skip keep from ", " " name " "))
+      stop("there is no word " name "=: the words are header=, first=, rows=, totals=, decimal=, skip=, keep= and " \
+        "from=")
+  }
+}
 
 function test_word(word, value, one, other) {
   if (value != "" && value != one && value != other) stop("the word after " word "= is " one " or " other)
@@ -357,6 +374,15 @@ function find_names(    row) {
   }
 }
 
+# Stops at a row that has the names of the first one again, as where pages of a table were joined.
+function test_names_again(    row, column, words) {
+  for (column = 1; column <= width && above; column++) words += is_word(cell[1, column])
+  for (row = 2; row <= height && words; row++) {
+    for (column = 1; column <= width && cell[row, column] "" == cell[1, column] ""; column++);
+    if (column > width) stop("line " at[row] " repeats line " at[1] ": take it out of the table")
+  }
+}
+
 function row_name(row) {
   return before ? cell[row, 1] : ""
 }
@@ -446,9 +472,10 @@ function drops_totals(place) {
 }
 
 # Finds totals by their names.
-function test_total_names(    i) {
+function test_total_names(    i, name) {
   for (i = jobs; i >= 1; i--) {
-    if (has_word(job_name(i), total_words) && drops_totals(job_place(i))) drop_job(i)
+    name = job_name(i)
+    if ((has_word(name, total_words) || is_name(name, below_names)) && drops_totals(job_place(i))) drop_job(i)
   }
   for (i = machines; i >= 1; i--) {
     if (has_word(machine_name(i), total_words) && drops_totals(machine_place(i))) drop_machine(i)
@@ -607,8 +634,18 @@ function place_of(j, k,    row, column) {
   return "line " at[row] ": " column_place(column)
 }
 
+# Whether a row has words in columns of times, and no number in any of them, as where it has their units.
+function has_words_alone(row,    column, words) {
+  for (column = before + 1; column <= width && cell[row, column] !~ /[0-9]/; column++)
+    words += (cell[row, column] !~ /^(-|–|—)*$/)
+  return words && column > width
+}
+
 # Stops at a field that is no time.
-function refuse_field(j, k, text,    i) {
+function refuse_field(j, k, text,    i, row) {
+  row = turned ? machine_at[k] : job_at[j]
+  if (has_words_alone(row))
+    stop(row_place(row) " has no times: take it out of the table, if it is no " (turned ? "machine" : "job"))
   for (i = 1; i <= machines && field_of(j, i) == ""; i++);
   if (i > machines) stop(job_place(j) " has no times: take it out of the table, or write 0 where it skips a machine")
   for (i = 1; i <= jobs && field_of(i, k) == ""; i++);
@@ -725,6 +762,13 @@ function names_of_several(    j, name, count, text) {
   return text
 }
 
+# In which parts of the unit of the table the program counts, and what to do with what it prints.
+function kept_in(    parts) {
+  if (scale == 1) return ""
+  parts = scale == 2 ? "halves" : scale == 4 ? "quarters" : "in 1/" scale " of the unit"
+  return ", kept in 1/" scale ": the program counts " parts ", so divide what it prints by " scale
+}
+
 # Says what was read.
 function report(    k, text, several) {
   text = jobs (jobs == 1 ? " job, " : " jobs, ") machines (machines == 1 ? " machine" : " machines")
@@ -732,7 +776,7 @@ function report(    k, text, several) {
     text = text (k == 1 ? ": " : ", ") in_sentence(machine_name(k) == "" ? k : machine_name(k))
   if (turned ? above : before)
     text = text "; first job " in_sentence(job_name(1)) ", last job " in_sentence(job_name(jobs))
-  text = text "; times " extreme(1) " to " extreme(-1) (scale > 1 ? ", kept in 1/" scale : "")
+  text = text "; times " extreme(1) " to " extreme(-1) kept_in()
   several = names_of_several()
   if (several != "") text = text "; name of several jobs: " several
   if (left_out != "") text = text "; left out: " left_out
@@ -762,6 +806,8 @@ function test_jobs_and_machines(    j) {
     if (job_name(j) == "") stop(job_place(j) " has no name")
 }
 
+BEGIN { test_names_of_words() }
+
 FNR == 1 {
   if (NR > 1) stop("there may be one table")
   sub(/^\357\273\277/, "")
@@ -779,6 +825,7 @@ END {
   skip_columns()
   skip_rows()
   find_names()
+  test_names_again()
   list_jobs_and_machines()
   test_total_names()
   test_machine_names()

@@ -12,11 +12,21 @@ function text_name() {
   return FILENAME == "" || FILENAME == "-" ? "instances" : FILENAME
 }
 
-# Says what is wrong at this line, and ends.
+# Says what is wrong, at this line if one was read, and ends.
 function stop(why) {
-  print text_name() ": line " FNR ": " why >"/dev/stderr"
+  print text_name() ": " (NR ? "line " FNR ": " : "") why >"/dev/stderr"
   stopped = 1
   exit 1
+}
+
+# Stops at a word NAME=VALUE: this script has none, and awk itself takes any.
+function test_words(    i, name) {
+  for (i = 1; i < ARGC; i++) {
+    name = ARGV[i]
+    if (name !~ /^[A-Za-z_][A-Za-z_0-9]*=/) continue
+    sub(/=.*/, "", name)
+    stop("there is no word " name "=: this script has none")
+  }
 }
 
 # The number of a text of digits. Some kinds of awk take a text that begins with 0 for an octal number.
@@ -79,6 +89,8 @@ function read_head() {
     if (!is_named) name = "instance " name
   }
 }
+
+BEGIN { test_words() }
 
 FNR == 1 && NR > 1 { stop("there may be one text") }
 

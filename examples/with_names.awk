@@ -15,6 +15,16 @@ function stop(file, why) {
   exit 1
 }
 
+# Stops at a word NAME=VALUE whose name is not block: awk itself takes any.
+function test_words(    i, name) {
+  for (i = 1; i < ARGC; i++) {
+    name = ARGV[i]
+    if (name !~ /^[A-Za-z_][A-Za-z_0-9]*=/) continue
+    sub(/=.*/, "", name)
+    if (name != "block") stop("", "there is no word " name "=: the word is block=")
+  }
+}
+
 # The number of a text of digits. Some kinds of awk take a text that begins with 0 for an octal number.
 function number_of(digits) {
   sub(/^0+/, "", digits)
@@ -119,6 +129,8 @@ function name_sequence(    i, part, parts) {
   print "place" separator "job"
   for (i = 2; i <= parts; i++) print i - 1 separator quoted(job_name[part[i] + 1])
 }
+
+BEGIN { test_words() }
 
 FNR == 1 {
   files++

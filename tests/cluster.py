@@ -95,6 +95,7 @@ def compare_texts(pool):
         ("three threads", {"workers": 3}),
         ("a map", {"map": shuffled(7)}),
         ("processes", {"map": pool.map, "workers": 2}),
+        ("one that is not stopped", {"time_limit": 1000}),
     ]
     for shop, choice in drawn_runs():
         wanted = one_call(shop, **choice)
@@ -158,10 +159,13 @@ def follow_manual():
         *[(lower + 1, 10_000), (lower + 1, 333_333), ("beam", lower + 1, 800, 48_000_000), *halves],
         *[(upper, 10_000_000), (lower + 1, 1_000_000)],
     ]
-    choice = {"width": 100, "rounds": 30, "seed": 3, "work": 17, "directions": 10_000_000, "time_limit": 1000}
+    choice = {"width": 100, "rounds": 30, "seed": 3, "work": 17, "directions": 10_000_000, "map": map}
     with mock.patch.object(_certify, "Spread", Traced):
         SOME.certify(**choice)
         equal("the searches of a run", Traced.asked, wanted)
+        SOME.certify(**choice, time_limit=1000)
+        early = [*wanted[:2], (lower + 1, 10_000), *wanted[2:]]
+        equal("the searches of a run with a time limit", Traced.asked, early)
         # Of a million all searches have 1,307,693, and those of steps 1 to 4 half of them, which the third one uses up.
         SOME.certify(**{**choice, "directions": 1_000_001})
         budgets = [budget for _, budget, *more in Traced.asked if not more]
@@ -245,6 +249,18 @@ def keep_time(pool):
             equal("the last report", (reports[-1].lower, reports[-1].upper), (found.lower, found.upper))
             equal("that there are a few in a second", len(reports) <= 2 + 6 * limit, True)
     equal("a pool after that", list(pool.map(first, range(9))), list(range(9)))
+    # Before the first beam a run with a time limit has raised the lower bound as far as 10,000 directions prove it.
+    for limit in (None, 1000):
+        with mock.patch.object(_spread.Spread, "reached", side_effect=KeyboardInterrupt):
+            try:
+                found = HARD.certify(time_limit=limit)
+            except Interrupted as stopped:
+                found = stopped.result
+        equal(f"before the first beam, within {limit} s", (lawful(HARD, found), found.optimal), (True, False))
+        equal(f"the bound within {limit} s", found.lower > HARD.bound(), limit is not None)
+        kinds = [type(HARD.prove(found.lower + more, budget=10_000)) for more in (0, 1)]
+        equal(f"how far it goes within {limit} s", kinds[1] == flowshop.Over, limit is not None)
+        equal(f"that it is proved within {limit} s", kinds[0], flowshop.Proved)
     begun = time.monotonic()
     better = HARD.improve(time_limit=0.3)
     equal("improve in time", time.monotonic() - begun < 1.3, True)

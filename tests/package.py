@@ -369,7 +369,9 @@ def draw_timetables():
     published = Shop.read(PUBLISHED)[0].shop
     equal("the picture of docs/", published.gantt(published.certify(order, **FEW)), shown)
     foreign = Shop.from_jobs([[1, 1, 1]] * 3).certify()
-    equal("a picture of a certificate of another shop", refused(lambda: SHOP.gantt(foreign))[:2], ("NotLawful", "NOT_ATTAINED"))
+    for call in (SHOP.schedule, SHOP.gantt, SHOP.report):
+        got = refused(lambda call=call: call(foreign))
+        equal(f"{call.__name__} of a certificate of another shop", got[:3], ("NotLawful", "NOT_ATTAINED", 4))
 
 
 def use_files():
@@ -552,10 +554,15 @@ def refuse_texts():
         (BOUNDS, b"11 13", b"11", "VALUE", 3, "line 3 is '11', and has to be the value that is proved, or both bounds"),
         (BOUNDS, b"2 1 3", b"2 1 2", "SEQUENCE", 4, "line 4 is '2 1 2', and has to have each job from 1 to 3 once"),
         (BOUNDS, b"11 13", b"11 14", "NOT_ATTAINED", 4, "line 4 is '2 1 3', a sequence of another"),
+        (BOUNDS, b"11 13", b"10 12", "NOT_ATTAINED", 4, "line 4 is '2 1 3', a sequence of another"),
+        (BOUNDS, b"2 1 3", b"1 2 3", "NOT_ATTAINED", 4, "line 4 is '1 2 3', a sequence of another"),
+        (BOUNDS, b"11 13", b"10 13", "TREE", 5, "line 5 is '-', which is not one whole proof"),
+        (LEAST, b"12 12", b"13 12", "TREE", 5, "line 5 is '++', which is not one whole proof"),
         (BOUNDS, b"11 13", b"12 13", "TREE", 5, f"line 5 is '-', which is not one whole proof; {changed}"),
         (TREE, b"+B", b".B", "TREE", 5, "line 5 is '.BC++.B', which is not one whole proof"),
         (TREE, b"+BC++.B", b"A", "WEAK", 5, f"line 5 has a bound that is below the value; {changed}"),
         (BOUNDS, b"11 13\n2 1 3\n-", b"13 12\n3 1 2\n+++", "LOW", 5, "line 5 leads to a makespan that is below"),
+        (BOUNDS, b"\nend\n", b"\n", "END", 0, "what follows the last tree, or the directions, is not the line"),
         (BOUNDS, b"\nend\n", b"\nend", "END", 0, "what follows the last tree, or the directions, is not the line"),
     ]:
         got = refused(lambda text=text, old=old, new=new: SHOP.check(text.replace(old, new, 1)))

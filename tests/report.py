@@ -497,7 +497,8 @@ def write_the_greatest():
     names = [f"Job {job}" for job in range(1, 801)], [f"Machine {machine}" for machine in range(1, 27)]
     root = read(report)
     equal("its pictures", list(root.all("svg")), [])
-    wanted = "The picture is left out: it has too many bars for a page."
+    wanted = "The picture is left out: it has too many bars for a page. In Python "
+    wanted += 'shop.gantt(order).save("shop.svg") draws it anyway, and so does flowshop schedule with --form svg.'
     equal("what is said of them", line_of(root, "The picture"), wanted)
     spans = plain_spans(rows, range(800, 0, -1))
     last = [[str(place), names[0][800 - place], *map(str, each[25])] for place, each in enumerate(spans, 1)]
@@ -518,10 +519,11 @@ def keep_reports():
         equal("one that is not", refused(lambda: report.save(folder)), IsADirectoryError)
 
 
-def run(*words):
-    """Runs the command, and gives its status, and what it wrote."""
-    done = subprocess.run([sys.executable, "-m", "flowshop", "report", *words], capture_output=True, check=False)
-    return done.returncode, done.stdout.decode(), done.stderr.decode()
+def run(*words, out=subprocess.PIPE):
+    """Runs the command, and gives its status, and what it wrote; nothing of what it wrote to an `out` of its own."""
+    command = [sys.executable, "-m", "flowshop", "report", *words]
+    done = subprocess.run(command, stdout=out, stderr=subprocess.PIPE, check=False)
+    return done.returncode, (done.stdout or b"").decode(), done.stderr.decode()
 
 
 # What files the command is called with, beside shop.txt, one.txt with a shop of one job, and two.txt with both.
@@ -591,6 +593,12 @@ def refuse_by_the_command():
     ]:
         equal(f"report {words}", run(*words.split()), (status, "", f"flowshop: {said}\n"))
     equal("report alone", run()[:2], (2, ""))
+    reader, terminal = os.openpty()
+    said = "flowshop: a report is a page for a browser, and this is a terminal: write --out report.html\n"
+    equal("report on a terminal", run("shop.txt", "1", "least", out=terminal), (2, "", said))
+    equal("one to a file", run("shop.txt", "1", "least", "--out", "a.html", out=terminal), (0, "", ""))
+    os.close(terminal)
+    os.close(reader)
 
 
 def call_the_command():

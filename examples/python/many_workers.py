@@ -4,6 +4,9 @@ import sys
 
 from flowshop import Interrupted, Shop
 
+if len(sys.argv) != 3:
+    print("usage: many_workers.py FILE INDEX", file=sys.stderr)
+    sys.exit(2)
 shop = Shop.read(sys.argv[1])[int(sys.argv[2]) - 1].shop
 try:
     certificate = shop.certify(workers=4, time_limit=60, progress=True)

@@ -1,7 +1,8 @@
 """The steps of certify, as docs/manual.md has them, with searches whose parts workers do. The text is that of the call
-flowshop_certify, byte by byte."""
+flowshop_certify, byte by byte. A run with a time limit also raises the lower bound a little before step 2, since it may
+be stopped before step 5; where it is not stopped, its text is the same."""
 
-from typing import Callable, Dict, NamedTuple
+from typing import Callable, Dict, NamedTuple, Optional
 
 from ._parts import BELOW, OVER, PROVED, Instance, Reached
 from ._spread import Numbers, Spread, Workers
@@ -121,7 +122,9 @@ class Run:
 
     def __init__(self, shop: Numbers, start: bytes, makespan: int, effort: Effort, directions: int) -> None:
         self.known = Known(root_bound(shop), makespan, start, b"")
-        self._shop, self._start, self._effort = shop, start, effort
+        self._shop, self._start, self._effort, self._directions = shop, start, effort, directions
+        self._early: Optional[Run] = None  # what a run with a time limit finds beside its steps, as long as it goes on
+        self._is_limited = False
         self._least = taillard_bound(shop)
         self._fund = Fund(shop[0], shop[1], makespan, directions)
         self._over = 0  # the greatest budget with which the search below the makespan of the sequence was over
@@ -131,6 +134,7 @@ class Run:
 
     def search_until(self, watch: Watch, workers: Workers) -> None:
         """Makes all steps, as long as the watch allows, with the parts of searches given to workers."""
+        self._is_limited = watch.is_limited
 
         def pause(directions: int) -> None:
             self._writing = directions
@@ -142,13 +146,25 @@ class Run:
                 self._prove_best()
                 if not self._is_proved():
                     self._prove_more()
+            self._early = None
 
         watch.run(steps, self._progress)
 
+    def found(self) -> Known:
+        """What is given where the run is stopped now, or is over: what is known, or was found early where it goes on
+        and that is better."""
+        known, early = self.known, (self._early or self).known
+        if early.lower > known.lower:
+            known = known._replace(lower=early.lower, directions=early.directions)
+        if early.upper < known.upper:
+            known = known._replace(upper=early.upper, sequence=early.sequence)
+        return known
+
     def _progress(self, seconds: float) -> Progress:
         """How far the run has come."""
+        found = self.found()
         written = self._written + self._writing
-        return Progress(self._step, self.known.lower, self.known.upper, written, seconds)
+        return Progress(self._step, found.lower, found.upper, written, seconds)
 
     def _begin(self, step: int) -> None:
         """Begins a step."""
@@ -214,6 +230,14 @@ class Run:
         self._take(of_best.sequence, of_best.makespan)
         self._take(of_start.sequence, of_start.makespan)
 
+    def _raise_early(self) -> None:
+        """Raises the proved number with the least budget, by a run of its own, so that this one goes on as if it had
+        not been."""
+        self._early = Run(self._shop, self.known.sequence, self.known.upper, self._effort, self._directions)
+        self._early._spread, self._early._pause = self._spread, self._pause
+        self._early._raise(SMALL[0])
+        self._writing = 0
+
     def _prove_best(self) -> None:
         """Steps 1 to 4: searches below the makespan of the sequence with small budgets, from better and better ones."""
         if self.known.upper == self._least:
@@ -221,6 +245,8 @@ class Run:
         self._prove_upper(*SMALL)
         if self._is_proved():
             return None
+        if self._is_limited:
+            self._raise_early()
         self._begin(2)
         beamed = self._beam(min(self._effort.width, NARROW))
         if beamed.whole:
@@ -246,6 +272,7 @@ class Run:
         least number whose search was over."""
         step, top = 1, self.known.upper + 1
         while top - self.known.lower > 1:
+            self._pause()
             number = self.known.lower + min(step, (top - self.known.lower) // 2)
             if self._search(number, budget):
                 top = number

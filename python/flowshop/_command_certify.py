@@ -35,7 +35,9 @@ def words(parsers: "argparse._SubParsersAction[argparse.ArgumentParser]") -> Non
     parser.add_argument("--workers", type=int, metavar="K", help=f"how many share the searches; else {count}")
     executors = "threads|processes|mpi|dask:ADDRESS"
     parser.add_argument("--executor", default="threads", metavar=executors, help="who they are; else threads")
-    parser.add_argument("--time-limit", type=float, metavar="S", help="the most seconds of each block; else no limit")
+    limit = "the most seconds of each block, with --work 100 --directions 1000000 beside it if these are few; "
+    limit += "else no limit"
+    parser.add_argument("--time-limit", type=float, metavar="S", help=limit)
     for name, default in _EFFORT.items():
         about = f"as of Shop.certify; else {default}"
         parser.add_argument(f"--{name}", type=int, default=default, metavar="N", help=about)

@@ -223,7 +223,10 @@ def _sheet(machine: _Machine, facts: Facts, title: str) -> List[str]:
 def _picture(facts: Facts) -> List[str]:
     """The picture, or a sentence where it is left out."""
     if not facts.picture:
-        return ['<p class="small">The picture is left out: it has too many bars for a page.</p>']
+        left_out = "The picture is left out: it has too many bars for a page."
+        python, command = 'shop.gantt(order).save("shop.svg")', "flowshop schedule"
+        anyway = f"In Python <code>{python}</code> draws it anyway, and so does <code>{command}</code> with"
+        return [f'<p class="small">{left_out} {anyway} <code>--form svg</code>.</p>']
     label = f"A row for each machine, with a bar for each job from its start to its end. {_proved(facts)}"
     picture, parts, has_places = drawn(facts.picture, facts.timetable, facts.times)
     picture = picture.rstrip("\n").replace("<svg ", f'<svg role="img" aria-label="{label}" ', 1)

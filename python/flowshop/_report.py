@@ -5,7 +5,7 @@ import sys
 from typing import Optional
 
 from ._errors import NotASequence, NotLawful, OptionError, TextError, counted, shown
-from ._files import blocks_of_file
+from ._files import WordError, blocks_of_file
 from ._results import Certificate
 from ._sequences import Jobs
 from ._shop import Shop
@@ -33,7 +33,8 @@ def words(parsers: "argparse._SubParsersAction[argparse.ArgumentParser]") -> Non
     parser.add_argument("--start", metavar="TIME", help="the time of day when the first job starts, as 07:30")
     parser.add_argument("--unit", metavar="LENGTH", help="how long one unit of the table is, as 15min, 1h or 30s")
     parser.add_argument("--title", help="the title of the report; left out, it names the file of the shop")
-    parser.add_argument("--out", metavar="FILE", help="the file to write; left out, standard output")
+    out = "the file to write; left out, standard output, if that is no terminal"
+    parser.add_argument("--out", metavar="FILE", help=out)
     parser.set_defaults(run=run)
 
 
@@ -70,7 +71,10 @@ def _order(shop: Shop, path: Optional[str]) -> Jobs:
 
 
 def run(options: argparse.Namespace) -> int:
-    """Writes the report. OptionError where a word is none; the other errors are those of the calls."""
+    """Writes the report. OptionError where a word is none, WordError where a page would come to a terminal; the other
+    errors are those of the calls."""
+    if options.out is None and sys.stdout.isatty():
+        raise WordError("a report is a page for a browser, and this is a terminal: write --out report.html")
     index, text = options.index, options.text
     if index is not None and text is None and not index.isdecimal():
         index, text = None, index

@@ -273,11 +273,18 @@ class Shop:
         return values
 
     def schedule(self, sequence: Jobs) -> Timetable:
-        """The timetable of a sequence, where each job starts as early as it can. Errors are those of `makespan`.
+        """The timetable of a sequence, where each job starts as early as it can. A Certificate is checked; NotLawful
+        where it is none of the shop. The other errors are those of `makespan`.
 
         >>> list(shop.schedule([2, 1, 3]))[-1]
         Operation(job=3, machine=3, start=12, end=13)
         """
+        if isinstance(sequence, Certificate):
+            self.check(sequence)
+        return self._timetable(sequence)
+
+    def _timetable(self, sequence: Jobs) -> Timetable:
+        """The timetable of a sequence. The text of a Certificate is not read."""
         jobs, count = packed(sequence, self.jobs), self.jobs * self.machines
         starts, ends = (u64 * count)(), (u64 * count)()
         self._call("timetable", jobs, SpansRoom(starts, count, ends, count))
@@ -323,7 +330,7 @@ class Shop:
         """
         times = times_of(self._parts[5], start, unit)
         certificate = self.check(order) if isinstance(order, Certificate) else None
-        timetable = self.schedule(certificate or order)
+        timetable = self._timetable(certificate or order)
         lower = certificate.lower if certificate else self.bound()
         facts = Facts(
             title=title or f"Schedule of {counted(self.jobs, 'job')} on {counted(self.machines, 'machine')}",
@@ -516,11 +523,12 @@ class Shop:
 
         Searches for directions are shared by so many `workers`, 1 to 10,000, which are threads; or by those of a `map`,
         such as that of a pool of processes, where `workers` says how many there are, if it is known. The certificate is
-        the same for any number of workers and any map. After `time_limit` seconds it is one of the best bounds so far.
-        `progress` is called with a Progress, a few times a second; where it is True, a line on standard error tells the
-        same. An interrupt ends the call within a second, as Interrupted, which has a certificate of the best bounds so
-        far. Without a map and a time limit the certificate was read by `check`. Errors are those of `improve`, and
-        those of the map.
+        the same for any number of workers and any map. After `time_limit` seconds it is one of the best bounds so far;
+        with few seconds, less `work` and fewer `directions` may give better ones. A run that ends before gives the same
+        as one without a limit. `progress` is called with a Progress, a few times a second; where it is True, a line on
+        standard error tells the same. An interrupt ends the call within a second, as Interrupted, which has a
+        certificate of the best bounds so far. Without a map and a time limit the certificate was read by `check`.
+        Errors are those of `improve`, and those of the map.
 
         >>> certificate = shop.certify(workers=4, time_limit=60)
         >>> certificate.lower, certificate.upper
@@ -549,8 +557,8 @@ class Shop:
         try:
             run.search_until(watch, workers)
         except KeyboardInterrupt:
-            raise Interrupted(self._certificate(run.known)) from None
-        return self._certificate(run.known)
+            raise Interrupted(self._certificate(run.found())) from None
+        return self._certificate(run.found())
 
     def _certificate(self, known: Known) -> Certificate:
         """The certificate of what is known."""

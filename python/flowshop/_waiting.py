@@ -115,6 +115,11 @@ class Watch:
         self._lines = Lines(sys.stderr) if progress is True else None
         self._tell = self._lines or (progress if callable(progress) else None)
 
+    @property
+    def is_limited(self) -> bool:
+        """Whether there is a time limit."""
+        return self._limit is not None
+
     def pause(self) -> None:
         """Where a search may be stopped: it is, where nobody waits for it any more."""
         if self._stop.is_set():
