@@ -24,6 +24,6 @@ pub use laws::{
 };
 pub use least_pairs::LeastPairs;
 pub use row::{Row, rows};
-pub use sequence::{Sequence, SequenceFault, first_job_at_fault};
+pub use sequence::{Sequence, SequenceFault, first_job_at_fault, insert_all};
 pub use two_least::TwoLeast;
 pub use version::has_releases;
