@@ -11,7 +11,7 @@ use Rattle.flow_limits.specs.Limits.{most_jobs}
 use Rattle.flow_shop.specs.Shop.{Shop}
 use Rattle.flow_shop.specs.JobSet.{contains, Holds, AreTaken}
 use Rattle.flow_shop.specs.Sequences.{has, AreDistinct, AreJobs}
-use Rattle.flow_shop.proofs.JobsLeft.{InRange, InRange-first, InRange-rest, distinct-first, apart, or_false, kept, kept-has}
+use Rattle.flow_shop.proofs.JobsLeft.{InRange-first, InRange-rest, distinct-first, apart, or_false, kept-has}
 use Rattle.flow_shop.proofs.JobsLeft.{kept-le, sum_by-ones}
 use Rattle.flow_shop.proofs.Lists.{not_eq-sym}
 use Rattle.flow_shop.proofs.SequenceLemmas.{no-jobs}
@@ -29,7 +29,12 @@ has-insert [] last job k = refl
 has-insert (j ∷ js) last job k =
     ap (λ b. nat_eq k j || b) (has-insert js last job k) ∙ swap-or (nat_eq k j) (nat_eq k job) (has (js ++ last) k)
 
--- they are distinct
+-- it has the job that was put in
+pub later-has : (job : ℕ) (first last : List ℕ) → has (first ++ job ∷ last) job ≡ true
+later-has job first last =
+    has-insert first last job job ∙ ap (λ b. b || has (first ++ last) job) (eq-eqb job job refl)
+
+-- its jobs are distinct
 pub distinct-insert : (first last : List ℕ) (job : ℕ) → AreDistinct (first ++ last) →
     has (first ++ last) job ≡ false → AreDistinct (first ++ job ∷ last)
 distinct-insert [] last job distinct fresh = (fresh, distinct)
