@@ -1,14 +1,14 @@
 -- A job put in at each place of a list: the earliest best place, and the jobs that the list then has.
 use Rattle.std.proofs.Common.{◌≡◌, ℕ, zero, suc, ◌+◌, ◌<◌, ◌≤◌, Bool, true, false, cond, ◌||◌, ◌&&◌, nat_eq, nat_le}
 use Rattle.std.proofs.Common.{List, [], ◌∷◌, ◌++◌, length, map, take, drop, slice_index, slice_index_or, Option, Some}
-use Rattle.std.proofs.Common.{refl, ap, sym, ◌∙◌, inl, inr, arith}
+use Rattle.std.proofs.Common.{refl, ap, sym, ◌∙◌, subst, inl, inr, arith}
 use Rattle.std.specs.Prelude.{unwrap_or}
 use Rattle.std.specs.List.{insert, list_all, All}
 use Rattle.std.specs.Option.{option_map}
 use Rattle.std.proofs.lemmas.Bool.{false≢true, eq-eqb, le-leb, lt-leb}
 use Rattle.std.proofs.lemmas.Bool.Decides.{eqb_tells}
 use Rattle.std.proofs.Math.Bool.{and-false, or_comm}
-use Rattle.std.proofs.lemmas.List.{get_or-take}
+use Rattle.std.proofs.lemmas.List.{get_or-take, take-append-drop}
 use Rattle.std.proofs.lemmas.List.Folds.{list_all-map, list_any_at}
 use Rattle.std.proofs.lemmas.List.Elements.{All-append, All-cons, All-take, All-drop}
 use Rattle.flow_shop.specs.Shop.{Shop}
@@ -16,9 +16,8 @@ use Rattle.flow_shop.specs.Least.{first_least}
 use Rattle.flow_shop.specs.Paths.{span}
 use Rattle.flow_shop.specs.Sequences.{has, AreDistinct, AreJobs}
 use Rattle.flow_shop.proofs.Recurrence.{completion-is}
-use Rattle.flow_shop.proofs.JobsLeft.{or_false}
+use Rattle.flow_shop.proofs.JobLists as JobLists
 use Rattle.flow_shop.proofs.Taken.{has-push}
-use Rattle.flow_shop.proofs.Lists.{not_eq-sym}
 use Rattle.flow_bound.specs.Neh.{insertions, inserted, all_inserted}
 
 first_least-map : {X Y : Type 0} (value : Y → ℕ) (g : X → Y) (xs : List X) →
@@ -99,39 +98,24 @@ pub all_inserted-push : (shop : Shop) (jobs order : List ℕ) (job : ℕ) →
 all_inserted-push shop jobs [] job = refl
 all_inserted-push shop jobs (first ∷ order) job = all_inserted-push shop (inserted shop jobs first) order job
 
-swap-or : (a b c : Bool) → (a || (b || c)) ≡ (b || (a || c))
-swap-or true true c = refl
-swap-or true false c = refl
-swap-or false b c = refl
-
+-- a list with a job put in: the jobs that it has
 pub has-insert : (jobs : List ℕ) (at job k : ℕ) → has (insert jobs at job) k ≡ (nat_eq k job || has jobs k)
-has-insert jobs zero job k = refl
-has-insert [] (suc at) job k = refl
-has-insert (first ∷ rest) (suc at) job k =
-    ap (λ b. nat_eq k first || b) (has-insert rest at job k) ∙ swap-or (nat_eq k first) (nat_eq k job) (has rest k)
+has-insert jobs at job k =
+    JobLists.has-insert (take at jobs) (drop at jobs) job k
+    ∙ ap (λ xs. nat_eq k job || has xs k) (take-append-drop at jobs)
 
-distinct-insert : (jobs : List ℕ) (at job : ℕ) → AreDistinct jobs → has jobs job ≡ false →
-    AreDistinct (insert jobs at job)
-distinct-insert jobs zero job distinct fresh = (fresh, distinct)
-distinct-insert [] (suc at) job distinct fresh = (refl, tt)
-distinct-insert (first ∷ rest) (suc at) job distinct fresh =
-    let parts = or_false (nat_eq job first) (has rest job) fresh in (
-      has-insert rest at job first ∙ ap (λ b. b || has rest first) (not_eq-sym job first parts.0)
-          ∙ distinct.0,
-      distinct-insert rest at job distinct.1 parts.1,
-    )
+-- and they are distinct
+pub jobs-insert : (n : ℕ) (jobs : List ℕ) (at job : ℕ) → AreJobs n jobs → 1 ≤ job → job ≤ n → has jobs job ≡ false →
+    AreJobs n (insert jobs at job)
+jobs-insert n jobs at job are low high fresh =
+    let whole = take-append-drop at jobs in
+    JobLists.jobs-insert n (take at jobs) (drop at jobs) job (subst (AreJobs n) (sym whole) are) low high
+    (ap (λ xs. has xs job) whole ∙ fresh)
 
 pub All-insert : (P : ℕ → Type 0) (jobs : List ℕ) (at job : ℕ) → All P jobs → P job → All P (insert jobs at job)
 All-insert P jobs at job all here =
     All-append P (take at jobs) (job
     ∷ drop at jobs) (All-take P at jobs all) (All-cons P job (drop at jobs) here (All-drop P at jobs all))
-
-pub jobs-insert : (n : ℕ) (jobs : List ℕ) (at job : ℕ) → AreJobs n jobs → 1 ≤ job → job ≤ n → has jobs job ≡ false →
-    AreJobs n (insert jobs at job)
-jobs-insert n jobs at job are low high fresh = record {
-  range = All-insert (λ job. (1 ≤ job) × (job ≤ n)) jobs at job are.range (low, high);
-  distinct = distinct-insert jobs at job are.distinct fresh;
-}
 
 -- a list has the job at each of its places
 pub has-at : (jobs : List ℕ) (place : ℕ) → place < length jobs → has jobs (slice_index jobs place) ≡ true

@@ -1,5 +1,5 @@
 -- The sum of the times and the least tail over a set of jobs, and over the same set with one job more.
-use Rattle.std.proofs.Common.{◌≡◌, ◌≢◌, ℕ, zero, suc, ◌+◌, ◌-◌, ◌<◌, ◌≤◌, min, Bool, true, false, cond, ◌||◌, nat_eq}
+use Rattle.std.proofs.Common.{◌≡◌, ◌≢◌, ℕ, zero, suc, ◌+◌, ◌-◌, ◌<◌, ◌≤◌, min, Bool, true, false, cond, ◌||◌}
 use Rattle.std.proofs.Common.{List, length, map, set, slice_index, slice_set, ap, sym, ◌∙◌, inl, inr, arith}
 use Rattle.std.specs.List.{filter, sum_by}
 use Rattle.std.proofs.lemmas.Bool.{cases_lt, eq-eqb, ne_eqb}
@@ -10,7 +10,8 @@ use Rattle.flow_shop.specs.Least.{least}
 use Rattle.flow_shop.specs.JobSet.{contains, members}
 use Rattle.flow_shop.specs.Sequences.{has}
 use Rattle.flow_shop.proofs.Recurrence.{time_between-first}
-use Rattle.flow_shop.proofs.JobsLeft.{kept, kept-step, kept-more, filter-same, has-filter, least-le, sum_by-ones}
+use Rattle.flow_shop.proofs.JobsLeft.{kept, kept-step, filter-same, has-filter, least-le, sum_by-ones}
+use Rattle.flow_shop.proofs.JobsLeft.{with_one, filter-before, kept-from}
 use Rattle.flow_shop.proofs.JobSetLemmas.{members-is}
 use Rattle.flow_shop.specs.TwoLeast.{least_below}
 use Rattle.flow_shop.proofs.TwoLeastSteps.{least-below-cap}
@@ -75,7 +76,7 @@ least-until f set n job floor none low high there under met =
 -- a set with one job more
 
 abbrev with_job : List Bool → ℕ → ℕ → Bool
-with_job after job k = nat_eq k job || contains after k
+with_job after job = with_one (contains after) job
 
 contains-with : (after : List Bool) (job k : ℕ) → 1 ≤ job → 1 ≤ k → job - 1 < length after →
     contains (slice_set after (job - 1) true) k ≡ with_job after job k
@@ -102,53 +103,12 @@ members-with after n job low high within none =
     ∙ filter-same (contains (slice_set after (job - 1) true)) (with_job after job) n
     (λ k from to. contains-with after job k low from within)
 
--- below the job that is put in nothing differs
-same-below : (after : List Bool) (job n : ℕ) → n < job → filter (with_job after job) (numbers 1 n)
-    ≡ filter (contains after) (numbers 1 n)
-same-below after job n h =
-    filter-same (with_job after job) (contains after) n (λ k from to. ap (λ b. b
-    || contains after k) (ne_eqb k job (omega arith)))
-
-sum-from : (f : ℕ → ℕ) (after : List Bool) (job : ℕ) → contains after job ≡ false → (n : ℕ) → 1 ≤ job → job ≤ n →
-    kept f (with_job after job) n ≡ f job + kept f (contains after) n
-sum-from f after job out zero low high = absurd (omega arith)
-sum-from f after job out (suc n) low high =
-    let p : ℕ → Bool = contains after in
-    let q : ℕ → Bool = with_job after job in
-    elim (cases_lt n job) [
-      | inl here ↦
-          let e : suc n ≡ job = omega arith in
-          let pass : q (suc n) ≡ true = ap (λ b. b || p (suc n)) (eq-eqb (suc n) job e) in
-          let fail : p (suc n) ≡ false = ap p e ∙ out in
-          let value : f (suc n) ≡ f job = ap f e in
-          omega (
-            arith,
-            kept-more f q n,
-            kept-more f p n,
-            ap (sum_by f) (same-below after job n here),
-            ap
-                (λ b. cond {A = ℕ} b (f (suc n)) 0) pass,
-            ap (λ b. cond {A = ℕ} b (f (suc n)) 0) fail,
-            value,
-          )
-      | inr below ↦
-          let same : q (suc n) ≡ p (suc n) = ap (λ b. b || p (suc n)) (ne_eqb (suc n) job (omega arith)) in
-          omega (
-            arith,
-            kept-more f q n,
-            kept-more f p n,
-            sum-from f after job out n low below,
-            ap (λ b. cond {A =
-                ℕ} b (f (suc n)) 0) same,
-          )
-    ]
-
 pub sum-with : (f : ℕ → ℕ) (after : List Bool) (n job : ℕ) → 1 ≤ job → job ≤ n → job - 1 < length after →
     ((k : ℕ) → n < k → contains after k ≡ false) → contains after job ≡ false →
     sum_by f (members (slice_set after (job - 1) true)) ≡ f job + sum_by f (members after)
 sum-with f after n job low high within none out =
     ap (sum_by f) (members-with after n job low high within none)
-    ∙ sum-from f after job out n low high
+    ∙ kept-from f (contains after) job out n low high
     ∙ ap (λ xs. f job + sum_by f xs) (sym (members-is after n none))
 
 least-more : (cap : ℕ) (f : ℕ → ℕ) (p : ℕ → Bool) (n : ℕ) →
@@ -174,7 +134,7 @@ least-from cap f after job out (suc n) low high =
           let pass : q (suc n) ≡ true = ap (λ b. b || p (suc n)) (eq-eqb (suc n) job e) in
           let fail : p (suc n) ≡ false = ap p e ∙ out in
           let before : least_kept cap f q n ≡ least_kept cap f p n =
-          ap (λ xs. least_below cap (map f xs)) (same-below after job n here) in
+          ap (λ xs. least_below cap (map f xs)) (filter-before (contains after) job n here) in
           let taken : cond (q (suc n)) (min (least_kept cap f q n) (f (suc n))) (least_kept cap f q n)
           ≡ min (least_kept cap f q n) (f (suc n)) =
           ap (λ b. cond b (min (least_kept cap f q n) (f (suc n))) (least_kept cap f q n)) pass in

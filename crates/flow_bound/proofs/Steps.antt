@@ -8,10 +8,7 @@ use Rattle.flow_shop.specs.TwoLeast.{least_below}
 use Rattle.flow_shop.proofs.JobsLeft.{sum_by-jobs_left, sum_by-ones, filter-more}
 use Rattle.flow_shop.proofs.TwoLeastSteps.{least-push}
 use Rattle.flow_shop.specs.Paths.{span}
-use Rattle.flow_shop.specs.Front.{IsFrontOf}
 use Rattle.flow_shop.specs.Sequences.{jobs_left, IsSequence, Extends}
-use Rattle.flow_shop.specs.Bound.{machine_bound, released_bound}
-use Rattle.flow_shop.proofs.Admissible.{admissible-front, released-front}
 
 least_below_kept : (cap : ℕ) (f : ℕ → ℕ) (xs : List ℕ) (k : ℕ) (b : Bool) →
     least_below cap (map f (xs ++ cond b (k ∷ []) [])) ≡ cond b (min (least_below cap (map f xs)) (f k)) (least_below
@@ -35,37 +32,15 @@ least_below-step cap f p (suc n) low =
     (map f
     (filter p (numbers 1 m))))) b
 
--- where a list leaves some jobs, a sequence that extends it has jobs behind it
-module _ (shop : Shop) (scheduled sequence set : List ℕ) (is : IsSequence shop.jobs sequence)
-    (extends : Extends sequence scheduled) (some : 0 < length set) (left : set ≡ jobs_left shop.jobs scheduled) where
-  whole : IsSequence shop.jobs (scheduled ++ extends.0)
-  whole = subst (IsSequence shop.jobs) extends.1 is
-
-  more : 0 < length extends.0
-  more =
-      let ones = sum_by-jobs_left (λ _. 1) shop.jobs scheduled extends.0 whole in
-      omega (arith, ones, sum_by-ones (jobs_left shop.jobs scheduled), sum_by-ones extends.0, ap length left, some)
-
--- what equals the bound of the jobs that are left is admissible
-pub admissible-members : (shop : Shop) (scheduled sequence front set : List ℕ) (machine bound : ℕ) → 1 ≤ machine →
-    machine ≤ shop.machines →
+-- what equals a bound of the jobs that a list leaves is admissible, where that bound is
+pub left-admissible : (shop : Shop) (scheduled sequence set : List ℕ) (bound_of : List ℕ → ℕ) (bound : ℕ) →
+    ((rest : List ℕ) → IsSequence shop.jobs (scheduled ++ rest) → 0 < length rest →
+    bound_of (jobs_left shop.jobs scheduled) ≤ span shop (scheduled ++ rest)) →
     IsSequence shop.jobs sequence → Extends sequence scheduled → 0 < length set → set ≡ jobs_left shop.jobs scheduled →
-    IsFrontOf shop scheduled front → bound ≡ machine_bound shop front set machine → bound ≤ span shop sequence
-admissible-members shop scheduled sequence front set machine bound low high is extends some left is_front value =
-    let here = admissible-front shop scheduled extends.0 front machine low high
-    (whole shop scheduled sequence set is extends some left) (more shop scheduled sequence set is extends some left)
-    is_front in
-    let same = value ∙ ap (λ jobs. machine_bound shop front jobs machine) left in
-    omega (arith, same, here, ap (span shop) extends.1)
-
--- and so is what equals their released bound
-pub released-members : (shop : Shop) (scheduled sequence front set : List ℕ) (machine bound : ℕ) → 1 ≤ machine →
-    machine ≤ shop.machines →
-    IsSequence shop.jobs sequence → Extends sequence scheduled → 0 < length set → set ≡ jobs_left shop.jobs scheduled →
-    IsFrontOf shop scheduled front → bound ≡ released_bound shop front set machine → bound ≤ span shop sequence
-released-members shop scheduled sequence front set machine bound low high is extends some left is_front value =
-    let here = released-front shop scheduled extends.0 front machine low high
-    (whole shop scheduled sequence set is extends some left) (more shop scheduled sequence set is extends some left)
-    is_front in
-    let same = value ∙ ap (λ jobs. released_bound shop front jobs machine) left in
-    omega (arith, same, here, ap (span shop) extends.1)
+    bound ≡ bound_of set → bound ≤ span shop sequence
+left-admissible shop scheduled sequence set bound_of bound admissible is extends some left value =
+    let whole = subst (IsSequence shop.jobs) extends.1 is in
+    let ones = sum_by-jobs_left (λ _. 1) shop.jobs scheduled extends.0 whole in
+    let more : 0 < length extends.0 =
+    omega (arith, ones, sum_by-ones (jobs_left shop.jobs scheduled), sum_by-ones extends.0, ap length left, some) in
+    omega (arith, value, ap bound_of left, admissible extends.0 whole more, ap (span shop) extends.1)

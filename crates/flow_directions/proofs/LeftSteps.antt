@@ -6,9 +6,9 @@ use Rattle.std.proofs.lemmas.Bool.{cases_Bool, ne_eqb, false≢true}
 use Rattle.flow_shop.specs.Sequences.{has, jobs_left}
 use Rattle.flow_shop.specs.Directions.{first_with, last_with}
 use Rattle.flow_shop.specs.declared.end.End.{End}
-use Rattle.std.proofs.Math.Bool.{or-true}
 use Rattle.flow_shop.proofs.Lists.{has-first}
 use Rattle.flow_shop.proofs.EndSteps.{left-child}
+use Rattle.flow_shop.proofs.JobLists.{later-has}
 use Rattle.flow_shop.proofs.Taken.{left_under, left_from, left-split, left-without}
 
 -- what is not in a range is not in a part of it
@@ -44,10 +44,6 @@ behind-has x job xs none = elim (cases_Bool (nat_eq job x)) [
   | inl is ↦ absurd (false≢true (sym none ∙ ap (λ b. b || has xs job) is))
   | inr is ↦ sym (ap (λ b. b || has xs job) is) ∙ none
 ]
-
-later-has : (job : ℕ) (xs ys : List ℕ) → has (xs ++ job ∷ ys) job ≡ true
-later-has job [] ys = has-first job ys
-later-has job (x ∷ xs) ys = ap (λ b. nat_eq job x || b) (later-has job xs ys) ∙ or-true (nat_eq job x)
 
 -- a list is parted in one way at an element that it has once
 parted-one : (job : ℕ) (us fs xs ys : List ℕ) → has us job ≡ false → has fs job ≡ false →

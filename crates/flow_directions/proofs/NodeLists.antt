@@ -1,45 +1,15 @@
 -- The lists of a node, and of its children.
-use Rattle.std.proofs.Common.{◌≡◌, ℕ, zero, suc, ◌+◌, ◌-◌, ◌≤◌, Bool, true, false, cond, not, ◌||◌, nat_eq, List, []}
-use Rattle.std.proofs.Common.{◌∷◌, ◌++◌, length, ap, sym, ◌∙◌, subst, arith, append_assoc}
+use Rattle.std.proofs.Common.{◌≡◌, ℕ, zero, suc, ◌+◌, ◌-◌, ◌≤◌, Bool, true, false, cond, not, List, []}
+use Rattle.std.proofs.Common.{◌∷◌, ◌++◌, length, sym, subst, arith, append_assoc}
 use Rattle.std.specs.List.{AllByRecursion}
-use Rattle.std.proofs.lemmas.List.Elements.{recursion_from_All, All-from_recursion}
-use Rattle.flow_shop.specs.Sequences.{has, jobs_left, AreDistinct, AreJobs, IsSequence}
+use Rattle.std.proofs.lemmas.List.Elements.{recursion_from_All}
+use Rattle.flow_shop.specs.Sequences.{has, jobs_left, AreJobs, IsSequence}
 use Rattle.flow_shop.specs.declared.end.End.{End}
 use Rattle.flow_shop.specs.declared.end.End.TheVariants.{Front, Back}
 use Rattle.flow_shop.specs.Directions.{first_with, last_with}
-use Rattle.flow_shop.proofs.JobsLeft.{InRange, kept, kept-more, kept-has, sum_by-ones, or_false, each-left}
+use Rattle.flow_shop.proofs.JobsLeft.{kept, kept-more, kept-has, sum_by-ones, each-left}
 use Rattle.flow_shop.proofs.EndSteps.{count-child}
-use Rattle.flow_shop.proofs.Lists.{not_eq-sym}
-
-has-insert : (first last : List ℕ) (job k : ℕ) → nat_eq k job ≡ false → has (first ++ last) k ≡ false →
-    has (first ++ job ∷ last) k ≡ false
-has-insert [] last job k other none = ap (λ b. b || has last k) other ∙ none
-has-insert (j ∷ js) last job k other none =
-    let parts = or_false (nat_eq k j) (has (js ++ last) k) none in
-    ap (λ b. b || has (js ++ job ∷ last) k) parts.0 ∙ has-insert js last job k other parts.1
-
-distinct-insert : (first last : List ℕ) (job : ℕ) → AreDistinct (first ++ last) → has (first ++ last) job ≡ false →
-    AreDistinct (first ++ job ∷ last)
-distinct-insert [] last job distinct fresh = (fresh, distinct)
-distinct-insert (j ∷ js) last job distinct fresh =
-    let parts = or_false (nat_eq job j) (has (js ++ last) job) fresh in (
-      has-insert js last job j (not_eq-sym job j parts.0) distinct.0,
-      distinct-insert js last job distinct.1 parts.1,
-    )
-
-range-insert : (n : ℕ) (first last : List ℕ) (job : ℕ) → InRange n (first ++ last) → 1 ≤ job → job ≤ n →
-    InRange n (first ++ job ∷ last)
-range-insert n [] last job range low high = ((low, high), range)
-range-insert n (j ∷ js) last job range low high = (range.0, range-insert n js last job range.1 low high)
-
-jobs-insert : (n : ℕ) (first last : List ℕ) (job : ℕ) → AreJobs n (first ++ last) → 1 ≤ job → job ≤ n →
-    has (first ++ last) job ≡ false → AreJobs n (first ++ job ∷ last)
-jobs-insert n first last job are low high fresh = record {
-  range = All-from_recursion (λ job. (1 ≤ job) × (job ≤ n)) (first ++ job ∷ last)
-      (range-insert n first last job
-      (recursion_from_All (λ job. (1 ≤ job) × (job ≤ n)) (first ++ last) are.range) low high);
-  distinct = distinct-insert first last job are.distinct fresh;
-}
+use Rattle.flow_shop.proofs.JobLists.{jobs-insert}
 
 -- the lists of a child have distinct jobs
 pub child-jobs : (n : ℕ) (end : End) (first last : List ℕ) (job : ℕ) → AreJobs n (first ++ last) → 1 ≤ job → job ≤ n →

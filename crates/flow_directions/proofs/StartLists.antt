@@ -1,64 +1,32 @@
 -- Lists of distinct jobs, job by job; and the set of the jobs of a list.
-use Rattle.std.proofs.Common.{◌≡◌, ◌≢◌, ◌↔◌, ℕ, suc, ◌+◌, ◌-◌, ◌<◌, ◌≤◌, Bool, true, false, cond, not, ◌||◌, nat_eq}
-use Rattle.std.proofs.Common.{List, [], ◌∷◌, ◌++◌, length, take, drop, slice_index, slice_set, refl, ap, sym}
-use Rattle.std.proofs.Common.{◌∙◌, subst, inl, inr}
-use Rattle.std.proofs.Common.{arith, append-nil, append_assoc, length-append, length-set}
+use Rattle.std.proofs.Common.{◌≡◌, ℕ, suc, ◌+◌, ◌-◌, ◌<◌, ◌≤◌, Bool, true, false, cond, not, ◌||◌, nat_eq}
+use Rattle.std.proofs.Common.{List, [], ◌∷◌, ◌++◌, length, take, drop, slice_index, slice_set, ap, sym}
+use Rattle.std.proofs.Common.{◌∙◌, subst}
+use Rattle.std.proofs.Common.{arith, append-nil, append_assoc, length-append}
 use Rattle.std.specs.List.{filter}
-use Rattle.std.proofs.lemmas.Bool.{cases_Bool, cases_eq, eq-eqb, false≢true}
-use Rattle.std.proofs.lemmas.List.{get_or-set_same, get_or-set_other, drop_more, take_more, take_more_set}
+use Rattle.std.proofs.lemmas.Bool.{false≢true}
+use Rattle.std.proofs.lemmas.List.{take_more_set}
 use Rattle.std.proofs.lemmas.List.{take-append-drop}
-use Rattle.std.proofs.lemmas.List.Elements.{recursion_from_All, All-from_recursion}
 use Rattle.std.proofs.lemmas.List.Folds.{list_any-append}
-use Rattle.flow_limits.specs.Limits.{most_jobs}
 use Rattle.flow_shop.specs.Shop.{Shop, numbers}
-use Rattle.flow_shop.specs.JobSet.{contains}
-use Rattle.flow_shop.specs.Sequences.{has, jobs_left, AreDistinct, AreJobs}
-use Rattle.flow_shop.specs.declared.end.End.TheVariants.{Back}
-use Rattle.flow_shop.proofs.JobsLeft.{InRange-first, InRange-rest, distinct-first, distinct-rest, apart, or_false}
+use Rattle.flow_shop.specs.JobSet.{AreTaken}
+use Rattle.flow_shop.specs.Sequences.{has, jobs_left, AreJobs}
+use Rattle.flow_shop.proofs.JobsLeft.{distinct-rest, or_false}
 use Rattle.flow_shop.proofs.JobsLeft.{filter-more}
 use Rattle.flow_shop.proofs.Lists.{drop-at}
-use Rattle.flow_shop.proofs.SequenceLemmas.{no-jobs}
-use Rattle.flow_shop.proofs.Taken.{has-same, has-other, left_under, left_from, left-split}
-use Rattle.flow_directions.specs.internal.Start.{Holds, IsStart}
+use Rattle.flow_shop.proofs.SequenceLemmas.{jobs-no-fault}
+use Rattle.flow_shop.proofs.Taken.{left_under, left_from, left-split}
+use Rattle.flow_directions.specs.internal.Start.{IsStart}
 use Rattle.flow_directions.specs.declared.start.StartNode.{StartNode}
-use Rattle.flow_directions.proofs.NodeLists.{child-jobs, left-length}
+use Rattle.flow_directions.proofs.NodeLists.{left-length}
+use Rattle.flow_shop.proofs.JobLists.{IsNext, next-job}
+use Rattle.flow_shop.specs.SequenceFaults.{place_fault}
+use Rattle.flow_shop.specs.declared.sequence.SequenceFault.{SequenceFault}
+use Rattle.std.specs.Option.{is_some}
+use Rattle.std.proofs.Common.{Option, Some, None, zero-add}
+use Rattle.std.specs.Prelude.{IfNone}
 
--- a job that may be put behind a list
-pub record IsNext (n : ℕ) (list : List ℕ) (job : ℕ) : Type 0 where
-  pub from : 1 ≤ job
-  pub to : job ≤ n
-  pub fresh : has list job ≡ false
-
--- once it is there
-pub jobs-push : (n : ℕ) (list : List ℕ) (job : ℕ) → AreJobs n list → IsNext n list job → AreJobs n (list ++ job ∷ [])
-jobs-push n list job are next =
-    child-jobs n Back list [] job (subst (AreJobs n) (sym (append-nil list)) are) next.from next.to
-    (ap (λ xs. has xs job) (append-nil list) ∙ next.fresh)
-
--- the beginning of a list of distinct jobs
-pub jobs-first : (n : ℕ) (first rest : List ℕ) → AreJobs n (first ++ rest) → AreJobs n first
-jobs-first n first rest are = record {
-  range = All-from_recursion (λ job. (1 ≤ job) × (job ≤ n)) first
-      (InRange-first n first rest (recursion_from_All (λ job. (1 ≤ job) × (job ≤ n)) (first ++ rest) are.range));
-  distinct = distinct-first first rest are.distinct;
-}
-
-apart-before : (first rest : List ℕ) (job : ℕ) → AreDistinct (first ++ job ∷ rest) → has first job ≡ false
-apart-before first rest job distinct = elim (cases_Bool (has first job)) [
-  | inl there ↦
-      let here : has (job ∷ rest) job ≡ true = ap (λ b. b || has rest job) (eq-eqb job job refl) in
-      absurd (false≢true (sym (apart first (job ∷ rest) job distinct there) ∙ here))
-  | inr none ↦ none
-]
-
--- each job of a list is one that may be put behind those before it
-pub next-job : (n : ℕ) (first rest : List ℕ) (job : ℕ) → AreJobs n (first ++ job ∷ rest) → IsNext n first job
-next-job n first rest job are =
-    let range = InRange-rest n first (job ∷ rest)
-    (recursion_from_All (λ job. (1 ≤ job) × (job ≤ n)) (first ++ job ∷ rest) are.range) in
-    record { from = range.0.0; to = range.0.1; fresh = apart-before first rest job are.distinct }
-
--- and is apart from those before it, but for some, and those behind it
+-- a job of a list is apart from those before it, but for some, and those behind it
 pub next-between : (n : ℕ) (first between rest : List ℕ) (job : ℕ) → AreJobs n (first ++ (between ++ job ∷ rest)) →
     IsNext n (first ++ rest) job
 next-between n first between rest job are =
@@ -74,28 +42,6 @@ next-between n first between rest job are =
           ∙ ap (λ b. b || has rest job) before.0
           ∙ behind.0;
     }
-
--- a list, parted at one of its jobs
-jobs-split : (jobs : List ℕ) (index : ℕ) → index < length jobs →
-    take index jobs ++ slice_index jobs index ∷ drop (index + 1) jobs ≡ jobs
-jobs-split jobs index long =
-    ap (λ xs. take index jobs ++ xs) (sym (drop_more jobs index 0 long)) ∙ take-append-drop index jobs
-
--- the job at an index of a list that stands behind another
-pub next-at : (n : ℕ) (list jobs : List ℕ) (index : ℕ) → index < length jobs → AreJobs n (list ++ jobs) →
-    IsNext n (list ++ take index jobs) (slice_index jobs index)
-next-at n list jobs index long are =
-    let rest : List ℕ = slice_index jobs index ∷ drop (index + 1) jobs in
-    next-job n (list ++ take index jobs) (drop (index + 1) jobs) (slice_index jobs index)
-    (subst (AreJobs n)
-    (ap (λ xs. list ++ xs) (sym (jobs-split jobs index long)) ∙ sym (append_assoc list (take index jobs) rest)) are)
-
--- one more job of it
-pub at-more : (list jobs : List ℕ) (index : ℕ) → index < length jobs →
-    list ++ take (index + 1) jobs ≡ list ++ take index jobs ++ slice_index jobs index ∷ []
-at-more list jobs index long =
-    ap (λ xs. list ++ xs) (take_more jobs index 0 long)
-    ∙ sym (append_assoc list (take index jobs) (slice_index jobs index ∷ []))
 
 -- the job before a place is in neither list, where the last one begins at that place
 pub next-back : (n : ℕ) (first last : List ℕ) (place : ℕ) → 1 ≤ place → place ≤ length last →
@@ -164,55 +110,27 @@ pub count-left : (list : List ℕ) (count job : ℕ) → 1 ≤ job → has list 
 count-left list count job low fresh before =
     omega (arith, before, ap length (under-left list job low fresh), length-append (left_under list job) (job ∷ []))
 
--- a set of the jobs of a list, once one more job is in both
-pub holds-push : (shop : Shop) (list : List ℕ) (set : List Bool) (job : ℕ) → Holds shop list set → 1 ≤ job →
-    job ≤ most_jobs → Holds shop (list ++ job ∷ []) (slice_set set (job - 1) true)
-holds-push shop list set job holds low high = record {
-  size = length-set set (job - 1) true ∙ holds.size;
-  each = λ k from to. elim (cases_eq k job) [
-    | inl same ↦
-        ap (contains (slice_set set (job - 1) true)) same
-        ∙ get_or-set_same set (job - 1) true false (omega (arith, holds.size))
-        ∙ sym (ap (has (list ++ job ∷ [])) same ∙ has-same list job)
-    | inr other ↦
-        let apart : k - 1 ≢ job - 1 = omega arith in
-        get_or-set_other set (job - 1) (k - 1) true false apart
-        ∙ holds.each k from to
-        ∙ sym (has-other list job k other)
-  ];
-}
+-- jobs with a fault are not distinct
+pub not-taken : (n : ℕ) (earlier jobs : List ℕ) (fault : Option SequenceFault) → fault ≡ place_fault n earlier jobs →
+    is_some fault ≡ true → AreJobs n (earlier ++ jobs) → ⊥
+not-taken n earlier jobs fault is some are =
+    false≢true (sym (ap is_some (is ∙ jobs-no-fault n earlier jobs are)) ∙ some)
 
--- what is said of putting the jobs of a list into a set
-abbrev pub Inserts : Shop → List ℕ → List Bool → List Bool → Bool → Type 0
-Inserts shop jobs old new result =
-    (list : List ℕ) → AreJobs shop.jobs list → Holds shop list old →
-    ((result ≡ true) ↔ AreJobs shop.jobs (list ++ jobs)) × (result ≡ true → Holds shop (list ++ jobs) new)
+-- what holds where there is no fault
+where-none : {F : Type 0} (P : Type 0) (fault : Option F) → IfNone fault P → is_some fault ≡ false → P
+where-none P None holds none = holds
+where-none P (Some fault) holds none = absurd (false≢true (sym none))
 
-holds-none : (shop : Shop) (set : List Bool) → length set ≡ most_jobs → ((job : ℕ) → contains set job ≡ false) →
-    Holds shop [] set
-holds-none shop set size empty = record { size = size; each = λ job from to. empty job }
+-- the jobs of the first list are taken, and then those of the last
+pub first-taken : {F : Type 0} (shop : Shop) (first : List ℕ) (set : List Bool) (fault : Option F) →
+    IfNone fault (AreTaken shop first (0 + length first) set) → is_some fault ≡ false →
+    AreTaken shop first (length first) set
+first-taken shop first set fault taken none =
+    subst (λ count. AreTaken shop first count set) (zero-add (length first))
+    (where-none (AreTaken shop first (0 + length first) set) fault taken none)
 
--- the jobs of a list are put into the empty set, and then those of another
-module _ (shop : Shop) (first last : List ℕ) (start middle : List Bool) (one : Bool) (size : length start ≡ most_jobs)
-    (empty : (job : ℕ) → contains start job ≡ false) (firsts : Inserts shop first start middle one) where
-  -- where the first are not
-  pub first-not-put : one ≡ false → AreJobs shop.jobs (first ++ last) → ⊥
-  first-not-put refused are =
-      let begun = firsts [] (no-jobs shop.jobs) (holds-none shop start size empty) in
-      false≢true (sym refused ∙ begun.0.1 (jobs-first shop.jobs first last are))
-
-  -- where both are, they are distinct
-  pub both-put : (end : List Bool) (two : Bool) → Inserts shop last middle end two → one ≡ true → two ≡ true →
-      AreJobs shop.jobs (first ++ last) × Holds shop (first ++ last) end
-  both-put end two lasts first_put last_put =
-      let begun = firsts [] (no-jobs shop.jobs) (holds-none shop start size empty) in
-      let done = lasts first (begun.0.0 first_put) (begun.1 first_put) in
-      (done.0.0 last_put, done.1 last_put)
-
-  -- where the last are not
-  pub last-not-put : (end : List Bool) (two : Bool) → Inserts shop last middle end two → one ≡ true → two ≡ false →
-      AreJobs shop.jobs (first ++ last) → ⊥
-  last-not-put end two lasts first_put refused are =
-      let begun = firsts [] (no-jobs shop.jobs) (holds-none shop start size empty) in
-      let done = lasts first (begun.0.0 first_put) (begun.1 first_put) in
-      false≢true (sym refused ∙ done.0.1 are)
+pub both-taken : {F : Type 0} (shop : Shop) (first last : List ℕ) (set : List Bool) (fault : Option F) →
+    IfNone fault (AreTaken shop (first ++ last) (length first + length last) set) → is_some fault ≡ false →
+    AreTaken shop (first ++ last) (length first + length last) set
+both-taken shop first last set fault taken none =
+    where-none (AreTaken shop (first ++ last) (length first + length last) set) fault taken none

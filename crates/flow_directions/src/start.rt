@@ -1,16 +1,16 @@
 //! The node at which a search begins.
 
-ghost use Rattle.std.specs.Prelude.{◌≡◌, ◌↔◌, ℕ, ◌≤◌, Err, List, ◌++◌, length, take, IfOk, IsTrue};
+ghost use Rattle.std.specs.Prelude.{◌≡◌, ◌↔◌, ℕ, ◌≤◌, Err, List, ◌++◌, length, take, IfOk};
 ghost use Rattle.flow_shop.specs.Sequences.{jobs_left, AreJobs};
 ghost use Rattle.flow_directions.specs.internal.Packs.{HasRoom, IsPack};
-ghost use Rattle.flow_directions.specs.internal.Start.{Holds, IsStart};
+ghost use Rattle.flow_directions.specs.internal.Start.{IsStart};
 ghost use Rattle.flow_directions.specs.declared.found.ProveFault.TheVariants.{Jobs};
 
 use crate::found::ProveFault;
 use crate::lists::Lists;
 use crate::pack::Pack;
 use flow_nodes::{Lanes, Node};
-use flow_shop::{End, Instance, JobSet};
+use flow_shop::{End, Instance, JobSet, insert_all};
 use std::alloc::Global;
 
 /// The node at which a search begins.
@@ -26,22 +26,6 @@ pub(crate) struct StartNode {
     pub(crate) left: u16,
 }
 
-/// Adds the jobs of a list to a set. Returns whether they are jobs of the instance, and none was in the set or stands
-/// in the list twice.
-fn insert_all(instance: &Instance, taken: &mut JobSet, jobs: &[u16]) -> bool
-    ensures { (list : List ℕ) → AreJobs instance.now.jobs list → Holds instance.now list taken.old →
-        (IsTrue result ↔ AreJobs instance.now.jobs (list ++ jobs.now))
-        × (IsTrue result → Holds instance.now (list ++ jobs.now) taken.new) }
-{
-    for job in jobs {
-        if *job < 1 || *job > instance.jobs() || taken.contains(*job) {
-            return false;
-        }
-        taken.insert(*job);
-    }
-    true
-}
-
 impl StartNode {
     /// The node of two lists; or `Jobs` where the jobs are not those of the instance, or one stands in them twice.
     pub(crate) fn new(
@@ -54,7 +38,9 @@ impl StartNode {
         ensures refused { (result ≡ Err Jobs) ↔ (AreJobs instance.now.jobs (first.now ++ last.now) → ⊥) }
     {
         let mut taken = JobSet::none();
-        if !insert_all(instance, &mut taken, first) || !insert_all(instance, &mut taken, last) {
+        if insert_all(instance, &mut taken, 0, first).is_some()
+            || insert_all(instance, &mut taken, first.len(), last).is_some()
+        {
             return Err(ProveFault::Jobs);
         }
         let mut node = Node::root(instance);

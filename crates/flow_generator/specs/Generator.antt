@@ -1,11 +1,12 @@
 -- Taillard's generator of random numbers and instances.
-use Rattle.std.specs.Prelude.{ℕ, ◌+◌, ◌-◌, ◌*◌, ◌/◌, ◌%◌, ◌^◌, [], ◌∷◌, Option, map}
+use Rattle.std.specs.Prelude.{ℕ, ◌+◌, ◌-◌, ◌*◌, ◌/◌, ◌%◌, ◌^◌, [], ◌∷◌, ◌++◌, Option, map}
 use Rattle.std.specs.Int.{is_in_range}
 use Rattle.flow_shop.specs.Shop.{Shop, numbers}
 use Rattle.flow_shop.specs.Refusals.{fault_unless, first_fault}
-use Rattle.flow_limits.specs.Limits.{most_jobs, most_machines}
+use Rattle.flow_limits.specs.Limits.{greatest_seed}
+use Rattle.flow_shop.specs.InstanceFaults.{size_tests}
 use Rattle.flow_shop.specs.declared.instance.InstanceFault.{InstanceFault}
-use Rattle.flow_shop.specs.declared.instance.InstanceFault.TheVariants.{Jobs, Machines, Seed}
+use Rattle.flow_shop.specs.declared.instance.InstanceFault.TheVariants.{Seed}
 
 -- the multiplier of a step
 abbrev pub multiplier : ℕ
@@ -42,8 +43,5 @@ generated jobs machines seed =
 
 -- why no instance is generated, if none is
 abbrev pub generator_fault : ℕ → ℕ → ℕ → Option InstanceFault
-generator_fault jobs machines seed = first_fault (
-    fault_unless (is_in_range 1 most_jobs jobs) Jobs
-    ∷ fault_unless (is_in_range 1 most_machines machines) Machines
-    ∷ fault_unless (is_in_range 1 (modulus - 1) seed) Seed
-    ∷ [])
+generator_fault jobs machines seed =
+    first_fault (size_tests jobs machines ++ fault_unless (is_in_range 1 greatest_seed seed) Seed ∷ [])

@@ -5,8 +5,8 @@ ghost use Rattle.std.specs.Option.{SomeIff};
 ghost use Rattle.flow_generator.specs.Generator.{modulus, state_after, drawn, generated, generator_fault};
 ghost use Rattle.flow_shop.specs.InstanceFaults.{but_memory};
 
-use flow_limits::{may_have_jobs, may_have_machines};
-use flow_shop::{Instance, InstanceFault};
+use flow_limits::may_be_seed;
+use flow_shop::{Instance, InstanceFault, size_fault};
 use std::alloc::Global;
 use std::marker::Model;
 
@@ -46,7 +46,7 @@ impl Taillard {
     pub fn new(seed: u32) -> Option<Taillard>
         ensures { SomeIff result ((1 ≤ seed) × (seed < modulus)) seed }
     {
-        if seed >= 1 && seed < MODULUS {
+        if may_be_seed(seed) {
             Some(Taillard { state: seed })
         } else {
             None
@@ -100,11 +100,8 @@ pub fn generate(
     ensures accepted { OnOk result (generator_fault jobs machines seed ≡ None) }
     ensures refused { IfErr result (λ fault. generator_fault jobs machines seed ≡ but_memory fault) }
 {
-    if !may_have_jobs(jobs) {
-        return Err(InstanceFault::Jobs);
-    }
-    if !may_have_machines(machines) {
-        return Err(InstanceFault::Machines);
+    if let Some(fault) = size_fault(jobs, machines) {
+        return Err(fault);
     }
     let Some(mut generator) = Taillard::new(seed) else {
         return Err(InstanceFault::Seed);

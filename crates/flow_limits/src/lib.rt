@@ -3,7 +3,7 @@
 
 ghost use Rattle.std.specs.Int.{is_in_range};
 ghost use Rattle.std.specs.Prelude.{◌≡◌};
-ghost use Rattle.flow_limits.specs.Limits.{most_jobs, most_machines};
+ghost use Rattle.flow_limits.specs.Limits.{most_jobs, most_machines, greatest_seed};
 
 mod laws;
 
@@ -72,4 +72,11 @@ pub fn may_have_machines(machines: u32) -> bool
     ensures { result ≡ is_in_range 1 most_machines machines }
 {
     machines >= 1 && machines as usize <= MAX_MACHINES
+}
+
+/// Whether random numbers may begin with a seed.
+pub fn may_be_seed(seed: u32) -> bool
+    ensures { result ≡ is_in_range 1 greatest_seed seed }
+{
+    seed >= 1 && seed <= MAX_SEED
 }

@@ -9,6 +9,7 @@ use Rattle.std.proofs.lemmas.List.Sums.{sum_by-cons}
 use Rattle.flow_shop.specs.Shop.{numbers}
 use Rattle.flow_shop.specs.JobSet.{contains, members}
 use Rattle.flow_shop.proofs.JobsLeft.{filter-more, filter-past, numbers-more}
+use Rattle.flow_shop.proofs.Taken.{range-same}
 
 -- a test that only the first numbers pass
 pub filter-first : (p : ℕ → Bool) (n most : ℕ) → n ≤ most → ((k : ℕ) → 1 ≤ k → k ≤ n → p k ≡ true) →
@@ -54,14 +55,6 @@ members-is set n h =
           ap (λ m. filter (contains set) (numbers 1 m)) e ∙ filter-past (contains set) n (length set - n) h
     ]
 
--- tests that agree from a number on
-filter-from : (p q : ℕ → Bool) (a n : ℕ) → ((k : ℕ) → a ≤ k → p k ≡ q k) →
-    filter p (range_with_len a n) ≡ filter q (range_with_len a n)
-filter-from p q a zero h = refl
-filter-from p q a (suc n) h =
-    ap (λ b. cond b (a ∷ filter p (range_with_len (a + 1) n)) (filter p (range_with_len (a + 1) n))) (h a (omega arith))
-    ∙ ap (λ xs. cond (q a) (a ∷ xs) xs) (filter-from p q (a + 1) n (λ k low. h k (omega arith)))
-
 -- the flag of a number, where the first flag tells of `first`
 abbrev flag_from : ℕ → List Bool → ℕ → Bool
 flag_from first flags k = slice_index_or flags (k - first) false
@@ -82,8 +75,8 @@ count-from first (b ∷ flags) =
     let start : first - first ≡ 0 = omega arith in
     let here : slice_index_or (b ∷ flags) (first - first) false ≡ b =
     ap (λ i. slice_index_or (b ∷ flags) i false) start in
-    let rest = filter-from (flag_from first (b ∷ flags)) (flag_from (first + 1) flags) (first
-    + 1) (length flags) (λ k low. ap (λ i. slice_index_or (b ∷ flags) i false) (later k low)) in
+    let rest = range-same (flag_from first (b ∷ flags)) (flag_from (first + 1) flags) (first
+    + 1) (length flags) (λ k low _. ap (λ i. slice_index_or (b ∷ flags) i false) (later k low)) in
     ap (λ c. length (cond c (first ∷ filter (flag_from first (b ∷ flags)) (range_with_len (first
     + 1) (length flags))) (filter (flag_from first (b ∷ flags)) (range_with_len (first + 1) (length flags))))) here
     ∙ ap (λ xs. length (cond b (first ∷ xs) xs)) rest

@@ -7,7 +7,7 @@ use Rattle.std.proofs.lemmas.List.{append-nil}
 use Rattle.std.proofs.lemmas.List.Elements.{filter-append, recursion_from_All}
 use Rattle.std.proofs.lemmas.List.Folds.{list_any-append}
 use Rattle.std.proofs.lemmas.List.Sums.{sum_by-append, sum_by-cons}
-use Rattle.std.proofs.lemmas.Bool.{cases_lt, eq-eqb, false≢true}
+use Rattle.std.proofs.lemmas.Bool.{cases_lt, eq-eqb, ne_eqb, false≢true}
 use Rattle.std.proofs.lemmas.Bool.Decides.{eqb_tells}
 use Rattle.flow_shop.specs.Shop.{numbers}
 use Rattle.flow_shop.specs.Least.{least}
@@ -85,59 +85,44 @@ kept-small f p most (suc n) small =
     one true v = omega arith
     one false v = omega arith
 
--- one more number that passes
-module _ (f : ℕ → ℕ) (p : ℕ → Bool) (j : ℕ) (fresh : p j ≡ false) where
-  abbrev with_j : ℕ → Bool
-  with_j k = nat_eq k j || p k
+-- a test that one more number passes
+abbrev pub with_one : (ℕ → Bool) → ℕ → ℕ → Bool
+with_one p j k = nat_eq k j || p k
 
-  kept-before : (n : ℕ) → n < j → kept f with_j n ≡ kept f p n
-  kept-before zero h = refl
-  kept-before (suc n) h =
-      let other : nat_eq (suc n) j ≡ false = not_eq (suc n) j (omega arith) in
-      let same : with_j (suc n) ≡ p (suc n) = ap (λ b. b || p (suc n)) other in
-      omega (
-        arith,
-        kept-more f with_j n,
-        kept-more f p n,
-        kept-before n (omega arith),
-        ap (λ b. cond b (f
-            (suc n)) 0) same,
-      )
-    where
-      not_eq : (a b : ℕ) → a < b → nat_eq a b ≡ false
-      not_eq a b h = elim (eqb_tells a b) [ inl e ↦ let x : a ≡ b = e.1 in absurd (omega arith) | inr d ↦ d.0 ]
+-- below that number it is as it was
+pub filter-before : (p : ℕ → Bool) (j n : ℕ) → n < j → filter (with_one p j) (numbers 1 n) ≡ filter p (numbers 1 n)
+filter-before p j n h =
+    filter-same (with_one p j) p n (λ k from to. ap (λ b. b || p k) (ne_eqb k j (omega arith)))
 
-  kept-from : (n : ℕ) → 1 ≤ j → j ≤ n → kept f with_j n ≡ f j + kept f p n
-  kept-from zero low h = absurd (omega arith)
-  kept-from (suc n) low h =
-      elim (cases_lt n j) [
-        | inl here ↦
-            let e : suc n ≡ j = omega arith in
-            let pass : with_j (suc n) ≡ true = ap (λ b. b || p (suc n)) (eq-eqb (suc n) j e) in
-            let none : p (suc n) ≡ false = ap p e ∙ fresh in
-            let value : f (suc n) ≡ f j = ap f e in
-            omega (
-              arith,
-              kept-more f with_j n,
-              kept-more f p n,
-              kept-before n here,
-              ap (λ b. cond b (f
-                  (suc n)) 0) pass,
-              ap (λ b. cond b (f (suc n)) 0) none,
-            )
-        | inr below ↦
-            let other : nat_eq (suc n) j ≡ false =
-            elim (eqb_tells (suc n) j) [ inl e ↦ let x : suc n ≡ j = e.1 in absurd (omega arith) | inr d ↦ d.0 ] in
-            let same : with_j (suc n) ≡ p (suc n) = ap (λ b. b || p (suc n)) other in
-            omega (
-              arith,
-              kept-more f with_j n,
-              kept-more f p n,
-              kept-from n low below,
-              ap (λ b. cond b (f
-                  (suc n)) 0) same,
-            )
-      ]
+-- and from there on the sum has that number too
+pub kept-from : (f : ℕ → ℕ) (p : ℕ → Bool) (j : ℕ) → p j ≡ false → (n : ℕ) → 1 ≤ j → j ≤ n →
+    kept f (with_one p j) n ≡ f j + kept f p n
+kept-from f p j fresh zero low h = absurd (omega arith)
+kept-from f p j fresh (suc n) low h =
+    elim (cases_lt n j) [
+      | inl here ↦
+          let e : suc n ≡ j = omega arith in
+          let pass : with_one p j (suc n) ≡ true = ap (λ b. b || p (suc n)) (eq-eqb (suc n) j e) in
+          let none : p (suc n) ≡ false = ap p e ∙ fresh in
+          let value : f (suc n) ≡ f j = ap f e in
+          omega (
+            arith,
+            kept-more f (with_one p j) n,
+            kept-more f p n,
+            ap (sum_by f) (filter-before p j n here),
+            ap (λ b. cond b (f (suc n)) 0) pass,
+            ap (λ b. cond b (f (suc n)) 0) none,
+          )
+      | inr below ↦
+          let same : with_one p j (suc n) ≡ p (suc n) = ap (λ b. b || p (suc n)) (ne_eqb (suc n) j (omega arith)) in
+          omega (
+            arith,
+            kept-more f (with_one p j) n,
+            kept-more f p n,
+            kept-from f p j fresh n low below,
+            ap (λ b. cond b (f (suc n)) 0) same,
+          )
+    ]
 
 abbrev pub InRange : ℕ → List ℕ → Type 0
 InRange n jobs = AllByRecursion (λ job. (1 ≤ job) × (job ≤ n)) jobs

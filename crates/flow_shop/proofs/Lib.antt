@@ -6,6 +6,7 @@ pub mod Ranges
 pub mod Admissible
 pub mod InstanceLemmas
 pub mod SequenceLemmas
+pub mod JobLists
 pub mod JobSetLemmas
 pub mod Transposes
 pub mod Taken

@@ -13,7 +13,7 @@ use Rattle.flow_shop.specs.Sequences.{AreJobs, has, AreDistinct, IsSequence}
 use Rattle.flow_shop.specs.SequenceFaults.{place_fault, sequence_fault, but_memory}
 use Rattle.flow_shop.specs.declared.sequence.SequenceFault.{SequenceFault}
 use Rattle.flow_shop.specs.declared.sequence.SequenceFault.TheVariants.{Length, Job, Twice}
-use Rattle.flow_shop.proofs.JobsLeft.{InRange}
+use Rattle.flow_shop.proofs.JobsLeft.{InRange, InRange-rest, distinct-rest, apart}
 use Rattle.flow_shop.proofs.InstanceLemmas.{in-range, range-in}
 use Rattle.flow_shop.proofs.Taken.{has-more, has-same}
 
@@ -45,6 +45,26 @@ tested-none : (in_range held : Bool) (place : ℕ) (rest : Option SequenceFault)
 tested-none true false place rest e = (refl, refl, e)
 tested-none true true place rest e = absurd (none-some (Twice place) (sym e))
 tested-none false held place rest e = absurd (none-some (Job place) (sym e))
+
+-- the fault of the job at a place: it is out of range, or taken; or the fault is a later one's
+module _ (n : ℕ) (earlier rest : List ℕ) (job : ℕ) where
+  abbrev later : Option SequenceFault
+  later = place_fault n (earlier ++ job ∷ []) rest
+
+  pub fault-out : is_in_range 1 n job ≡ false → place_fault n earlier (job ∷ rest) ≡ Some (Job (length earlier + 1))
+  fault-out out = ap (λ b. tested b (has earlier job) (length earlier + 1) later) out
+
+  pub fault-twice : is_in_range 1 n job ≡ true → has earlier job ≡ true →
+      place_fault n earlier (job ∷ rest) ≡ Some (Twice (length earlier + 1))
+  fault-twice within held =
+      ap (λ b. tested b (has earlier job) (length earlier + 1) later) within
+      ∙ ap (λ b. tested true b (length earlier + 1) later) held
+
+  pub fault-later : is_in_range 1 n job ≡ true → has earlier job ≡ false →
+      place_fault n earlier (job ∷ rest) ≡ place_fault n (earlier ++ job ∷ []) rest
+  fault-later within fresh =
+      ap (λ b. tested b (has earlier job) (length earlier + 1) later) within
+      ∙ ap (λ b. tested true b (length earlier + 1) later) fresh
 
 -- no jobs are distinct jobs of any range
 pub no-jobs : (n : ℕ) → AreJobs n []
@@ -112,10 +132,7 @@ no-fault : (n : ℕ) (earlier jobs : List ℕ) → InRange n jobs → AreDistinc
     ((job : ℕ) → has earlier job ≡ true → has jobs job ≡ false) → place_fault n earlier jobs ≡ None
 no-fault n earlier [] range distinct fresh = refl
 no-fault n earlier (job ∷ jobs) range distinct fresh =
-    ap (λ b. tested b (has earlier job) (length earlier + 1) (place_fault n (earlier ++ job
-    ∷ []) jobs)) (in-range n job range.0.0 range.0.1)
-    ∙ ap (λ b. tested true b (length earlier + 1) (place_fault n (earlier ++ job
-    ∷ []) jobs)) (new-job (has earlier job) refl)
+    fault-later n earlier jobs job (in-range n job range.0.0 range.0.1) (new-job (has earlier job) refl)
     ∙ no-fault n (earlier ++ job ∷ []) jobs range.1 distinct.1 (apart-more earlier jobs job distinct.0 fresh)
   where
     or_false : (a b : Bool) → (a || b) ≡ false → a ≡ false
@@ -126,6 +143,13 @@ no-fault n earlier (job ∷ jobs) range distinct fresh =
     new-job false e = e
     new-job true e = absurd (false≢true (sym (or_false (nat_eq job job) (has jobs job) (fresh job e))
         ∙ eq-eqb job job refl))
+
+-- jobs behind others have no fault where all are distinct
+pub jobs-no-fault : (n : ℕ) (earlier jobs : List ℕ) → AreJobs n (earlier ++ jobs) → place_fault n earlier jobs ≡ None
+jobs-no-fault n earlier jobs are =
+    no-fault n earlier jobs
+    (InRange-rest n earlier jobs (recursion_from_All (λ job. (1 ≤ job) × (job ≤ n)) (earlier ++ jobs) are.range))
+    (distinct-rest earlier jobs are.distinct) (λ job there. apart earlier jobs job are.distinct there)
 
 -- and a sequence has none
 pub is-fault-none : (n : ℕ) (jobs : List ℕ) → IsSequence n jobs → sequence_fault n jobs ≡ None

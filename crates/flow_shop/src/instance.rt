@@ -1,13 +1,15 @@
 //! An instance: the times of jobs on machines.
 
-ghost use Rattle.std.specs.Prelude.{◌≡◌, ◌+◌, ◌*◌, ◌<◌, ◌≤◌, nat_lt, length, position, All, None};
+ghost use Rattle.std.specs.Prelude.{◌≡◌, ◌+◌, ◌*◌, ◌<◌, ◌≤◌, nat_lt, true, length, position, All, None};
 ghost use Rattle.std.specs.Prelude.{IfSome, IfNone, IfOk, OnOk, IfErr};
 ghost use Rattle.std.specs.Cmp.{partial_equiv_from_equiv};
 ghost use Rattle.flow_shop.specs.Shop.{IsWithinLimits, time, time_between, is_same_shop};
 ghost use Rattle.flow_shop.specs.internal.Same.{is_same_shop-equiv};
-ghost use Rattle.flow_shop.specs.InstanceFaults.{instance_fault, but_memory};
+ghost use Rattle.flow_shop.specs.InstanceFaults.{size_tests, instance_fault, but_memory};
+ghost use Rattle.flow_shop.specs.Refusals.{first_fault};
+ghost use Rattle.std.specs.Int.{is_in_range};
 ghost use Rattle.flow_shop.specs.declared.instance.InstanceFault.TheVariants.{Memory};
-ghost use Rattle.flow_limits.specs.Limits.{greatest_time};
+ghost use Rattle.flow_limits.specs.Limits.{most_jobs, most_machines, greatest_time};
 ghost use Rattle.flow_shop.specs.internal.Transposed.{transposed};
 
 use flow_limits::{MAX_TIME, may_have_jobs, may_have_machines};
@@ -112,6 +114,21 @@ fn first_too_great(times: &[u32]) -> Option<usize>
     times.iter().position(|time| *time > MAX_TIME)
 }
 
+/// Why no instance has so many jobs and machines: `Jobs`, or else `Machines`; `None` where one may.
+pub fn size_fault(jobs: u32, machines: u32) -> Option<InstanceFault>
+    ensures fault { result ≡ first_fault (size_tests jobs machines) }
+    ensures none { IfNone result
+        ((is_in_range 1 most_jobs jobs ≡ true) × (is_in_range 1 most_machines machines ≡ true)) }
+{
+    if !may_have_jobs(jobs) {
+        return Some(InstanceFault::Jobs);
+    }
+    if !may_have_machines(machines) {
+        return Some(InstanceFault::Machines);
+    }
+    None
+}
+
 impl Instance {
     /// The instance of these times, machine by machine and for each machine job by job; or the first fault; or
     /// `Memory`.
@@ -126,11 +143,8 @@ impl Instance {
         ensures accepted { OnOk result (instance_fault jobs machines times.now ≡ None) }
         ensures refused { IfErr result (λ fault. instance_fault jobs machines times.now ≡ but_memory fault) }
     {
-        if !may_have_jobs(jobs) {
-            return Err(InstanceFault::Jobs);
-        }
-        if !may_have_machines(machines) {
-            return Err(InstanceFault::Machines);
+        if let Some(fault) = size_fault(jobs, machines) {
+            return Err(fault);
         }
         if times.len() != jobs as usize * machines as usize {
             return Err(InstanceFault::Count);

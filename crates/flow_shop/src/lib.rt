@@ -14,7 +14,7 @@ mod version;
 
 pub use end::End;
 pub use front::{Front, front_push, makespan};
-pub use instance::{Instance, InstanceFault};
+pub use instance::{Instance, InstanceFault, size_fault};
 pub use job_set::JobSet;
 pub use laws::{
     bound_is_admissible, completion_by_recurrence, completion_is_greatest, directions_are_one,
@@ -25,6 +25,6 @@ pub use laws::{
 };
 pub use least_pairs::LeastPairs;
 pub use row::{Row, rows};
-pub use sequence::{Sequence, SequenceFault, first_job_at_fault};
+pub use sequence::{Sequence, SequenceFault, first_job_at_fault, insert_all};
 pub use two_least::TwoLeast;
 pub use version::has_releases;

@@ -1,8 +1,9 @@
 //! A sequence: the jobs of an instance in some order.
 
-ghost use Rattle.std.specs.Prelude.{◌≡◌, ℕ, nat_eq, [], None, length, IfNone, IfOk, OnOk, IfErr};
+ghost use Rattle.std.specs.Prelude.{◌≡◌, ℕ, ◌+◌, nat_eq, List, [], ◌++◌, None, length, IfNone, IfOk, OnOk, IfErr};
 ghost use Rattle.std.specs.Cmp.{partial_equiv_from_equiv};
 ghost use Rattle.std.specs.Cmp.Lexicographic.{pointwise, nat_list_eq_equiv};
+ghost use Rattle.flow_shop.specs.JobSet.{AreTaken};
 ghost use Rattle.flow_shop.specs.Sequences.{AreJobs, IsSequence};
 ghost use Rattle.flow_shop.specs.SequenceFaults.{place_fault, sequence_fault, but_memory};
 ghost use Rattle.flow_shop.specs.declared.sequence.SequenceFault.TheVariants.{Memory};
@@ -69,23 +70,41 @@ impl Eq for Sequence {
     ghost laws = { nat_list_eq_equiv };
 }
 
+/// Puts jobs into the set of those taken so far, of which there are so many. A job that is not one of the instance, or
+/// that is taken already, is at fault: the fault of the first one, its place counted on from the jobs taken before, and
+/// the set has some of these jobs then; `None` where the set has them all.
+pub fn insert_all(
+    instance: &Instance,
+    taken: &mut JobSet,
+    count: usize,
+    jobs: &[u16],
+) -> Option<SequenceFault>
+    requires { (earlier : List ℕ) × AreTaken instance.now earlier count taken.old }
+    ensures fault { (earlier : List ℕ) → AreTaken instance.now earlier count taken.old →
+        result ≡ place_fault instance.now.jobs earlier jobs.now }
+    ensures taken { (earlier : List ℕ) → AreTaken instance.now earlier count taken.old →
+        IfNone result (AreTaken instance.now (earlier ++ jobs.now) (count + length jobs.now) taken.new) }
+{
+    let n = instance.jobs();
+    for (index, &job) in jobs.iter().enumerate() {
+        let place = count + index + 1;
+        if job < 1 || job > n {
+            return Some(SequenceFault::Job(place));
+        }
+        if taken.contains(job) {
+            return Some(SequenceFault::Twice(place));
+        }
+        taken.insert(job);
+    }
+    None
+}
+
 /// The fault of the first job that is not one of the instance, or that stands at an earlier place too.
 pub fn first_job_at_fault(instance: &Instance, jobs: &[u16]) -> Option<SequenceFault>
     ensures fault { result ≡ place_fault instance.now.jobs [] jobs.now }
     ensures none { IfNone result (AreJobs instance.now.jobs jobs.now) }
 {
-    let n = instance.jobs();
-    let mut earlier = JobSet::none();
-    for (index, &job) in jobs.iter().enumerate() {
-        if job < 1 || job > n {
-            return Some(SequenceFault::Job(index + 1));
-        }
-        if earlier.contains(job) {
-            return Some(SequenceFault::Twice(index + 1));
-        }
-        earlier.insert(job);
-    }
-    None
+    insert_all(instance, &mut JobSet::none(), 0, jobs)
 }
 
 impl Sequence {

@@ -2,7 +2,9 @@ use Rattle.std.proofs.Common.{◌+◌, ◌-◌, ◌≤◌, slice_index, ap, arit
 use Rattle.flow_limits.specs.Limits.{greatest_completion}
 use Rattle.flow_shop.specs.JobSet.{members}
 use Rattle.flow_bound.specs.Loads.{least_between}
-use Rattle.flow_bound.proofs.Steps.{admissible-members}
+use Rattle.flow_shop.specs.Bound.{machine_bound}
+use Rattle.flow_shop.proofs.Admissible.{admissible-front}
+use Rattle.flow_bound.proofs.Steps.{left-admissible}
 use Rattle.flow_bound.proofs.front_bound.bound.Goals as goal
 
 pub overflow_add-result : goal.overflow_add-result
@@ -32,7 +34,9 @@ returns-clause-value c =
 
 pub returns-clause-admissible : goal.returns-clause-admissible
 returns-clause-admissible c scheduled sequence front left is extends =
-    admissible-members c.args.instance.now scheduled sequence c.args.front.now
-    (members c.args.unscheduled.now) c.args.machine
+    left-admissible c.args.instance.now scheduled sequence (members c.args.unscheduled.now)
+    (λ jobs. machine_bound c.args.instance.now c.args.front.now jobs c.args.machine)
     (c.at.result + c.from.result + c.from-2.result)
-    c.requires.from c.requires.to is extends c.requires.some left front (returns-clause-value c)
+    (λ rest whole more. admissible-front c.args.instance.now scheduled rest c.args.front.now c.args.machine
+    c.requires.from c.requires.to whole more front)
+    is extends c.requires.some left (returns-clause-value c)

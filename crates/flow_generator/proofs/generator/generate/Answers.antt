@@ -1,4 +1,4 @@
-use Rattle.std.proofs.Common.{arith, ap, sym, ◌∙◌}
+use Rattle.std.proofs.Common.{arith, ap, ◌∙◌}
 use Rattle.flow_limits.specs.Limits.{most_jobs, most_machines}
 use Rattle.flow_shop.proofs.InstanceLemmas.{range-in}
 use Rattle.flow_generator.specs.Generator.{drawn, drawn_time}
@@ -22,9 +22,9 @@ loop-preserved c =
 pub from_times-requires : goal.from_times-requires
 from_times-requires c =
     let drawn = c.loop.invariant in
-    let jobs = range-in most_jobs c.args.jobs (sym c.may_have_jobs.ensures ∙ c.if-not-may_have_jobs.false) in
-    let machines = range-in most_machines c.args.machines
-    (sym c.may_have_machines.ensures ∙ c.if-not-may_have_machines.false) in
+    let size = c.in_default.ensures.none in
+    let jobs = range-in most_jobs c.args.jobs size.0 in
+    let machines = range-in most_machines c.args.machines size.1 in
     record {
       some_job = omega (arith, jobs.0);
       jobs = omega (arith, jobs.1);

@@ -1,10 +1,13 @@
-use Rattle.std.proofs.Common.{◌≡◌, [], None, arith}
-use Rattle.std.proofs.lemmas.Grind.{common_steps}
-use Rattle.flow_shop.specs.SequenceFaults.{place_fault}
-use Rattle.flow_shop.proofs.SequenceLemmas.{no-fault-jobs}
+use Rattle.std.proofs.Common.{[]}
+use Rattle.flow_shop.proofs.JobLists.{none-taken, jobs-taken}
 use Rattle.flow_shop.proofs.sequence.first_job_at_fault.Goals as goal
+
+pub insert_all-requires : goal.insert_all-requires
+insert_all-requires c =
+    ([], none-taken c.args.instance.now c.none.result c.none.ensures.size c.none.ensures.empty)
 
 pub returns-clause-none : goal.returns-clause-none
 returns-clause-none c =
-    let none : place_fault c.args.instance.now.jobs [] c.args.jobs.now ≡ None = grind (arith, common_steps) in
-    no-fault-jobs c.args.instance.now.jobs c.args.jobs.now none
+    jobs-taken c.args.instance.now c.args.jobs.now _ _ c.insert_all.result
+    (c.insert_all.ensures.taken [] (none-taken c.args.instance.now c.none.result c.none.ensures.size
+    c.none.ensures.empty))

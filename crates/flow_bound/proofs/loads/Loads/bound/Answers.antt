@@ -1,6 +1,8 @@
 use Rattle.std.proofs.Common.{◌≡◌, ◌+◌, ◌-◌, ◌≤◌, slice_index, refl, ap, arith}
 use Rattle.flow_shop.specs.Sequences.{jobs_left}
-use Rattle.flow_bound.proofs.Steps.{admissible-members}
+use Rattle.flow_shop.specs.Bound.{machine_bound}
+use Rattle.flow_shop.proofs.Admissible.{admissible-front}
+use Rattle.flow_bound.proofs.Steps.{left-admissible}
 use Rattle.flow_bound.proofs.loads.Loads.bound.Goals as goal
 
 pub returns-clause-value : goal.returns-clause-value
@@ -25,7 +27,10 @@ returns-clause-value c shop jobs rest =
 
 pub returns-clause-admissible : goal.returns-clause-admissible
 returns-clause-admissible c shop scheduled sequence rest some front is extends =
-    admissible-members shop scheduled sequence c.args.front.now (jobs_left shop.jobs scheduled) c.args.machine
+    let high : c.args.machine ≤ shop.machines = omega (arith, c.requires.to, rest.machines_are) in
+    left-admissible shop scheduled sequence (jobs_left shop.jobs scheduled)
+    (λ jobs. machine_bound shop c.args.front.now jobs c.args.machine)
     (c.at.result + (c.from.result + c.from-2.result))
-    c.requires.from (omega (arith, c.requires.to, rest.machines_are)) is extends some refl front
-    (returns-clause-value c shop (jobs_left shop.jobs scheduled) rest)
+    (λ behind whole more.
+    admissible-front shop scheduled behind c.args.front.now c.args.machine c.requires.from high whole more front)
+    is extends some refl (returns-clause-value c shop (jobs_left shop.jobs scheduled) rest)

@@ -2,51 +2,74 @@ use Rattle.std.proofs.Common.{◌≡◌, ◌+◌, ◌-◌, ◌<◌, ◌≤◌, [
 use Rattle.std.proofs.Common.{refl, ap, sym, ◌∙◌, subst, arith, append-nil, length-take, length-drop, rules}
 use Rattle.std.proofs.lemmas.List.{take_more, take_all, drop_all}
 use Rattle.flow_shop.specs.Sequences.{has}
+use Rattle.flow_shop.proofs.JobLists.{none-taken, jobs-first, next-at}
+use Rattle.flow_shop.proofs.Lists.{drop-at}
 use Rattle.flow_nodes.specs.Nodes.{IsNode}
 use Rattle.flow_directions.specs.internal.Lists.{HasLists}
 use Rattle.flow_directions.proofs.FoundSteps.{no-jobs-fault}
-use Rattle.flow_directions.proofs.StartLists.{jobs-first, next-at, next-back, count-both, both-put}
-use Rattle.flow_shop.proofs.Lists.{drop-at}
-use Rattle.flow_directions.proofs.StartLists.{first-not-put, last-not-put}
+use Rattle.flow_directions.proofs.StartLists.{next-back, count-both, not-taken, first-taken, both-taken}
 use Rattle.flow_directions.proofs.start.StartNode.new.Goals as goal
-use Rattle.flow_directions.proofs.start.StartNode.new.Goals.{then-not-insert_all-via-then-not-insert_all}
-use Rattle.flow_directions.proofs.start.StartNode.new.Goals.{
-  then-not-insert_all-via-else-not-insert_all+then-not-insert_all-2,
-}
+use Rattle.flow_directions.proofs.start.StartNode.new.Goals.{then-is_some-via-then-is_some}
+use Rattle.flow_directions.proofs.start.StartNode.new.Goals.{then-is_some-via-else-is_some+then-is_some-2}
 
-pub returns-then-not-insert_all-clause-refused : goal.returns-then-not-insert_all-clause-refused
-returns-then-not-insert_all-clause-refused c = (
-  λ e are. elim c.then-not-insert_all.branch [
-    | then-not-insert_all-via-then-not-insert_all w ↦
-        first-not-put c.args.instance.now c.args.first.now c.args.last.now c.none-taken.result c.insert_all.new.taken
-        c.insert_all.result c.none-taken.ensures.size c.none-taken.ensures.empty c.insert_all.ensures
-        w.if-not-insert_all.true are
-    | then-not-insert_all-via-else-not-insert_all+then-not-insert_all-2 w ↦
-        last-not-put c.args.instance.now c.args.first.now c.args.last.now c.none-taken.result c.insert_all.new.taken
-        c.insert_all.result c.none-taken.ensures.size c.none-taken.ensures.empty c.insert_all.ensures
-        w.insert_all-else-not-insert_all.new.taken w.insert_all-else-not-insert_all.result
-        w.insert_all-else-not-insert_all.ensures w.if-not-insert_all.false w.if-not-insert_all-2.true are
-  ],
-  λ _. refl,
-)
+pub insert_all-requires : goal.insert_all-requires
+insert_all-requires c =
+    ([], none-taken c.args.instance.now c.none-taken.result c.none-taken.ensures.size c.none-taken.ensures.empty)
+
+pub insert_all-requires-else-is_some : goal.insert_all-requires-else-is_some
+insert_all-requires-else-is_some c =
+    let none = none-taken c.args.instance.now c.none-taken.result c.none-taken.ensures.size
+    c.none-taken.ensures.empty in (
+      c.args.first.now,
+      first-taken c.args.instance.now c.args.first.now c.insert_all.new.taken c.insert_all.result
+          (c.insert_all.ensures.taken [] none) (sym c.is_some.ensures ∙ c.if-is_some.false),
+    )
+
+pub returns-then-is_some-clause-refused : goal.returns-then-is_some-clause-refused
+returns-then-is_some-clause-refused c =
+    let shop = c.args.instance.now in
+    let first = c.args.first.now in
+    let last = c.args.last.now in
+    let none = none-taken shop c.none-taken.result c.none-taken.ensures.size c.none-taken.ensures.empty in (
+      λ e are. elim c.then-is_some.branch [
+        | then-is_some-via-then-is_some w ↦
+            not-taken shop.jobs [] first c.insert_all.result (c.insert_all.ensures.fault [] none)
+            (sym c.is_some.ensures ∙ w.if-is_some.true) (jobs-first shop.jobs first last are)
+        | then-is_some-via-else-is_some+then-is_some-2 w ↦
+            let taken = first-taken shop first c.insert_all.new.taken c.insert_all.result
+            (c.insert_all.ensures.taken [] none) (sym c.is_some.ensures ∙ w.if-is_some.false) in
+            not-taken shop.jobs first last w.insert_all-else-is_some.result
+            (w.insert_all-else-is_some.ensures.fault first taken)
+            (sym w.is_some-else-is_some.ensures ∙ w.if-is_some-2.true) are
+      ],
+      λ _. refl,
+    )
 
 pub returns-in_err-lists-clause-refused : goal.returns-in_err-lists-clause-refused
 returns-in_err-lists-clause-refused c =
-    let both = both-put c.args.instance.now c.args.first.now c.args.last.now c.none-taken.result
-    c.insert_all.new.taken c.insert_all.result c.none-taken.ensures.size c.none-taken.ensures.empty
-    c.insert_all.ensures c.insert_all-else-not-insert_all.new.taken c.insert_all-else-not-insert_all.result
-    c.insert_all-else-not-insert_all.ensures c.if-not-insert_all.false c.if-not-insert_all-2.false in
-    (λ e are. no-jobs-fault c.from_residual.result (search rules) e, λ refused. absurd (refused both.0))
+    let none = none-taken c.args.instance.now c.none-taken.result c.none-taken.ensures.size
+    c.none-taken.ensures.empty in
+    let taken = first-taken c.args.instance.now c.args.first.now c.insert_all.new.taken c.insert_all.result
+    (c.insert_all.ensures.taken [] none) (sym c.is_some.ensures ∙ c.if-is_some.false) in
+    let both = both-taken c.args.instance.now c.args.first.now c.args.last.now
+    c.insert_all-else-is_some.new.taken c.insert_all-else-is_some.result
+    (c.insert_all-else-is_some.ensures.taken c.args.first.now taken)
+    (sym c.is_some-else-is_some.ensures ∙ c.if-is_some-2.false) in
+    (λ e are. no-jobs-fault c.from_residual.result (search rules) e, λ refused. absurd (refused both.are_jobs))
 
 pub loop-job-init : goal.loop-job-init
 loop-job-init c =
-    let both = both-put c.args.instance.now c.args.first.now c.args.last.now c.none-taken.result
-    c.insert_all.new.taken c.insert_all.result c.none-taken.ensures.size c.none-taken.ensures.empty
-    c.insert_all.ensures c.insert_all-else-not-insert_all.new.taken c.insert_all-else-not-insert_all.result
-    c.insert_all-else-not-insert_all.ensures c.if-not-insert_all.false c.if-not-insert_all-2.false in
+    let none = none-taken c.args.instance.now c.none-taken.result c.none-taken.ensures.size
+    c.none-taken.ensures.empty in
+    let taken = first-taken c.args.instance.now c.args.first.now c.insert_all.new.taken c.insert_all.result
+    (c.insert_all.ensures.taken [] none) (sym c.is_some.ensures ∙ c.if-is_some.false) in
+    let both = both-taken c.args.instance.now c.args.first.now c.args.last.now
+    c.insert_all-else-is_some.new.taken c.insert_all-else-is_some.result
+    (c.insert_all-else-is_some.ensures.taken c.args.first.now taken)
+    (sym c.is_some-else-is_some.ensures ∙ c.if-is_some-2.false) in
     record {
-      are_jobs = both.0;
-      holds = both.1;
+      are_jobs = both.are_jobs;
+      holds = both.holds;
       is_node = c.root-node.ensures;
       has_lists = subst (λ n. HasLists n [] [] c.in_ok-lists.lists) c.jobs.ensures.value c.in_ok-lists.ensures;
     }

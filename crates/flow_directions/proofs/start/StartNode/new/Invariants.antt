@@ -2,7 +2,7 @@ use Rattle.std.proofs.Common.{◌≤◌, [], ◌++◌, length, take, drop}
 use Rattle.flow_shop.specs.Sequences.{AreJobs}
 use Rattle.flow_nodes.specs.Nodes.{IsNode}
 use Rattle.flow_directions.specs.internal.Lists.{HasLists}
-use Rattle.flow_directions.specs.internal.Start.{Holds}
+use Rattle.flow_shop.specs.JobSet.{Holds}
 use Rattle.flow_directions.proofs.start.StartNode.new.Given as goal
 
 -- the node of the first jobs so far
