@@ -6,7 +6,7 @@ ghost use Rattle.flow_improve.specs.Effort.{beam_steps, run_from_start, run_from
 ghost use Rattle.flow_improve.specs.Effort.{run_fault, effort_fault};
 
 use flow_generator::Taillard;
-use flow_limits::{MAX_ROUNDS, MAX_SEED, MAX_WIDTH, MAX_WORK};
+use flow_limits::{MAX_ROUNDS, MAX_WIDTH, MAX_WORK, may_be_seed};
 use std::marker::Model;
 use thiserror::Error;
 
@@ -35,7 +35,7 @@ fn test_run(rounds: u32, seed: u32) -> Result<(), EffortFault>
     if rounds > MAX_ROUNDS {
         return Err(EffortFault::Rounds);
     }
-    if seed < 1 || seed > MAX_SEED {
+    if !may_be_seed(seed) {
         return Err(EffortFault::Seed);
     }
     Ok(())
