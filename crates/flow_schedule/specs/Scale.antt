@@ -6,6 +6,18 @@ use Rattle.flow_shop.specs.Shop.{Shop}
 abbrev pub breadth_of : Shop → ℕ
 breadth_of shop = max 96000 ((shop.jobs + shop.machines) * 3600)
 
+-- how wide a makespan is drawn at most, with room to spare (inner)
+abbrev pub greatest_breadth : ℕ
+greatest_breadth = 3000000
+
+-- how far to the right a bar begins or ends at most, with room to spare (inner)
+abbrev pub greatest_x : ℕ
+greatest_x = 10000000000000000
+
+-- how far down the rows end at most, with room to spare (inner)
+abbrev pub greatest_bottom : ℕ
+greatest_bottom = 1000000
+
 -- where a time stands: time 0 at 9000
 abbrev pub x_of : ℕ → ℕ → ℕ → ℕ
 x_of breadth makespan time = 9000 + time * breadth / max 1 makespan

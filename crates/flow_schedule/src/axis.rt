@@ -2,7 +2,7 @@
 
 ghost use Rattle.std.specs.Prelude.{◌≡◌, ◌≤◌, ◌++◌, OnOk};
 ghost use Rattle.flow_limits.specs.Limits.{greatest_completion};
-ghost use Rattle.flow_schedule.specs.Scale.{steps_of, IsRoundUp, IsTickStep};
+ghost use Rattle.flow_schedule.specs.Scale.{steps_of, IsRoundUp, IsTickStep, greatest_breadth, greatest_bottom};
 ghost use Rattle.flow_schedule.specs.PictureHead.{line_text, time_text, ticks_text, axis_name_text};
 
 use crate::scale::{LEFT, TOP, x_of};
@@ -51,9 +51,9 @@ fn push_line(
     bottom: u64,
     time: u64,
 ) -> Result<(), AllocError>
-    requires breadth { breadth ≤ 3000000 }
+    requires breadth { breadth ≤ greatest_breadth }
     requires time { time ≤ greatest_completion }
-    requires bottom { bottom ≤ 1000000 }
+    requires bottom { bottom ≤ greatest_bottom }
     ensures { OnOk result (out.new.items ≡ out.old.items ++ line_text breadth makespan bottom time) }
 {
     let x = x_of(breadth, makespan, time);
@@ -73,9 +73,9 @@ fn push_time(
     bottom: u64,
     time: u64,
 ) -> Result<(), AllocError>
-    requires breadth { breadth ≤ 3000000 }
+    requires breadth { breadth ≤ greatest_breadth }
     requires time { time ≤ greatest_completion }
-    requires bottom { bottom ≤ 1000000 }
+    requires bottom { bottom ≤ greatest_bottom }
     ensures { OnOk result (out.new.items ≡ out.old.items ++ time_text breadth makespan bottom time) }
 {
     push_words(out, b"<text x=\"", x_of(breadth, makespan, time))?;
@@ -93,9 +93,9 @@ pub(crate) fn push_ticks(
     bottom: u64,
     step: u64,
 ) -> Result<(), AllocError>
-    requires breadth { breadth ≤ 3000000 }
+    requires breadth { breadth ≤ greatest_breadth }
     requires makespan { makespan ≤ greatest_completion }
-    requires bottom { bottom ≤ 1000000 }
+    requires bottom { bottom ≤ greatest_bottom }
     requires step { 1 ≤ step }
     ensures { OnOk result (out.new.items ≡ out.old.items ++ ticks_text breadth makespan bottom step) }
 {
@@ -109,7 +109,7 @@ pub(crate) fn push_ticks(
 
 /// Adds the name of the axis.
 pub(crate) fn push_axis_name(out: &mut Vec<u8>, bottom: u64) -> Result<(), AllocError>
-    requires { bottom ≤ 1000000 }
+    requires { bottom ≤ greatest_bottom }
     ensures { OnOk result (out.new.items ≡ out.old.items ++ axis_name_text bottom) }
 {
     push_words(out, b"<text x=\"", LEFT - 1_000)?;

@@ -2,6 +2,7 @@
 
 ghost use Rattle.std.specs.Prelude.{◌≡◌, ◌≤◌, ◌+◌, ◌*◌, ◌↔◌, ◌++◌, IsTrue, length, decimal, OnOk};
 ghost use Rattle.flow_limits.specs.Limits.{greatest_completion};
+ghost use Rattle.flow_schedule.specs.Scale.{greatest_breadth, greatest_x};
 ghost use Rattle.flow_schedule.specs.Picture.{width_of, is_on_path, position_text, outline_text};
 ghost use Rattle.flow_schedule.specs.Picture.{style_text, names_text, times_text, label_text, drawn_text, bar_text};
 
@@ -120,8 +121,8 @@ fn push_label(
     width: u64,
 ) -> Result<(), AllocError>
     requires machine { 1 ≤ operation.now.machine }
-    requires x { x ≤ 10000000000000000 }
-    requires width { width ≤ 10000000000000000 }
+    requires x { x ≤ greatest_x }
+    requires width { width ≤ greatest_x }
     ensures { OnOk result (out.new.items ≡ out.old.items ++ label_text x width operation.now) }
 {
     if !has_room(operation.job, width) {
@@ -144,8 +145,8 @@ fn push_drawn(
     requires from { 1 ≤ operation.now.place }
     requires to { operation.now.place ≤ length path.now }
     requires machine { 1 ≤ operation.now.machine }
-    requires x { x ≤ 10000000000000000 }
-    requires width { width ≤ 10000000000000000 }
+    requires x { x ≤ greatest_x }
+    requires width { width ≤ greatest_x }
     ensures { OnOk result (out.new.items ≡ out.old.items ++ drawn_text path.now x width operation.now) }
 {
     push_position(out, operation, x, width)?;
@@ -164,7 +165,7 @@ pub(crate) fn push_bar(
     path: &[u16],
     operation: &Operation,
 ) -> Result<(), AllocError>
-    requires breadth { breadth ≤ 3000000 }
+    requires breadth { breadth ≤ greatest_breadth }
     requires from { 1 ≤ operation.now.place }
     requires to { operation.now.place ≤ length path.now }
     requires machine { 1 ≤ operation.now.machine }

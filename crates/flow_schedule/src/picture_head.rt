@@ -4,6 +4,7 @@ ghost use Rattle.std.specs.Prelude.{◌≡◌, ◌≤◌, ◌++◌, OnOk, IfOk};
 ghost use Rattle.std.specs.List.{flat_map};
 ghost use Rattle.flow_limits.specs.Limits.{greatest_completion, most_machines};
 ghost use Rattle.flow_shop.specs.Shop.{numbers};
+ghost use Rattle.flow_schedule.specs.Scale.{greatest_breadth};
 ghost use Rattle.flow_schedule.specs.PictureHead.{svg_text, value_text, sizes_text, title_text, sheet_text};
 ghost use Rattle.flow_schedule.specs.PictureHead.{heading_text, legend_text, top_text, machine_name_text, head_text};
 
@@ -169,7 +170,7 @@ pub(crate) fn head(
     lower: Option<u64>,
     step: u64,
 ) -> Result<Vec<u8>, AllocError>
-    requires breadth { breadth ≤ 3000000 }
+    requires breadth { breadth ≤ greatest_breadth }
     requires makespan { makespan ≤ greatest_completion }
     requires step { 1 ≤ step }
     ensures { IfOk result (λ text. text.items ≡ head_text instance.now breadth makespan lower step) }

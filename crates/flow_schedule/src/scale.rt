@@ -2,7 +2,7 @@
 
 ghost use Rattle.std.specs.Prelude.{◌≡◌, ◌≤◌};
 ghost use Rattle.flow_limits.specs.Limits.{greatest_completion};
-ghost use Rattle.flow_schedule.specs.Scale.{breadth_of, x_of, y_of};
+ghost use Rattle.flow_schedule.specs.Scale.{breadth_of, x_of, y_of, greatest_breadth, greatest_x};
 
 use flow_shop::Instance;
 
@@ -25,7 +25,7 @@ pub(crate) const ROW: u64 = 3_000;
 pub(crate) fn breadth_of(instance: &Instance) -> u64
     ensures value { result ≡ breadth_of instance.now }
     ensures least { 96000 ≤ result }
-    ensures within { result ≤ 3000000 }
+    ensures within { result ≤ greatest_breadth }
 {
     let rows = u64::from(instance.jobs()) + u64::from(instance.machines());
     LEAST.max(rows * EACH)
@@ -33,10 +33,10 @@ pub(crate) fn breadth_of(instance: &Instance) -> u64
 
 /// Where a time stands.
 pub(crate) fn x_of(breadth: u64, makespan: u64, time: u64) -> u64
-    requires breadth { breadth ≤ 3000000 }
+    requires breadth { breadth ≤ greatest_breadth }
     requires time { time ≤ greatest_completion }
     ensures value { result ≡ x_of breadth makespan time }
-    ensures within { result ≤ 10000000000000000 }
+    ensures within { result ≤ greatest_x }
 {
     LEFT + time * breadth / makespan.max(1)
 }

@@ -9,7 +9,7 @@ use Rattle.std.proofs.lemmas.Bool.Decides.{nat_tests}
 use Rattle.std.proofs.lemmas.List.{at_drop_more}
 use Rattle.std.proofs.lemmas.List.Folds.{list_all-append}
 use Rattle.flow_text.specs.Lines.{is_blank, is_digit, is_plain, numbers_of, are_small}
-use Rattle.flow_text.specs.internal.TextWalk.{line_numbers, LineFails}
+use Rattle.flow_text.specs.internal.TextWalk.{line_numbers}
 use Rattle.flow_limits.specs.Limits.{greatest_number}
 use Rattle.flow_text.specs.declared.text.fault.LineFault.{LineFault}
 use Rattle.flow_text.specs.declared.text.fault.LineFault.TheVariants as line
@@ -129,10 +129,10 @@ line_numbers-other l p = rw p refl
 -- a line with a number that is too large has the fault of another byte, where it has one, before the number's
 pub line_numbers-great : (l : List ℕ) (fault : LineFault) → are_small (numbers_of l) ≡ false →
     (is_plain l ≡ true → fault ≡ line.Number) → (is_plain l ≡ false → fault ≡ line.Byte) →
-    LineFails fault (line_numbers l)
+    line_numbers l ≡ Err fault
 line_numbers-great l fault q plain other = go (is_plain l) refl
   where
-    go : (p : Bool) → is_plain l ≡ p → LineFails fault (line_numbers l)
+    go : (p : Bool) → is_plain l ≡ p → line_numbers l ≡ Err fault
     go true e = rw (plain e) (line_numbers-large l e q)
     go false e = rw (other e) (line_numbers-other l e)
 

@@ -1,12 +1,14 @@
 -- The numbers behind a word.
 use Rattle.std.proofs.Common.{◌≡◌, ◌∙◌, ℕ, Bool, true, false, not, ◌&&◌, if◌then◌else◌, List, Option, Some, None}
 use Rattle.std.proofs.Common.{Result, Ok, Err, refl, ap}
+use Rattle.std.specs.Prelude.{◌≢◌}
 use Rattle.flow_text.specs.Lines.{is_plain, numbers_of, are_small}
 use Rattle.flow_text.specs.StartText.{behind, numbers_on, numbers_behind}
-use Rattle.flow_text.specs.internal.TextWalk.{LineFails, line_numbers}
+use Rattle.flow_text.specs.internal.TextWalk.{line_numbers}
 use Rattle.flow_text.specs.internal.StartSteps.{IsOfLine, of_start}
 use Rattle.flow_text.specs.declared.text.fault.LineFault.{LineFault}
 use Rattle.flow_text.specs.declared.text.fault.LineFault.TheVariants as line
+use Rattle.flow_text.specs.declared.text.start.StartFault.TheVariants.{Line, Memory}
 
 -- what is read of a line, by the two tests of it
 abbrev tested : Bool → Bool → List ℕ → Result (List ℕ) LineFault
@@ -46,16 +48,19 @@ none-behind : (word bytes rest : List ℕ) (fault : LineFault) → behind word b
 none-behind word bytes rest fault there h =
     ap (λ found. elim found [ None ↦ None | Some r ↦ numbers_on r ]) there ∙ numbers-refused rest fault h
 
+of-line : (fault : LineFault) (number : ℕ) → of_start fault number ≢ Memory → of_start fault number ≡ Line number
+of-line line.Memory number known = absurd (known refl)
+of-line line.Label number known = refl
+of-line line.Byte number known = refl
+of-line line.Number number known = refl
+of-line line.Head number known = refl
+of-line line.Limits number known = refl
+of-line line.Times number known = refl
+
 pub refused-behind : (word bytes rest : List ℕ) (number : ℕ) (fault : LineFault) → behind word bytes ≡ Some rest →
-    LineFails fault (line_numbers rest) → IsOfLine (numbers_behind word bytes) number (of_start fault number)
-refused-behind word bytes rest number line.Memory there h = λ known. absurd (known refl)
-refused-behind word bytes rest number line.Label there h =
-    λ known. (none-behind word bytes rest line.Label there h, refl)
-refused-behind word bytes rest number line.Byte there h = λ known. (none-behind word bytes rest line.Byte there h, refl)
-refused-behind word bytes rest number line.Number there h =
-    λ known. (none-behind word bytes rest line.Number there h, refl)
-refused-behind word bytes rest number line.Head there h = λ known. (none-behind word bytes rest line.Head there h, refl)
-refused-behind word bytes rest number line.Limits there h =
-    λ known. (none-behind word bytes rest line.Limits there h, refl)
-refused-behind word bytes rest number line.Times there h =
-    λ known. (none-behind word bytes rest line.Times there h, refl)
+    (fault ≢ line.Memory → line_numbers rest ≡ Err fault) →
+    IsOfLine (numbers_behind word bytes) number (of_start fault number)
+refused-behind word bytes rest number fault there h = λ known. (
+  none-behind word bytes rest fault there (h (λ same. known (ap (λ f. of_start f number) same))),
+  of-line fault number known,
+)

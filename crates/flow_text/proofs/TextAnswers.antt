@@ -4,7 +4,7 @@ use Rattle.std.specs.Prelude.{◌≢◌, IfOk, OnOk, IfErr}
 use Rattle.flow_text.specs.Lines.{lines_of}
 use Rattle.flow_text.specs.Text.{Reads}
 use Rattle.flow_text.specs.TextFaults.{text_fault}
-use Rattle.flow_text.specs.internal.TextWalk.{walk, TextGives}
+use Rattle.flow_text.specs.internal.TextWalk.{walk, Gives}
 use Rattle.flow_text.specs.internal.TextState.{start}
 use Rattle.flow_text.specs.declared.text.block.Block.{Block}
 use Rattle.flow_text.specs.declared.text.fault.TextFault.{TextFault}
@@ -18,12 +18,12 @@ abbrev answer_of : List ℕ → Result (List Block) TextFault
 answer_of bytes = walk start 0 (lines_of bytes)
 
 pub reads-of-answer : {X : Type 0} (view : X → List Block) (result : Result X TextFault) (bytes : List ℕ) →
-    TextGives view result (answer_of bytes) → IfOk result (λ x. Reads bytes (view x))
+    Gives text.Memory view result (answer_of bytes) → IfOk result (λ x. Reads bytes (view x))
 reads-of-answer view (Ok x) bytes gives = Reads-walk bytes (view x) gives
 reads-of-answer view (Err fault) bytes gives = tt
 
 pub accepted-of-answer : {X : Type 0} (view : X → List Block) (result : Result X TextFault) (bytes : List ℕ) →
-    TextGives view result (answer_of bytes) → OnOk result (text_fault bytes ≡ None)
+    Gives text.Memory view result (answer_of bytes) → OnOk result (text_fault bytes ≡ None)
 accepted-of-answer view (Ok x) bytes gives = text_fault-walk bytes ∙ ap fault_of gives
 accepted-of-answer view (Err fault) bytes gives = tt
 
@@ -31,33 +31,26 @@ refused : (fault : TextFault) (bytes : List ℕ) → answer_of bytes ≡ Err fau
 refused fault bytes e = text_fault-walk bytes ∙ ap fault_of e
 
 pub refused-of-answer : {X : Type 0} (view : X → List Block) (result : Result X TextFault) (bytes : List ℕ) →
-    TextGives view result (answer_of bytes) →
+    Gives text.Memory view result (answer_of bytes) →
     IfErr result (λ fault. fault ≢ text.Memory → text_fault bytes ≡ Some fault)
 refused-of-answer view (Ok x) t gives = tt
-refused-of-answer view (Err text.Memory) t gives = λ other. absurd (other refl)
-refused-of-answer view (Err text.NoBlock) t gives = λ _. refused text.NoBlock t gives
-refused-of-answer view (Err (text.Label n)) t gives = λ _. refused (text.Label n) t gives
-refused-of-answer view (Err (text.Byte n)) t gives = λ _. refused (text.Byte n) t gives
-refused-of-answer view (Err (text.Number n)) t gives = λ _. refused (text.Number n) t gives
-refused-of-answer view (Err (text.Head n)) t gives = λ _. refused (text.Head n) t gives
-refused-of-answer view (Err (text.Limits n)) t gives = λ _. refused (text.Limits n) t gives
-refused-of-answer view (Err (text.Times n)) t gives = λ _. refused (text.Times n) t gives
+refused-of-answer view (Err fault) t gives = λ other. refused fault t (gives other)
 
 read : (fault : TextFault) (bytes : List ℕ) (blocks : List Block) → Reads bytes blocks → answer_of bytes ≡ Err fault → ⊥
 read fault bytes blocks reads e = let is : answer_of bytes ≡ Ok blocks = walk-Reads bytes blocks reads in cc
 
 pub only-of-answer : {X : Type 0} (view : X → List Block) (result : Result X TextFault) (bytes : List ℕ) →
-    TextGives view result (answer_of bytes) → (blocks : List Block) → Reads bytes blocks →
+    Gives text.Memory view result (answer_of bytes) → (blocks : List Block) → Reads bytes blocks →
     IfErr result (λ fault. fault ≡ text.Memory)
 only-of-answer view (Ok x) t gives blocks reads = tt
 only-of-answer view (Err text.Memory) t gives blocks reads = refl
-only-of-answer view (Err text.NoBlock) t gives blocks reads = absurd (read text.NoBlock t blocks reads gives)
-only-of-answer view (Err (text.Label n)) t gives blocks reads = absurd (read (text.Label n) t blocks reads gives)
-only-of-answer view (Err (text.Byte n)) t gives blocks reads = absurd (read (text.Byte n) t blocks reads gives)
-only-of-answer view (Err (text.Number n)) t gives blocks reads = absurd (read (text.Number n) t blocks reads gives)
-only-of-answer view (Err (text.Head n)) t gives blocks reads = absurd (read (text.Head n) t blocks reads gives)
-only-of-answer view (Err (text.Limits n)) t gives blocks reads = absurd (read (text.Limits n) t blocks reads gives)
-only-of-answer view (Err (text.Times n)) t gives blocks reads = absurd (read (text.Times n) t blocks reads gives)
+only-of-answer view (Err text.NoBlock) t gives blocks reads = absurd (read _ t blocks reads (gives (λ e. cc e)))
+only-of-answer view (Err (text.Label n)) t gives blocks reads = absurd (read _ t blocks reads (gives (λ e. cc e)))
+only-of-answer view (Err (text.Byte n)) t gives blocks reads = absurd (read _ t blocks reads (gives (λ e. cc e)))
+only-of-answer view (Err (text.Number n)) t gives blocks reads = absurd (read _ t blocks reads (gives (λ e. cc e)))
+only-of-answer view (Err (text.Head n)) t gives blocks reads = absurd (read _ t blocks reads (gives (λ e. cc e)))
+only-of-answer view (Err (text.Limits n)) t gives blocks reads = absurd (read _ t blocks reads (gives (λ e. cc e)))
+only-of-answer view (Err (text.Times n)) t gives blocks reads = absurd (read _ t blocks reads (gives (λ e. cc e)))
 
 -- a text has no fault exactly where it has a reading, and it has one at most
 pub none-reads : (bytes : List ℕ) → text_fault bytes ≡ None → (blocks : List Block) × Reads bytes blocks

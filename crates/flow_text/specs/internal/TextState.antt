@@ -1,6 +1,5 @@
 -- The state of a reading: what is wanted, the numbers since the last label, the head of the block, and the blocks.
-use Rattle.std.specs.Prelude.{◌≡◌, ℕ, ◌≤◌, true, List, [], ◌∷◌}
-use Rattle.std.specs.Prelude.{Option, None, Some, slice_index}
+use Rattle.std.specs.Prelude.{◌≡◌, ℕ, ◌≤◌, true, List, [], slice_index}
 use Rattle.flow_text.specs.Lines.{are_small}
 use Rattle.flow_text.specs.TextFaults.{are_times}
 use Rattle.flow_limits.specs.Limits.{most_jobs, most_machines, greatest_number}
@@ -9,11 +8,6 @@ use Rattle.flow_text.specs.declared.text.progress.Want.{Want}
 use Rattle.flow_text.specs.declared.text.progress.Want.TheVariants.{FirstLabel, HeadNumbers, SecondLabel, Times}
 use Rattle.flow_text.specs.declared.text.progress.Progress.{Progress}
 use Rattle.flow_text.specs.declared.text.progress.Head.{Head}
-
--- the first byte
-abbrev pub first : List ℕ → Option ℕ
-first [] = None
-first (b ∷ bs) = Some b
 
 -- the five numbers at the head of a block
 pub record Sizes : Type 0 where

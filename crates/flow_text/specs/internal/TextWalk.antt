@@ -1,6 +1,6 @@
 -- The states in which a text is read line by line. Only contracts of private functions speak of them: which blocks a
 -- text reads as stands in Text, and what its first fault is in TextFaults.
-use Rattle.std.specs.Prelude.{◌≡◌, ℕ, ◌+◌, ◌*◌, if◌then◌else◌, not, ◌==◌, nat_lt, List, [], ◌∷◌, ◌++◌}
+use Rattle.std.specs.Prelude.{◌≡◌, ◌≢◌, ℕ, ◌+◌, ◌*◌, if◌then◌else◌, not, ◌==◌, nat_lt, List, [], ◌∷◌, ◌++◌}
 use Rattle.std.specs.Prelude.{length, Result, Ok, Err}
 use Rattle.flow_text.specs.Lines.{after_blanks, is_digit, is_plain, numbers_of, are_small}
 use Rattle.flow_text.specs.TextFaults.{is_head, are_times}
@@ -18,25 +18,10 @@ abbrev pub ◌>>=◌ : {A B E : Type 0} → Result A E → (A → Result B E) �
 (Ok x) >>= f = f x
 (Err e) >>= f = Err e
 
--- the fault that a call returned for a line is what a definition gives, unless memory ran out
-abbrev pub LineFails : {Y : Type 0} → LineFault → Result Y LineFault → Type 0
-LineFails line.Memory read = Unit {0}
-LineFails e read = read ≡ Err e
-
--- what a call returned for a line, seen by a view, is what a definition gives, unless memory ran out
-abbrev pub LineGives : {X Y : Type 0} → (X → Y) → Result X LineFault → Result Y LineFault → Type 0
-LineGives view (Ok x) read = read ≡ Ok (view x)
-LineGives view (Err e) read = LineFails e read
-
--- the fault that a call returned for a text is what a definition gives, unless memory ran out
-abbrev pub TextFails : {Y : Type 0} → TextFault → Result Y TextFault → Type 0
-TextFails text.Memory read = Unit {0}
-TextFails e read = read ≡ Err e
-
--- what a call returned for a text, seen by a view, is what a definition gives, unless memory ran out
-abbrev pub TextGives : {X Y : Type 0} → (X → Y) → Result X TextFault → Result Y TextFault → Type 0
-TextGives view (Ok x) read = read ≡ Ok (view x)
-TextGives view (Err e) read = TextFails e read
+-- what a call returned, seen by a view, is what a definition gives; the fault `memory` says nothing of it
+abbrev pub Gives : {X Y E : Type 0} → E → (X → Y) → Result X E → Result Y E → Type 0
+Gives memory view (Ok x) read = read ≡ Ok (view x)
+Gives memory view (Err e) read = e ≢ memory → read ≡ Err e
 
 -- a number line's numbers, or what is wrong with its bytes
 unfoldable pub line_numbers : List ℕ → Result (List ℕ) LineFault

@@ -1,4 +1,4 @@
-//! One line of a text: where it ends, its first byte that is not blank, and its numbers.
+//! One line of a text: where it ends, what stands behind its first blanks, and its numbers.
 
 ghost use Rattle.std.specs.Prelude.{◌≡◌, ◌+◌, ◌-◌, ◌*◌, ◌<◌, ◌≤◌, ◌∷◌, true, false, length, IsTrue, None, Some};
 ghost use Rattle.std.specs.Prelude.{MatchOption};
@@ -6,8 +6,7 @@ ghost use Rattle.std.specs.Char.{digit_value};
 ghost use Rattle.std.specs.Option.{SomeIff};
 ghost use Rattle.flow_text.specs.Lines.{lines_of, is_blank, is_digit, is_plain, after_blanks};
 ghost use Rattle.flow_text.specs.StartText.{behind, ends_word};
-ghost use Rattle.flow_text.specs.internal.TextWalk.{line_numbers, LineGives};
-ghost use Rattle.flow_text.specs.internal.TextState.{first};
+ghost use Rattle.flow_text.specs.internal.TextWalk.{line_numbers, Gives};
 ghost use Rattle.flow_limits.specs.Limits.{greatest_number};
 ghost use Rattle.flow_text.specs.declared.text.fault.LineFault.TheVariants.{Byte, Number};
 
@@ -44,20 +43,8 @@ pub(crate) fn first_line(text: &[u8]) -> (&[u8], &[u8])
     text.split_at(text.len())
 }
 
-/// The first byte that is not blank.
-pub(crate) fn first_solid(line: &[u8]) -> Option<u8>
-    ensures { result ≡ first (after_blanks line.now) }
-{
-    for byte in line {
-        if !is_blank_byte(*byte) {
-            return Some(*byte);
-        }
-    }
-    None
-}
-
 /// The line without the blanks at its front.
-fn without_blanks(line: &[u8]) -> &[u8]
+pub(crate) fn without_blanks(line: &[u8]) -> &[u8]
     ensures { result.now ≡ after_blanks line.now }
 {
     for (i, byte) in line.iter().enumerate() {
@@ -116,7 +103,7 @@ fn fault_of_great(line: &[u8]) -> LineFault
 /// Replaces `numbers` by the line's numbers.
 #[tactic(auto, unfolding(crate::specs::internal::TextWalk::line_numbers))]
 pub(crate) fn numbers_in(line: &[u8], numbers: &mut Vec<u32>) -> Result<(), LineFault>
-    ensures { LineGives (λ _. numbers.new.items) result (line_numbers line.now) }
+    ensures { Gives LineFault.Memory (λ _. numbers.new.items) result (line_numbers line.now) }
 {
     numbers.clear();
     let mut begun: Option<u32> = None;

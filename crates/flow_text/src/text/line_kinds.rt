@@ -6,12 +6,12 @@ ghost use Rattle.flow_text.specs.internal.TextWalk.{after_label, after_head_numb
 ghost use Rattle.flow_text.specs.internal.TextState.{state_of, start};
 ghost use Rattle.flow_text.specs.internal.TextWalk.{after_numbers, after_line, at_end};
 ghost use Rattle.flow_text.specs.internal.TextState.{sizes_of, sizes, SizesFit};
-ghost use Rattle.flow_text.specs.internal.TextWalk.{LineGives, TextGives};
+ghost use Rattle.flow_text.specs.internal.TextWalk.{Gives};
 ghost use Rattle.flow_text.specs.internal.TextState.{Keeps};
 
 use crate::text::block::Block;
 use crate::text::fault::{LineFault, TextFault};
-use crate::text::line::{first_solid, numbers_in};
+use crate::text::line::{numbers_in, without_blanks};
 use crate::text::progress::{Head, Progress, Want};
 use flow_limits::{MAX_TIME, may_have_jobs, may_have_machines};
 use flow_shop::Instance;
@@ -59,7 +59,7 @@ fn head_of(numbers: &[u32]) -> Option<Head>
 /// Takes a label line in; or returns the line's fault.
 #[tactic(auto, unfolding(crate::specs::internal::TextWalk::after_label))]
 fn take_label(progress: &mut Progress) -> Result<(), LineFault>
-    ensures { LineGives (λ _. state_of progress.new) result (after_label (state_of progress.old)) }
+    ensures { Gives LineFault.Memory (λ _. state_of progress.new) result (after_label (state_of progress.old)) }
 {
     match progress.want {
         Want::FirstLabel => {
@@ -80,7 +80,7 @@ fn take_label(progress: &mut Progress) -> Result<(), LineFault>
 /// Takes more numbers of a head in; or returns the fault of their line.
 #[tactic(auto, unfolding(crate::specs::internal::TextWalk::after_head_numbers))]
 fn take_head_numbers(progress: &mut Progress, new: &[u32]) -> Result<(), LineFault>
-    ensures { LineGives (λ _. state_of progress.new) result
+    ensures { Gives LineFault.Memory (λ _. state_of progress.new) result
         (after_head_numbers (state_of progress.old) (progress.old.numbers.items ++ new.now)) }
 {
     progress.numbers.extend_from_slice(new)?;
@@ -114,7 +114,7 @@ fn are_within_limit(times: &[u32]) -> bool
 fn take_times(alloc: Global, progress: &mut Progress, new: &[u32]) -> Result<(), LineFault>
     requires head { SizesFit (sizes progress.old.head) }
     requires times { are_times progress.old.numbers.items ≡ true }
-    ensures { LineGives (λ _. state_of progress.new) result
+    ensures { Gives LineFault.Memory (λ _. state_of progress.new) result
         (after_times (state_of progress.old) new.now (progress.old.numbers.items ++ new.now)) }
 {
     let head = progress.head;
@@ -151,7 +151,7 @@ fn take_numbers(
     numbers: &mut Vec<u32>,
 ) -> Result<(), LineFault>
     requires { Keeps (state_of progress.old) }
-    ensures { LineGives (λ _. state_of progress.new) result (after_numbers (state_of progress.old) line.now) }
+    ensures { Gives LineFault.Memory (λ _. state_of progress.new) result (after_numbers (state_of progress.old) line.now) }
 {
     match progress.want {
         Want::FirstLabel => Err(LineFault::Label),
@@ -176,9 +176,9 @@ pub(crate) fn take_line(
     numbers: &mut Vec<u32>,
 ) -> Result<(), LineFault>
     requires { Keeps (state_of progress.old) }
-    ensures { LineGives (λ _. state_of progress.new) result (after_line (state_of progress.old) line.now) }
+    ensures { Gives LineFault.Memory (λ _. state_of progress.new) result (after_line (state_of progress.old) line.now) }
 {
-    match first_solid(line) {
+    match without_blanks(line).first() {
         None => Ok(()),
         Some(byte) => {
             if byte.is_ascii_digit() {
@@ -193,7 +193,7 @@ pub(crate) fn take_line(
 /// The blocks, if the text may end here; else what is missing. `line` is the number of lines plus 1.
 #[tactic(auto, unfolding(crate::specs::internal::TextWalk::at_end))]
 pub(crate) fn finish(progress: Progress, line: usize) -> Result<Vec<Block>, TextFault>
-    ensures { TextGives (λ blocks. blocks.items) result (at_end (state_of progress) line) }
+    ensures { Gives TextFault.Memory (λ blocks. blocks.items) result (at_end (state_of progress) line) }
 {
     match progress.want {
         Want::FirstLabel => {

@@ -4,7 +4,7 @@ ghost use Rattle.std.specs.Prelude.{◌≡◌, ◌≢◌, List, None, Some, IfOk
 ghost use Rattle.flow_text.specs.Lines.{lines_of};
 ghost use Rattle.flow_text.specs.Text.{Reads};
 ghost use Rattle.flow_text.specs.TextFaults.{text_fault};
-ghost use Rattle.flow_text.specs.internal.TextWalk.{walk, TextGives};
+ghost use Rattle.flow_text.specs.internal.TextWalk.{walk, Gives};
 ghost use Rattle.flow_text.specs.internal.TextState.{start};
 ghost use Rattle.flow_text.specs.declared.text.block.Block.{Block};
 ghost use Rattle.flow_text.specs.declared.text.fault.TextFault.TheVariants.{Memory};
@@ -29,7 +29,7 @@ pub fn read_blocks(alloc: Global, text: &[u8]) -> Result<Vec<Block>, TextFault>
 /// Reads the text line by line. The contract speaks of the states between the lines.
 #[tactic(auto, unfolding(crate::specs::internal::TextWalk::walk))]
 fn walk_text(alloc: Global, text: &[u8]) -> Result<Vec<Block>, TextFault>
-    ensures { TextGives (λ blocks. blocks.items) result (walk start 0 (lines_of text.now)) }
+    ensures { Gives TextFault.Memory (λ blocks. blocks.items) result (walk start 0 (lines_of text.now)) }
 {
     let mut progress = begin(alloc);
     let mut numbers = Vec::new(alloc);

@@ -7,7 +7,7 @@ ghost use Rattle.flow_text.specs.internal.StartSteps.{IsOfLine, claim_of, number
 ghost use Rattle.flow_text.specs.declared.text.start.StartFault.TheVariants.{Memory};
 
 use crate::text::fault::LineFault;
-use crate::text::line::{behind_word, first_line, first_solid, numbers_in};
+use crate::text::line::{behind_word, first_line, numbers_in, without_blanks};
 use std::alloc::{AllocError, AllocFailed, Global};
 use thiserror::Error;
 
@@ -91,7 +91,7 @@ fn first_solid_line(text: &[u8], from: usize) -> Result<Solid, usize>
     let mut number = from;
     while !rest.is_empty() {
         let (line, behind) = first_line(rest);
-        if first_solid(line).is_some() {
+        if !without_blanks(line).is_empty() {
             return Ok(Solid {
                 number,
                 bytes: line,

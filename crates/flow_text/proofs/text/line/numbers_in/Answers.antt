@@ -23,7 +23,7 @@ returns-in-None-with_digit c =
     (search rules) c.loop-byte.invariant.split in
     let large = large-all _ _ c.args.line.now n i (rw (← c.unwrap_or.ensures) (omega
     (arith, c.in-None-with_digit.ensures))) next in
-    line_numbers-great _ _ large c.fault_of_great.ensures.plain c.fault_of_great.ensures.other
+    λ _. line_numbers-great _ _ large c.fault_of_great.ensures.plain c.fault_of_great.ensures.other
 
 pub loop-byte-preserved : goal.loop-byte-preserved
 loop-byte-preserved c = elim c.if-is_blank_byte.branch [
