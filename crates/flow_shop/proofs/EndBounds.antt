@@ -11,9 +11,9 @@ use Rattle.flow_shop.specs.Ends.{head, tail, front, back, end_bound_at, end_boun
 use Rattle.flow_shop.specs.Ends.{EndBoundIsAdmissible, EndBoundIsExact}
 use Rattle.flow_shop.proofs.Extremes.{range-le-greatest, greatest-range-le}
 use Rattle.flow_shop.proofs.Recurrence.{after, completed, completion-is, completed-attained, weight-le-completed}
-use Rattle.flow_shop.proofs.Recurrence.{completed-zero, after-first, after-same, path-up, path-le-greatest}
-use Rattle.flow_shop.proofs.Recurrence.{greatest-path-le}
+use Rattle.flow_shop.proofs.Recurrence.{completed-zero, after-first, after-same, path-up}
 use Rattle.flow_shop.proofs.Admissible.{completed-append, after-here, after-later}
+use Rattle.flow_shop.proofs.PathTails.{weight-le-tail, tail-below}
 use Rattle.flow_shop.proofs.JobsLeft.{InRange, InRange-first, InRange-rest, in-range, sequence-has, least-le}
 use Rattle.flow_shop.proofs.LeastFound.{in-order}
 use Rattle.flow_shop.proofs.NodeJobs.{sum-between}
@@ -88,8 +88,7 @@ pub through : (shop : Shop) (free : ℕ → ℕ) (j : ℕ) (js : List ℕ) (k : 
     InRange shop.jobs (j ∷ js) → free k + back shop (j ∷ js) k ≤ completed shop free (j ∷ js) shop.machines
 through shop free j js k low high range =
     let m : ℕ = shop.machines in
-    let path = greatest-path-le (weight shop (j ∷ js) k) (length (j ∷ js)) k m
-    (completed shop free (j ∷ js) m - free k)
+    let path = tail-below shop (j ∷ js) k (completed shop free (j ∷ js) m - free k)
     (λ machines e path. omega (arith, weight-le-completed shop free (j ∷ js) machines k m low e path)) in
     omega (arith, path, along shop free (j ∷ js) k low, to-end shop free (j ∷ js) k high (omega arith) range)
 
@@ -98,7 +97,7 @@ pub back-above : (shop : Shop) (jobs machines : List ℕ) (k : ℕ) → length m
     IsPath k machines shop.machines → weight shop jobs k machines ≤ back shop jobs k
 back-above shop [] machines k e path = omega arith
 back-above shop (j ∷ js) machines k e path =
-    path-le-greatest (weight shop (j ∷ js) k) (length (j ∷ js)) machines k shop.machines e path
+    weight-le-tail shop (j ∷ js) machines k e path
 
 -- no sequence is below
 

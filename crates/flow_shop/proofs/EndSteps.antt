@@ -1,22 +1,22 @@
 -- Fronts, backs and the jobs left of a node once a job is put at an end.
-use Rattle.std.proofs.Common.{◌≡◌, ℕ, suc, ◌+◌, ◌-◌, ◌<◌, ◌≤◌, max, Bool, true, false, not, ◌||◌, nat_eq, List, []}
+use Rattle.std.proofs.Common.{◌≡◌, ℕ, suc, ◌+◌, ◌<◌, ◌≤◌, max, Bool, true, false, not, ◌||◌, nat_eq, List, []}
 use Rattle.std.proofs.Common.{◌∷◌, ◌++◌, length, refl, ap, sym, ◌∙◌, inl, inr, arith, add-one}
 use Rattle.std.specs.List.{sum_by}
 use Rattle.std.proofs.lemmas.Bool.{cases_lt}
 use Rattle.std.proofs.lemmas.List.Elements.{recursion_from_All}
 use Rattle.std.proofs.lemmas.List.Folds.{list_any-append}
 use Rattle.flow_shop.specs.Shop.{Shop, time, time_between}
-use Rattle.flow_shop.specs.Paths.{IsPath, weight}
 use Rattle.flow_shop.specs.Sequences.{has, jobs_left}
 use Rattle.flow_shop.specs.declared.end.End.{End}
 use Rattle.flow_shop.specs.declared.end.End.TheVariants.{Front, Back}
-use Rattle.flow_shop.specs.Ends.{head, front, back, FrontByRecurrence, BackByRecurrence}
+use Rattle.flow_shop.specs.Ends.{head, tail, front, path_tail, back, FrontByRecurrence, BackByRecurrence}
 use Rattle.flow_shop.specs.Directions.{first_with, last_with}
-use Rattle.flow_shop.proofs.Recurrence.{after, completed, completed-push, after-same, greatest-path-le}
-use Rattle.flow_shop.proofs.Recurrence.{path-up, time_between-first, time_between-none}
+use Rattle.flow_shop.proofs.Recurrence.{after, completed, completed-push, after-same}
+use Rattle.flow_shop.proofs.Recurrence.{time_between-first, time_between-none}
 use Rattle.flow_shop.proofs.JobsLeft.{InRange, range-push, filter-same}
 use Rattle.flow_shop.proofs.Taken.{has-push, left-sum, left-count}
-use Rattle.flow_shop.proofs.EndBounds.{front-is, back-above, tail-le}
+use Rattle.flow_shop.proofs.EndBounds.{front-is, tail-le}
+use Rattle.flow_shop.proofs.PathTails.{weight-le-tail, tail-none, tail-past, tail-step}
 
 -- fronts
 
@@ -30,104 +30,34 @@ front-after shop first job k range low high =
 
 -- backs
 
--- a path that stays on a machine
-stay : (jobs : List ℕ) (m : ℕ) → (machines : List ℕ) × (length machines ≡ length jobs) × IsPath m machines m
-stay [] m = ([], refl, refl)
-stay (j ∷ js) m = let more = stay js m in (m ∷ more.0, ap suc more.1, (omega arith, more.2))
-
-pub back-within : (shop : Shop) (jobs : List ℕ) (job k bound : ℕ) →
-    ((machines : List ℕ) → length machines ≡ length (job ∷ jobs) → IsPath k machines shop.machines →
-    weight shop (job ∷ jobs) k machines ≤ bound) → back shop (job ∷ jobs) k ≤ bound
-back-within shop jobs job k bound each =
-    greatest-path-le (weight shop (job ∷ jobs) k) (length (job ∷ jobs)) k shop.machines bound each
-
--- a first machine, and a path from there
-with-first : (shop : Shop) (last machines : List ℕ) (job k b : ℕ) → k ≤ b → length machines ≡ length last →
-    IsPath b machines shop.machines →
-    time_between shop job k b + weight shop last b machines ≤ back shop (job ∷ last) k
-with-first shop last machines job k b up e path = back-above shop (job ∷ last) (b ∷ machines) k (ap suc e) (up, path)
-
--- at the job's own end
-to-last : (shop : Shop) (last : List ℕ) (job k : ℕ) → k ≤ shop.machines →
-    time_between shop job k shop.machines ≤ back shop (job ∷ last) k
-to-last shop last job k high =
-    let path = stay last shop.machines in
-    omega (arith, with-first shop last path.0 job k shop.machines high path.1 path.2)
-
 pub time-alone : (shop : Shop) (job k : ℕ) → time_between shop job k k ≡ time shop job k
 time-alone shop job k =
     omega (arith, time_between-first shop job k k (omega arith), time_between-none shop job (k + 1) k (omega arith))
 
--- the jobs behind go on where the job ends
-back-later : (shop : Shop) (last : List ℕ) (job k : ℕ) → 1 ≤ job → job ≤ shop.jobs → k ≤ shop.machines →
-    back shop last k + time shop job k ≤ back shop (job ∷ last) k
-back-later shop [] job k low to high =
-    omega (
-      arith,
-      to-last shop [] job k high,
-      tail-le shop job k low to,
-      time_between-first shop job k shop.machines high,
-    )
-back-later shop (j ∷ js) job k low to high =
-    let each = back-within shop js j k (back shop (job ∷ j ∷ js) k - time shop job k) (λ machines e path.
-    omega (arith, with-first shop (j ∷ js) machines job k k (omega arith) e path, time-alone shop job k)) in
-    omega (arith, each, to-last shop (j ∷ js) job k high, time_between-first shop job k shop.machines high)
-
--- the job goes on to the next machine
-back-next : (shop : Shop) (last : List ℕ) (job k : ℕ) → k ≤ shop.machines →
-    back shop (job ∷ last) (k + 1) + time shop job k ≤ back shop (job ∷ last) k
-back-next shop last job k high =
-    let each = back-within shop last job (k + 1) (back shop (job ∷ last) k - time shop job k) at in
-    omega (arith, each, to-last shop last job k high, time_between-first shop job k shop.machines high)
-  where
-    at : (machines : List ℕ) → length machines ≡ length (job ∷ last) → IsPath (k + 1) machines shop.machines →
-        weight shop (job ∷ last) (k + 1) machines ≤ back shop (job ∷ last) k - time shop job k
-    at [] e path = absurd (omega arith)
-    at (b ∷ bs) e path =
-        let up : k + 1 ≤ b = path.0 in
-        omega (
-          arith,
-          with-first shop last bs job k b (omega arith) (omega arith) path.1,
-          time_between-first shop job k b (omega arith),
-        )
-
-back-most : (shop : Shop) (last : List ℕ) (job k : ℕ) → k ≤ shop.machines →
-    back shop (job ∷ last) k ≤ max (back shop (job ∷ last) (k + 1)) (back shop last k) + time shop job k
-back-most shop last job k high =
-    back-within shop last job k (max (back shop (job ∷ last) (k + 1)) (back shop last k) + time shop job k) at
-  where
-    at : (machines : List ℕ) → length machines ≡ length (job ∷ last) → IsPath k machines shop.machines →
-        weight shop (job ∷ last) k machines
-        ≤ max (back shop (job ∷ last) (k + 1)) (back shop last k) + time shop job k
-    at [] e path = absurd (omega arith)
-    at (b ∷ bs) e path =
-        elim (cases_lt k b) [
-          | inl above ↦
-              let next = with-first shop last bs job (k + 1) b (omega arith) (omega arith) path.1 in
-              omega (arith, next, time_between-first shop job k b (omega arith))
-          | inr below ↦
-              let up : k ≤ b = path.0 in
-              let same : b ≡ k = omega arith in
-              let between : time_between shop job k b ≡ time_between shop job k k = ap (time_between shop job k) same in
-              let rest : weight shop last b bs ≤ back shop last b = back-above shop last bs b (omega arith) path.1 in
-              omega (arith, between, time-alone shop job k, rest, ap (back shop last) same)
-        ]
+-- the tail of a machine is no greater than the path tail of a job from the next one
+tail-within : (shop : Shop) (job k : ℕ) → 1 ≤ job → job ≤ shop.jobs → k ≤ shop.machines →
+    tail shop k ≤ path_tail shop (job ∷ []) (k + 1)
+tail-within shop job k low to high =
+    elim (cases_lt k shop.machines) [
+      | inl before ↦
+          let path = weight-le-tail shop (job ∷ []) (shop.machines ∷ []) (k + 1) refl (omega arith, refl) in
+          omega (arith, tail-le shop job k low to, path)
+      | inr last ↦
+          omega (
+            arith,
+            tail-le shop job k low to,
+            time_between-none shop job (k + 1) shop.machines (omega (arith, last)),
+          )
+    ]
 
 pub back-past : (shop : Shop) (last : List ℕ) (job k : ℕ) → shop.machines < k → back shop (job ∷ last) k ≡ 0
-back-past shop last job k past =
-    let none = back-within shop last job k 0
-    (λ machines e path. absurd (omega (arith, past, path-up machines k shop.machines path))) in
-    omega (arith, none)
+back-past shop last job k past = tail-past shop job last k past
 
 pub back-is : (shop : Shop) (last : List ℕ) (job k : ℕ) → 1 ≤ job → job ≤ shop.jobs → k ≤ shop.machines →
     back shop (job ∷ last) k ≡ max (back shop (job ∷ last) (k + 1)) (back shop last k) + time shop job k
-back-is shop last job k low to high =
-    omega (
-      arith,
-      back-most shop last job k high,
-      back-later shop last job k low to high,
-      back-next shop last job k high,
-    )
+back-is shop [] job k low to high =
+    omega (arith, tail-step shop job [] k high, tail-none shop k, tail-within shop job k low to high)
+back-is shop (j ∷ js) job k low to high = omega (arith, tail-step shop job (j ∷ js) k high)
 
 -- the jobs left
 

@@ -16,6 +16,7 @@ pub mod RowSteps
 pub mod Lists
 pub mod LeastFound
 pub mod NodeJobs
+pub mod PathTails
 pub mod EndBounds
 pub mod EndSteps
 pub mod DirectionsSound

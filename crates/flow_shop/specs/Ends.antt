@@ -21,12 +21,16 @@ abbrev pub front : Shop → List ℕ → ℕ → ℕ
 front shop [] machine = head shop machine
 front shop (job ∷ jobs) machine = completion shop (job ∷ jobs) machine
 
--- the back of a last list on a machine: the greatest weight of a path over the list from this machine to the last one;
--- the tail where the list is empty (tied: ends_by_recurrence)
+-- the path tail of a list from a machine: the greatest weight of a path over the list from there to the last machine
+-- (law: span_is_of_fronts_and_tails of flow_bound)
+abbrev pub path_tail : Shop → List ℕ → ℕ → ℕ
+path_tail shop jobs machine = greatest (map (weight shop jobs machine) (paths (length jobs) machine shop.machines))
+
+-- the back of a last list on a machine: its path tail from there; the tail of the machine where the list is empty
+-- (tied: ends_by_recurrence)
 abbrev pub back : Shop → List ℕ → ℕ → ℕ
 back shop [] machine = tail shop machine
-back shop (job ∷ jobs) machine =
-    greatest (map (weight shop (job ∷ jobs) machine) (paths (length (job ∷ jobs)) machine shop.machines))
+back shop (job ∷ jobs) machine = path_tail shop (job ∷ jobs) machine
 
 -- the bound of a node on a machine: its front, plus the times of the jobs in neither list, plus its back
 -- (law: end_bound_is_admissible, end_bound_is_exact)

@@ -5,9 +5,9 @@ use Rattle.std.proofs.lemmas.List.{get_or-set_other}
 use Rattle.flow_limits.specs.Limits.{most_machines, greatest_completion}
 use Rattle.flow_shop.specs.Shop.{time}
 use Rattle.flow_shop.proofs.Fronts.{time-small}
-use Rattle.flow_bound.specs.Insertion.{tail}
+use Rattle.flow_shop.specs.Ends.{path_tail}
 use Rattle.flow_bound.specs.internal.Tails.{AreTails}
-use Rattle.flow_bound.proofs.FrontsAndTails.{tail-past, tail-step}
+use Rattle.flow_shop.proofs.PathTails.{tail-past, tail-step}
 use Rattle.flow_bound.proofs.Rests.{written}
 use Rattle.flow_bound.proofs.start.insertion.push_tails.Goals as goal
 
@@ -17,8 +17,8 @@ loop-place-init c = record {
   row_length = grind (arith, common_steps);
   length = grind (arith, common_steps);
   small = omega (arith, c.machines-place.ensures.value);
-  behind = λ jobs are. sym (ap (λ n. tail c.args.instance.now (c.args.job ∷ jobs) (n
-      + 1)) c.machines-place.ensures.value ∙ tail-past c.args.instance.now c.args.job jobs);
+  behind = λ jobs are. sym (ap (λ n. path_tail c.args.instance.now (c.args.job ∷ jobs) (n
+      + 1)) c.machines-place.ensures.value ∙ tail-past c.args.instance.now c.args.job jobs (c.args.instance.now.machines + 1) (omega arith));
   done = λ jobs are machine low high. absurd (omega (arith, c.machines-place.ensures.value));
   written = λ jobs are machine low high. absurd (omega (arith, c.machines-place.ensures.value));
   others = λ place low. refl;
@@ -61,7 +61,7 @@ loop-place-preserved c =
     let old_small : slice_index c.args.tails.now (place - 1) ≤ greatest_completion =
     c.requires.within (place - 1) (omega (arith, before.within)) in
     let value : (jobs : List ℕ) → AreTails shop jobs c.args.tails.now →
-    c.max.result + from_time ≡ tail shop (c.args.job ∷ jobs) place =
+    c.max.result + from_time ≡ path_tail shop (c.args.job ∷ jobs) place =
     λ jobs are. omega (
       arith,
       c.max.ensures,
@@ -86,11 +86,11 @@ loop-place-preserved c =
         time-small shop c.args.job place c.machines-place.ensures.limits,
         c.max.ensures,
       );
-      behind = λ jobs are. value jobs are ∙ ap (tail shop (c.args.job ∷ jobs)) (sym here);
-      done = λ jobs are. written (tail shop (c.args.job ∷ jobs)) c.loop-place.tails place (c.max.result + from_time)
+      behind = λ jobs are. value jobs are ∙ ap (path_tail shop (c.args.job ∷ jobs)) (sym here);
+      done = λ jobs are. written (path_tail shop (c.args.job ∷ jobs)) c.loop-place.tails place (c.max.result + from_time)
           shop.machines (omega arith) (omega (arith, before.length, before.within)) (value jobs are)
           (before.done jobs are);
-      written = λ jobs are. written (tail shop (c.args.job ∷ jobs)) c.loop-place.row place (c.max.result + from_time)
+      written = λ jobs are. written (path_tail shop (c.args.job ∷ jobs)) c.loop-place.row place (c.max.result + from_time)
           shop.machines (omega arith) (omega (arith, before.row_length, before.within)) (value jobs are)
           (before.written jobs are);
       others = λ k low. let other : k ≢ place - 1 = omega arith in rw get_or-set_other (before.others k (omega arith));
