@@ -60,22 +60,24 @@ known-more shop list node left machine two limits is from to low = record {
     each = λ k low_k high_k. elim (eqb_tells k machine) [
       | inl same ↦
           let most : shop.machines ≤ most_machines = limits.machines in
-          let a : two.least ≡ slice_index (set node.tails.least (machine - 1) two.least) (k - 1) = sym (ap (λ i. slice_index
-          (set node.tails.least (machine - 1) two.least) (i - 1)) same.1
-          ∙ get_or-set_same node.tails.least (machine - 1) two.least 0 (omega
-          (arith, is.known.least_size, from, to, most))) in
-          let b : two.second ≡ slice_index (set node.tails.second (machine - 1) two.second) (k - 1) = sym (ap
-          (λ i. slice_index (set node.tails.second (machine - 1) two.second) (i - 1)) same.1
-          ∙ get_or-set_same node.tails.second (machine - 1) two.second 0 (omega
-          (arith, is.known.second_size, from, to, most))) in
+          let a : slice_index (set node.tails.least (machine - 1) two.least) (k - 1) ≡ two.least =
+          ap (λ i. slice_index (set node.tails.least (machine - 1) two.least) (i - 1)) same.1
+          ∙ get_or-set_same node.tails.least (machine - 1) two.least 0
+          (omega (arith, is.known.least_size, from, to, most)) in
+          let b : slice_index (set node.tails.second (machine - 1) two.second) (k - 1) ≡ two.second =
+          ap (λ i. slice_index (set node.tails.second (machine - 1) two.second) (i - 1)) same.1
+          ∙ get_or-set_same node.tails.second (machine - 1) two.second 0
+          (omega (arith, is.known.second_size, from, to, most)) in
           let here : AreTwoLeastTails shop list k two = subst (λ i. AreTwoLeastTails shop list i two)
           (sym same.1) low in
-          inr (sym a ∙ here.0, sym b ∙ here.1)
+          inr (a ∙ here.0, b ∙ here.1)
       | inr other ↦
           let apart : k - 1 ≢ machine - 1 = omega (arith, other.1, low_k, from) in
-          let a : slice_index (set node.tails.least (machine - 1) two.least) (k - 1) ≡ slice_index node.tails.least (k - 1) =
+          let a : slice_index (set node.tails.least (machine - 1) two.least) (k - 1)
+          ≡ slice_index node.tails.least (k - 1) =
           get_or-set_other node.tails.least (machine - 1) (k - 1) two.least 0 apart in
-          let b : slice_index (set node.tails.second (machine - 1) two.second) (k - 1) ≡ slice_index node.tails.second (k - 1) =
+          let b : slice_index (set node.tails.second (machine - 1) two.second) (k - 1)
+          ≡ slice_index node.tails.second (k - 1) =
           get_or-set_other node.tails.second (machine - 1) (k - 1) two.second 0 apart in
           elim (is.known.each k low_k high_k) [
             | inl none ↦ inl (a ∙ none)
