@@ -64,15 +64,6 @@ module _ (shop : Shop) (number budget : ℕ) (first last : List ℕ) (are : AreJ
   sequence-fits (Below sequence makespan text) is = omega (arith, sequence-whole sequence makespan text is)
   sequence-fits (Rest text parts) is = omega arith
 
-  -- there are no more directions than the budget
-  pub directions-fit : (advanced : Advanced) → IsAdvanced shop number budget first last advanced →
-      (found makespan : ℕ) (jobs directions rest : List ℕ) → IsTold advanced found jobs makespan directions rest →
-      length directions ≤ budget
-  directions-fit (Proved text) is found makespan jobs directions rest told = omega (arith, is.2, ap length told.2)
-  directions-fit (Below sequence value text) is found makespan jobs directions rest told =
-      omega (arith, is.0.3, ap length told.2)
-  directions-fit (Rest text parts) is found makespan jobs directions rest told = omega (arith, is.1, ap length told.2)
-
   -- directions that are told to prove the number do so
   pub proved-shown : (advanced : Advanced) → IsAdvanced shop number budget first last advanced →
       (told_as makespan : ℕ) (jobs directions rest : List ℕ) → IsTold advanced told_as jobs makespan directions rest →
@@ -144,12 +135,6 @@ module _ (shop : Shop) (number budget : ℕ) (node : NodeLists)
   come-fits told (advanced, is, (by, same)) =
       subst (λ xs. length xs ≤ shop.jobs) (sym same)
       (sequence-fits shop number budget node.first.now node.last.now are advanced is)
-
-  -- there are no more directions than the budget
-  pub come-few : (told : Searched) → IsComeTo shop number budget node told → length told.directions.items ≤ budget
-  come-few told (advanced, is, (by, same)) =
-      directions-fit shop number budget node.first.now node.last.now are advanced is told.found told.makespan
-      told.sequence.items told.directions.items told.rest.items by
 
   -- it has no sequence, or a whole one
   pub come-whole : (told : Searched) → IsComeTo shop number budget node told →
