@@ -1,28 +1,16 @@
 -- What a command does that reads nothing, by what it answers and what the sink took.
-use Rattle.std.proofs.Common.{◌≡◌, ◌⊎◌, refl, inl, inr, List, ℕ, Result, Ok, Err, true}
+use Rattle.std.proofs.Common.{◌≡◌, refl, inl, inr, List, ℕ, Result, Ok, Err, true}
 use Rattle.std.specs.Prelude.{IfErr, OnOk}
 use Rattle.flow_core.specs.Bytes.{AddsProperPrefix}
 use Rattle.flow_core.specs.declared.bytes.fault.WriteFault.{WriteFault}
 use Rattle.flow_core.specs.declared.bytes.fault.WriteFault.TheVariants as write
 use Rattle.flow_commands.specs.Output.{Output}
-use Rattle.flow_commands.specs.internal.Devices.{NamesNoDevice}
-use Rattle.flow_commands.specs.Runs.{EndsAlone, IsUnwritten, Responds, SinkRun, Took, Wrote}
+use Rattle.flow_commands.specs.Runs.{EndsAlone, Responds, SinkRun, Took, Wrote}
 use Rattle.flow_commands.specs.declared.refusals.CommandFault.{CommandFault}
 use Rattle.flow_commands.specs.declared.refusals.CommandFault.TheVariants as command
 
 write-is : (fault : WriteFault) → command.Write fault ≡ command.Write write.Device
 write-is write.Device = refl
-
--- nothing was written, since there is no text to write
-pub not-written : {K A : Type 0} (Answers : Output → Type 0) (sink : SinkRun K) (fault : CommandFault) →
-    IsUnwritten sink → (sink.has_failed sink.after ≡ true → ⊥) → (fault ≡ command.Memory) ⊎ Answers (Err fault) →
-    NamesNoDevice {T = A} (Err fault) → Responds Answers sink (Err fault)
-not-written Answers sink fault unwritten works why no_device = record {
-  written = tt;
-  ended = inl (unwritten, why);
-  write_device = (λ named. absurd (no_device.1 (cc named)), λ failed. absurd (works failed));
-  reads_nothing = λ named. no_device.0 (cc named);
-}
 
 -- the sink refused
 pub part-written : {K : Type 0} (Answers : Output → Type 0) (sink : SinkRun K) (fault : WriteFault) (text : List ℕ) →

@@ -32,10 +32,10 @@ fn proved_line(alloc: Global, bounds: Bounds) -> Result<Vec<u8>, AllocError>
 }
 
 /// The kind as which bytes are read: a certificate, where two-ended certificates are not accepted.
-fn kind_among(bytes: &[u8], bounds: bool) -> TextKind
-    ensures { IsTakenAs bounds bytes.now result }
+fn kind_among(bytes: &[u8], two_ended: bool) -> TextKind
+    ensures { IsTakenAs two_ended bytes.now result }
 {
-    if bounds {
+    if two_ended {
         kind_of(bytes)
     } else {
         TextKind::Certificate
