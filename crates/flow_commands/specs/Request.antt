@@ -17,10 +17,10 @@ use Rattle.flow_commands.specs.declared.files.FileKind.{FileKind}
 use Rattle.flow_commands.specs.declared.files.FileKind.TheVariants as file
 
 -- as what the second file of a request is read
-abbrev pub kind_of : Request → FileKind
-kind_of (Check request) = file.Certificate
-kind_of (Schedule form) = file.StartOrCertificate
-kind_of request = file.Text
+abbrev pub second_kind : Request → FileKind
+second_kind (Check request) = file.Certificate
+second_kind (Schedule form) = file.StartOrCertificate
+second_kind request = file.Text
 
 -- what is answered for a request, for a block and the bytes of a second file where there is one
 abbrev pub answers : Request → Origin → Option (List ℕ) → Output → Type 0

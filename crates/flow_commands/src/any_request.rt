@@ -2,7 +2,7 @@
 
 ghost use Rattle.std.specs.Prelude.{◌≡◌, false, OnOk, is_some};
 ghost use Rattle.std.specs.Option.{ForSome};
-ghost use Rattle.flow_commands.specs.Request.{SaysTrue, answers, kind_of};
+ghost use Rattle.flow_commands.specs.Request.{SaysTrue, answers, second_kind};
 ghost use Rattle.flow_commands.specs.Runs.{CameBoth, Ran, run_of, second_run, sink_run, source_run};
 
 use crate::certify::run_certify;
@@ -43,8 +43,8 @@ impl<'a, W: Watch> Watch for IfAsked<'a, W> {
 }
 
 /// The kind of the second file that a request reads.
-fn kind_of(request: &Request) -> FileKind
-    ensures { result ≡ kind_of request.now }
+fn second_kind(request: &Request) -> FileKind
+    ensures { result ≡ second_kind request.now }
 {
     match request {
         Request::Check(_) => FileKind::Certificate,
@@ -68,12 +68,12 @@ fn run_command<R: Threads + Wait + Sync, S: Source, T: Source, W: Watch, K: Sink
     requires file_works { S.has_failed file.old ≡ false }
     requires second_works { ForSome second.old (λ source. T.has_failed source ≡ false) }
     requires out_works { K.has_failed out.old ≡ false }
-    ensures ran { Ran (kind_of request.now) (answers request.now) index
+    ensures ran { Ran (second_kind request.now) (answers request.now) index
         (run_of (source_run S.Source file.old file.new) (second_run T.Source second.old second.new)
         (sink_run K.Sink out.old out.new)) result }
     ensures stays { is_some second.new ≡ is_some second.old }
 {
-    let kind = kind_of(request);
+    let kind = second_kind(request);
     match request {
         Request::Span { jobs } => {
             let command = Printed(Span {
@@ -119,10 +119,10 @@ pub fn run_request<R: Threads + Wait + Sync, S: Source, T: Source, W: Watch, K: 
     requires file_works { S.has_failed file.old ≡ false }
     requires second_works { ForSome second.old (λ source. T.has_failed source ≡ false) }
     requires out_works { K.has_failed out.old ≡ false }
-    ensures ran { Ran (kind_of request.now) (answers request.now) index
+    ensures ran { Ran (second_kind request.now) (answers request.now) index
         (run_of (source_run S.Source file.old file.new) (second_run T.Source second.old second.new)
         (sink_run K.Sink out.old out.new)) result }
-    ensures proved { OnOk result (CameBoth (kind_of request.now) index
+    ensures proved { OnOk result (CameBoth (second_kind request.now) index
         (λ origin given. SaysTrue request.now origin given (sink_run K.Sink out.old out.new))
         (run_of (source_run S.Source file.old file.new) (second_run T.Source second.old second.new)
         (sink_run K.Sink out.old out.new))) }

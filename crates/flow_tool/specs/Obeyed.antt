@@ -4,7 +4,7 @@ use Rattle.flow_text.specs.declared.bytes.device.Source as sources
 use Rattle.flow_requests.specs.declared.Invocation.{Invocation}
 use Rattle.flow_requests.specs.declared.Invocation.TheVariants.{Gen, OfBlock}
 use Rattle.flow_commands.specs.Generate.{AnswersGen}
-use Rattle.flow_commands.specs.Request.{answers, kind_of}
+use Rattle.flow_commands.specs.Request.{answers, second_kind}
 use Rattle.flow_commands.specs.Runs.{IsUnwritten, Ran, Responds, SinkRun, run_of}
 use Rattle.flow_commands.specs.declared.refusals.CommandFault.{CommandFault}
 use Rattle.flow_tool.specs.Inputs.{Names, RefusedSecond, RefusedText, RunOfSecond, RunOfText}
@@ -30,4 +30,4 @@ Obeys standard file names (OfBlock name index second request) sink result =
     ⊎ RunOfText standard file names name.now (λ text.
     (IsErrOf result Open × RefusedSecond names second × (text.after ≡ text.before) × IsUnwritten sink)
     ⊎ RunOfSecond file names second (λ given.
-    EndsAs (Ran (kind_of request) (answers request) index (run_of text given sink)) result))
+    EndsAs (Ran (second_kind request) (answers request) index (run_of text given sink)) result))
