@@ -2,18 +2,18 @@
 -- The sequences of the node have the other jobs, in any order, between the two.
 use Rattle.std.specs.Prelude.{ℕ, ◌≡◌, ◌+◌, ◌-◌, ◌≤◌, List, [], ◌∷◌, ◌++◌, length, map, max, sum_by}
 use Rattle.std.specs.Prelude.{All}
-use Rattle.flow_shop.specs.Shop.{Shop, numbers, time, time_between}
-use Rattle.flow_shop.specs.Least.{greatest, least}
+use Rattle.flow_shop.specs.Shop.{Shop, numbers, time}
+use Rattle.flow_shop.specs.Least.{greatest, least_between}
 use Rattle.flow_shop.specs.Paths.{weight, paths, completion, span}
 use Rattle.flow_shop.specs.Sequences.{jobs_left, IsSequence}
 
 -- the head of a machine: the least time that a job of the instance needs on the machines before it
 abbrev pub head : Shop → ℕ → ℕ
-head shop machine = least (map (λ job. time_between shop job 1 (machine - 1)) (numbers 1 shop.jobs))
+head shop machine = least_between shop (numbers 1 shop.jobs) 1 (machine - 1)
 
 -- the tail of a machine: the least time that a job of the instance needs on the machines after it
 abbrev pub tail : Shop → ℕ → ℕ
-tail shop machine = least (map (λ job. time_between shop job (machine + 1) shop.machines) (numbers 1 shop.jobs))
+tail shop machine = least_between shop (numbers 1 shop.jobs) (machine + 1) shop.machines
 
 -- the front of a first list on a machine: when its last job leaves the machine; the head where the list is empty
 -- (tied: ends_by_recurrence)
@@ -32,12 +32,15 @@ abbrev pub back : Shop → List ℕ → ℕ → ℕ
 back shop [] machine = tail shop machine
 back shop (job ∷ jobs) machine = path_tail shop (job ∷ jobs) machine
 
--- the bound of a node on a machine: its front, plus the times of the jobs in neither list, plus its back
+-- the work of a machine: the time on it of the jobs that a list leaves
+abbrev pub work : Shop → List ℕ → ℕ → ℕ
+work shop list machine = sum_by (λ job. time shop job machine) (jobs_left shop.jobs list)
+
+-- the bound of a node on a machine: its front, plus the work that both lists leave, plus its back
 -- (law: end_bound_is_admissible, end_bound_is_exact)
 abbrev pub end_bound_at : Shop → List ℕ → List ℕ → ℕ → ℕ
 end_bound_at shop first last machine =
-    front shop first machine + sum_by (λ job. time shop job machine) (jobs_left shop.jobs (first ++ last))
-    + back shop last machine
+    front shop first machine + work shop (first ++ last) machine + back shop last machine
 
 -- the bound of a node: the greatest of its bounds on the machines (law: end_bound_is_admissible, end_bound_is_exact)
 unfoldable pub end_bound : Shop → List ℕ → List ℕ → ℕ
