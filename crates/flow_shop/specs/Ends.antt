@@ -2,18 +2,18 @@
 -- The sequences of the node have the other jobs, in any order, between the two.
 use Rattle.std.specs.Prelude.{ℕ, ◌≡◌, ◌+◌, ◌-◌, ◌≤◌, List, [], ◌∷◌, ◌++◌, length, map, max, sum_by}
 use Rattle.std.specs.Prelude.{All}
-use Rattle.flow_shop.specs.Shop.{Shop, numbers, time}
-use Rattle.flow_shop.specs.Least.{greatest, least_between}
+use Rattle.flow_shop.specs.Shop.{Shop, numbers, time, time_between}
+use Rattle.flow_shop.specs.Least.{greatest, least}
 use Rattle.flow_shop.specs.Paths.{weight, paths, completion, span}
 use Rattle.flow_shop.specs.Sequences.{jobs_left, IsSequence}
 
 -- the head of a machine: the least time that a job of the instance needs on the machines before it
 abbrev pub head : Shop → ℕ → ℕ
-head shop machine = least_between shop (numbers 1 shop.jobs) 1 (machine - 1)
+head shop machine = least (map (λ job. time_between shop job 1 (machine - 1)) (numbers 1 shop.jobs))
 
 -- the tail of a machine: the least time that a job of the instance needs on the machines after it
 abbrev pub tail : Shop → ℕ → ℕ
-tail shop machine = least_between shop (numbers 1 shop.jobs) (machine + 1) shop.machines
+tail shop machine = least (map (λ job. time_between shop job (machine + 1) shop.machines) (numbers 1 shop.jobs))
 
 -- the front of a first list on a machine: when its last job leaves the machine; the head where the list is empty
 -- (tied: ends_by_recurrence)
