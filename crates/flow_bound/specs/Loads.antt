@@ -1,17 +1,13 @@
 -- The remaining work of each machine, where some jobs are left.
-use Rattle.std.specs.Prelude.{ℕ, ◌≡◌, ◌+◌, List, map, sum_by}
-use Rattle.flow_shop.specs.Shop.{Shop, time, time_between, AreOf}
-use Rattle.flow_shop.specs.Least.{least}
+use Rattle.std.specs.Prelude.{ℕ, ◌≡◌, ◌+◌, List, sum_by}
+use Rattle.flow_shop.specs.Shop.{Shop, time, AreOf}
+pub use Rattle.flow_shop.specs.Least.{least_between}
 
 -- the remaining work: how many machines there are, and for each the time of the jobs left and their least tail
 pub record Remaining : Type 0 where
   pub machines : ℕ
   pub sums : List ℕ
   pub tails : List ℕ
-
--- the least time that one of some jobs needs on the machines from first to last
-abbrev pub least_between : Shop → List ℕ → ℕ → ℕ → ℕ
-least_between shop jobs first last = least (map (λ job. time_between shop job first last) jobs)
 
 -- the least time that one of some jobs needs behind a machine
 abbrev pub least_tail : Shop → List ℕ → ℕ → ℕ

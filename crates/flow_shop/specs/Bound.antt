@@ -1,8 +1,8 @@
 -- The two bounds on the makespan of every sequence that begins with a list of jobs: the machine bound, and the released
 -- bound.
 use Rattle.std.specs.Prelude.{ℕ, ◌+◌, ◌-◌, ◌≤◌, ◌<◌, cond, nat_eq, List, map, length, slice_index, sum_by}
-use Rattle.flow_shop.specs.Shop.{Shop, numbers, time, time_between}
-use Rattle.flow_shop.specs.Least.{greatest, least}
+use Rattle.flow_shop.specs.Shop.{Shop, numbers, time}
+use Rattle.flow_shop.specs.Least.{greatest, least_between}
 use Rattle.flow_shop.specs.Paths.{completion, span}
 use Rattle.flow_shop.specs.Sequences.{jobs_left, IsSequence, Extends}
 
@@ -15,7 +15,7 @@ Bound = Shop → List ℕ → ℕ → ℕ
 abbrev pub machine_bound : Shop → List ℕ → List ℕ → ℕ → ℕ
 machine_bound shop front left machine =
     slice_index front (machine - 1) + sum_by (λ job. time shop job machine) left
-    + least (map (λ job. time_between shop job (machine + 1) shop.machines) left)
+    + least_between shop left (machine + 1) shop.machines
 
 -- the front of a list: its completion time on each machine
 abbrev pub front_of : Shop → List ℕ → List ℕ
@@ -31,7 +31,7 @@ bound_at shop jobs machine = machine_bound shop (front_of shop jobs) (jobs_left 
 abbrev pub release : Shop → List ℕ → List ℕ → ℕ → ℕ
 release shop front left machine =
     greatest (map
-    (λ from. slice_index front (from - 1) + least (map (λ job. time_between shop job from (machine - 1)) left))
+    (λ from. slice_index front (from - 1) + least_between shop left from (machine - 1))
     (numbers 1 machine))
 
 -- the released bound: the machine bound with the release in place of the front
@@ -39,7 +39,7 @@ release shop front left machine =
 abbrev pub released_bound : Shop → List ℕ → List ℕ → ℕ → ℕ
 released_bound shop front left machine =
     release shop front left machine + sum_by (λ job. time shop job machine) left
-    + least (map (λ job. time_between shop job (machine + 1) shop.machines) left)
+    + least_between shop left (machine + 1) shop.machines
 
 -- the released bound of a list (law: released_bound_is_admissible, released_bound_is_stronger)
 abbrev pub released_bound_at : Bound

@@ -32,12 +32,15 @@ abbrev pub back : Shop → List ℕ → ℕ → ℕ
 back shop [] machine = tail shop machine
 back shop (job ∷ jobs) machine = path_tail shop (job ∷ jobs) machine
 
--- the bound of a node on a machine: its front, plus the times of the jobs in neither list, plus its back
+-- the work of a machine: the time on it of the jobs that a list leaves
+abbrev pub work : Shop → List ℕ → ℕ → ℕ
+work shop list machine = sum_by (λ job. time shop job machine) (jobs_left shop.jobs list)
+
+-- the bound of a node on a machine: its front, plus the work that both lists leave, plus its back
 -- (law: end_bound_is_admissible, end_bound_is_exact)
 abbrev pub end_bound_at : Shop → List ℕ → List ℕ → ℕ → ℕ
 end_bound_at shop first last machine =
-    front shop first machine + sum_by (λ job. time shop job machine) (jobs_left shop.jobs (first ++ last))
-    + back shop last machine
+    front shop first machine + work shop (first ++ last) machine + back shop last machine
 
 -- the bound of a node: the greatest of its bounds on the machines (law: end_bound_is_admissible, end_bound_is_exact)
 unfoldable pub end_bound : Shop → List ℕ → List ℕ → ℕ

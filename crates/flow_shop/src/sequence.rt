@@ -70,9 +70,9 @@ impl Eq for Sequence {
     ghost laws = { nat_list_eq_equiv };
 }
 
-/// Puts jobs into the set of those taken so far, of which there are so many. A job that is not one of the instance, or
-/// that is taken already, is at fault: the fault of the first one, its place counted on from the jobs taken before, and
-/// the set has some of these jobs then; `None` where the set has them all.
+/// Puts jobs into a set that has `count` earlier ones. `None` where it has these too; or the fault of the first job that
+/// is not one of the instance (`Job`), or that the set has already (`Twice`), its place counted on from the earlier
+/// jobs. After a fault nothing is known of the set.
 pub fn insert_all(
     instance: &Instance,
     taken: &mut JobSet,
