@@ -13,7 +13,8 @@ use flow_shop::{Front, Instance, JobSet};
 
 /// The machine bound: when a machine is free, its time for the jobs of a set, and the least time that one of them needs
 /// behind it. Where the front is that of a list, and the set has the jobs that the list leaves, no sequence that
-/// extends the list has a smaller makespan. For callers alone: the search keeps `Loads` instead.
+/// extends the list has a smaller makespan. For callers alone: the search keeps `Loads` of a node, and tests the bounds
+/// of its children by code of its own.
 pub fn bound(instance: &Instance, front: &Front, unscheduled: &JobSet, machine: u16) -> u64
     requires from { 1 ≤ machine }
     requires to { machine ≤ instance.now.machines }

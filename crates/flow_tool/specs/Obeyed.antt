@@ -8,8 +8,8 @@ use Rattle.flow_commands.specs.Request.{answers, second_kind}
 use Rattle.flow_commands.specs.Runs.{IsUnwritten, Ran, Responds, SinkRun, run_of}
 use Rattle.flow_commands.specs.declared.refusals.CommandFault.{CommandFault}
 use Rattle.flow_tool.specs.Inputs.{Names, RefusedSecond, RefusedText, RunOfSecond, RunOfText}
-use Rattle.flow_tool.specs.declared.stop.Stop.{Stop}
-use Rattle.flow_tool.specs.declared.stop.Stop.TheVariants.{Fault, Open}
+use Rattle.flow_tool.specs.declared.refusal.Stop.{Stop}
+use Rattle.flow_tool.specs.declared.refusal.Stop.TheVariants.{Fault, Open}
 
 -- the program ended as its command did
 abbrev pub EndsAs : (Result (Unit {0}) CommandFault → Type 0) → Result (Unit {0}) Stop → Type 0

@@ -5,7 +5,7 @@ ghost use Rattle.flow_commands.specs.Runs.{sink_run};
 ghost use Rattle.flow_tool.specs.Obeyed.{Obeys};
 
 use crate::inputs::{Inputs, open_second, open_text};
-use crate::stop::Stop;
+use crate::refusal::Stop;
 use clap::Error;
 use clap::error::ErrorKind;
 use flow_commands::{CommandFault, Watch, run_gen, run_request};

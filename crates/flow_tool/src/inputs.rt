@@ -4,7 +4,7 @@ ghost use Rattle.std.specs.Prelude.{◌≡◌, false, IfNone, IfSome, IfOk, IfEr
 ghost use Rattle.std.specs.Option.{ForSome};
 ghost use Rattle.flow_tool.specs.Inputs.{IsSecond, IsText, Names, RefusedSecond, RefusedText, shown, unknown_names};
 
-use crate::stop::Stop;
+use crate::refusal::Stop;
 use flow_core::{Refused, Source, StdSource};
 use std::fs::File;
 use std::io::Input;

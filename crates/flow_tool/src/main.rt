@@ -4,8 +4,8 @@
 mod dispatch;
 mod inputs;
 mod progress;
+mod refusal;
 mod status;
-mod stop;
 #[cfg(test)]
 mod tests;
 
@@ -13,11 +13,11 @@ use dispatch::run_words;
 use flow_core::StdSink;
 use inputs::StdInputs;
 use progress::Progress;
+use refusal::Stop;
 use std::io;
 use std::process::ExitCode;
 use std::sync::Wait;
 use std::thread::Threads;
-use stop::Stop;
 
 fn main(rt: HostRuntime) -> ExitCode {
     let stop = match run(&rt, &rt) {

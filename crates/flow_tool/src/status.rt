@@ -3,7 +3,7 @@
 ghost use Rattle.std.specs.Prelude.{◌≡◌};
 ghost use Rattle.flow_tool.specs.Status.{exit_status};
 
-use crate::stop::Stop;
+use crate::refusal::Stop;
 use flow_commands::CommandFault;
 
 /// Memory ran out, or what was given is refused.

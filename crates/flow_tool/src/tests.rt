@@ -4,4 +4,4 @@ mod dispatch;
 mod files;
 mod invocations;
 mod lines;
-mod stop;
+mod refusal;

@@ -7,7 +7,7 @@ use crate::tests::files::{DEPTH_1, Named, START};
 use crate::tests::lines::{
     ANSWERS, CERTIFY, CHECK, IMPROVE, OPTIONS, Row, SCHEDULE, STARTS, VERSIONS,
 };
-use crate::tests::stop::is_line;
+use crate::tests::refusal::is_line;
 use flow_commands::Unwatched;
 use flow_core::MemorySink;
 use std::alloc::{AllocError, Global};

@@ -1,6 +1,6 @@
 //! The lines on standard error.
 
-use crate::stop::Stop;
+use crate::refusal::Stop;
 use flow_commands::CommandFault;
 use flow_core::SequenceFault;
 use std::alloc::Global;

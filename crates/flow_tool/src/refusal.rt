@@ -1,7 +1,7 @@
 //! Why the program stopped.
 
 ghost use Rattle.std.specs.Prelude.{◌≡◌};
-ghost use Rattle.flow_tool.specs.declared.stop.Stop.TheVariants.{Fault, Memory};
+ghost use Rattle.flow_tool.specs.declared.refusal.Stop.TheVariants.{Fault, Memory};
 
 use flow_commands::CommandFault;
 use std::alloc::AllocError;
