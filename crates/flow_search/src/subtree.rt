@@ -10,10 +10,10 @@ ghost use Rattle.flow_search.specs.internal.Nodes.{Gave, Opens};
 ghost use Rattle.flow_search.specs.internal.Settings.{shop_of, pruning_bound, pruned_at, StandsAt, HasFrame, HasLags};
 ghost use Rattle.flow_search.specs.internal.Settings.{node_walk, children_walk, child_walk, IsTooLong};
 
+use crate::bounds::{pruning_of_child, pruning_of_node};
 use crate::budget::SearchFault;
 use crate::few_left::{ColumnMemory, FEW, walk_few};
 use crate::frame::Frame;
-use crate::pruning::{pruning_of_child, pruning_of_node};
 use crate::setting::Setting;
 use crate::state::SearchState;
 use crate::tails_and_lags::{LeastLags, renew_lags};

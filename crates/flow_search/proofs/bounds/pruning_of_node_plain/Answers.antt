@@ -2,7 +2,7 @@ use Rattle.std.proofs.Common.{◌≡◌, ℕ, ◌≤◌, Bool, false, true, nat_
 use Rattle.std.proofs.lemmas.Bool.{le-leb, lt-leb}
 use Rattle.flow_shop.specs.Bound.{machine_bound}
 use Rattle.flow_search.proofs.Nodes.{find-here, find-skip, find-past}
-use Rattle.flow_search.proofs.pruning.pruning_of_node_plain.Goals as goal
+use Rattle.flow_search.proofs.bounds.pruning_of_node_plain.Goals as goal
 
 pub returns-then-value-bound : goal.returns-then-value-bound
 returns-then-value-bound c jobs rest =

@@ -9,8 +9,8 @@ use Rattle.flow_shop.proofs.Fronts.{free_at, after-step, time-small, child-compl
 use Rattle.flow_search.specs.internal.Frames.{IsFrame, IsChild}
 use Rattle.flow_search.proofs.Children.{child-bound, frame-within}
 use Rattle.flow_search.proofs.Nodes.{find-here, find-skip, find-past}
-use Rattle.flow_search.proofs.pruning.pruning_of_child_plain.Goals as goal
-use Rattle.flow_search.proofs.pruning.pruning_of_child_plain.Goals.{After-from, After-from-in-loop-machine}
+use Rattle.flow_search.proofs.bounds.pruning_of_child_plain.Goals as goal
+use Rattle.flow_search.proofs.bounds.pruning_of_child_plain.Goals.{After-from, After-from-in-loop-machine}
 
 -- when the child's job starts, at most
 start-small : (c : After-from) →

@@ -6,7 +6,7 @@ use Rattle.flow_shop.specs.Bound.{bound_at}
 use Rattle.flow_shop.proofs.Recurrence.{after}
 use Rattle.flow_shop.proofs.Fronts.{free_at}
 use Rattle.flow_search.specs.internal.Frames.{IsFrame, IsChild}
-use Rattle.flow_search.proofs.pruning.pruning_of_child_plain.Given as goal
+use Rattle.flow_search.proofs.bounds.pruning_of_child_plain.Given as goal
 
 -- when the child's job leaves the machines so far, none of whose bounds reaches the value
 abbrev pub invariant-loop-machine : goal.invariant-loop-machine

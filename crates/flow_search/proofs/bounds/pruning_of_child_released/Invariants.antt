@@ -9,7 +9,7 @@ use Rattle.flow_shop.proofs.Recurrence.{after}
 use Rattle.flow_shop.proofs.Fronts.{free_at}
 use Rattle.flow_search.specs.internal.Frames.{IsFrame, IsChild}
 use Rattle.flow_search.specs.internal.Lags.{AreLeastLags}
-use Rattle.flow_search.proofs.pruning.pruning_of_child_released.Given as goal
+use Rattle.flow_search.proofs.bounds.pruning_of_child_released.Given as goal
 
 -- when the child's job leaves the machines so far, none of whose released bounds reaches the value
 abbrev pub invariant-loop-machine : goal.invariant-loop-machine

@@ -3,7 +3,7 @@ use Rattle.std.specs.List.{find}
 use Rattle.flow_shop.specs.Shop.{numbers}
 use Rattle.flow_shop.specs.JobSet.{members}
 use Rattle.flow_search.proofs.Nodes.{left-count, within-front, find-is, find-released, bound-one, bound-two}
-use Rattle.flow_search.proofs.pruning.pruning_of_node.Goals as goal
+use Rattle.flow_search.proofs.bounds.pruning_of_node.Goals as goal
 
 pub pruning_of_node_released-requires-clause-some : goal.pruning_of_node_released-requires-clause-some
 pruning_of_node_released-requires-clause-some c =

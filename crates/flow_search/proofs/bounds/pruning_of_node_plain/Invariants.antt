@@ -3,7 +3,7 @@ use Rattle.std.specs.List.{find}
 use Rattle.flow_shop.specs.Shop.{numbers}
 use Rattle.flow_shop.specs.Bound.{machine_bound}
 use Rattle.flow_bound.specs.Loads.{AreLoadsOf}
-use Rattle.flow_search.proofs.pruning.pruning_of_node_plain.Given as goal
+use Rattle.flow_search.proofs.bounds.pruning_of_node_plain.Given as goal
 
 -- no machine so far reaches the value
 abbrev pub invariant-loop-machine : goal.invariant-loop-machine

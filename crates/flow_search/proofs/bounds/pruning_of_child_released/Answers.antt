@@ -17,10 +17,10 @@ use Rattle.flow_shop.specs.declared.least_pairs.LeastPairs.{LeastPairs}
 use Rattle.flow_search.proofs.Children.{child-bound, child-released, frame-within}
 use Rattle.flow_search.proofs.ColumnsPassed.{done-more}
 use Rattle.flow_search.proofs.Nodes.{find-here, find-skip, find-past}
-use Rattle.flow_search.proofs.pruning.pruning_of_child_released.Goals as goal
-use Rattle.flow_search.proofs.pruning.pruning_of_child_released.Goals.{After-max-start, After-from-time}
-use Rattle.flow_search.proofs.pruning.pruning_of_child_released.Goals.{After-from-in-loop-machine}
-use Rattle.flow_search.proofs.pruning.pruning_of_child_released.Goals.{After-release_at_child}
+use Rattle.flow_search.proofs.bounds.pruning_of_child_released.Goals as goal
+use Rattle.flow_search.proofs.bounds.pruning_of_child_released.Goals.{After-max-start, After-from-time}
+use Rattle.flow_search.proofs.bounds.pruning_of_child_released.Goals.{After-from-in-loop-machine}
+use Rattle.flow_search.proofs.bounds.pruning_of_child_released.Goals.{After-release_at_child}
 
 abbrev none : Row
 none = record { times = []; tails = [] }

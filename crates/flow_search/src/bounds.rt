@@ -1,4 +1,4 @@
-//! The first machine that prunes a node or a child.
+//! The bounds of a node and of its children, with more than eight jobs left: the first machine whose bound prunes it.
 
 ghost use Rattle.std.specs.Prelude.{◌≡◌, ℕ, suc, ◌-◌, ◌≤◌, List, [], ◌∷◌, ◌++◌, slice_index};
 ghost use Rattle.flow_limits.specs.Limits.{most_machines};

@@ -7,8 +7,8 @@ use Rattle.flow_search.specs.internal.Frames.{IsChild}
 use Rattle.flow_search.specs.internal.Lags.{AreLeastLags}
 use Rattle.flow_search.proofs.Nodes.{bound-one, bound-two, members-are}
 use Rattle.flow_search.proofs.NextChild.{kid-of}
-use Rattle.flow_search.proofs.pruning.pruning_of_child.Goals as goal
-use Rattle.flow_search.proofs.pruning.pruning_of_child.Goals.{Start, Then-has_releases}
+use Rattle.flow_search.proofs.bounds.pruning_of_child.Goals as goal
+use Rattle.flow_search.proofs.bounds.pruning_of_child.Goals.{Start, Then-has_releases}
 
 -- the child's job
 kid : (c : Start) → IsChild c.args.setting.now.instance.now.jobs c.args.search.now.node.items c.args.job
