@@ -7,7 +7,8 @@ use std::alloc::{AllocError, AllocFailed};
 use thiserror::Error;
 
 /// Why a text is no lawful certificate, or no lawful two-ended certificate: its first fault. The number is that of the
-/// line, counted from 1.
+/// line, counted from 1. In the line on standard error this text follows `refused certificate` (`CommandFault` of
+/// flow_commands).
 #[derive(Clone, Copy, Debug, PartialEq, Eq, Error)]
 pub enum CheckFault {
     /// Memory ran out.
@@ -32,7 +33,7 @@ pub enum CheckFault {
     /// This line is not one tree; of a two-ended certificate, not one string of directions that prove the lower bound.
     #[error("Tree {0}")]
     Tree(usize),
-    /// In this line a letter's bound, that of the version, is below the value.
+    /// In this line of a certificate with trees a letter's bound, that of the version, is below the value.
     #[error("Weak {0}")]
     Weak(usize),
     /// In this line a point's makespan is below the value; of a two-ended certificate, the directions lead to a whole

@@ -128,8 +128,8 @@ impl Limits {
     }
 }
 
-/// Makes a pass and takes the sequence that it comes to. Returns whether the search has ended, with this pass or before
-/// it.
+/// Makes a pass, unless the search has ended, and takes the sequence that it comes to. Returns whether the search had
+/// ended, or the pass dropped nothing. That the pass came to the aim or to Taillard's bound is seen by the next call.
 fn ends_with<V: Lanes>(
     alloc: Global,
     instance: &Instance,
@@ -212,7 +212,7 @@ fn search_in<V: Lanes>(
     search(alloc, instance, limits, &mut passes, reached)
 }
 
-/// The best sequence of a search within limits, and whether it ended as whole.
+/// The best sequence of a search within limits, and whether the search is whole.
 fn best_within(
     alloc: Global,
     instance: &Instance,
@@ -239,8 +239,8 @@ fn best_within(
 }
 
 /// The best sequence of a two-ended beam search, and its makespan, which is at most that of the start. The search makes
-/// passes of the widths 1, 2, 4 and so on, up to the greatest, and no pass that might take more than so many steps in
-/// all. It takes its memory before the first pass, but for the sequences that it comes to.
+/// passes of the widths 1, 2, 4 and so on, up to the greatest, and none with which the steps of all passes might exceed
+/// `work`. It takes its memory before the first pass, but for the sequences that it comes to.
 pub fn beam(
     alloc: Global,
     instance: &Instance,
@@ -260,9 +260,9 @@ pub fn beam(
 
 /// The best sequence of a two-ended beam search for a sequence below a number, and its makespan, which is at most that
 /// of the start. No child is kept whose bound is at least the number, and the search ends as soon as it comes to a
-/// sequence below the number. So it may end with the start. Widths, passes and steps are those of `beam`, but children
-/// are ordered by the deficit, and the first pass of each width opens a node at the end where fewer of its children are
-/// below the number.
+/// sequence below the number. Where it finds none, it ends with the start. Widths, passes and steps are those of
+/// `beam`, but children are ordered by the deficit, and the first pass of each width opens a node at the end where
+/// fewer of its children are below the number.
 pub fn beam_below(
     alloc: Global,
     instance: &Instance,

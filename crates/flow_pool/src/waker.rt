@@ -1,4 +1,4 @@
-//! What wakes the hub: a gate that unparks it for each prefix that a worker receives, and once a worker has ended.
+//! What wakes the hub: a gate that unparks it for each prefix that a worker receives, and when a worker has ended.
 
 use crate::Gate;
 use crossbeam_utils::sync::{Parker, Unparker};
@@ -13,13 +13,13 @@ pub(crate) struct HubGate<'a, G> {
 }
 
 impl<'a, G> HubGate<'a, G> {
-    /// The gate that unparks a hub which parks here.
+    /// The gate that unparks the hub, which parks at this parker.
     pub(crate) fn new(gate: &'a G, parker: &Parker) -> Result<HubGate<'a, G>, AllocError> {
         let hub = parker.unparker().clone()?;
         Ok(HubGate { gate, hub })
     }
 
-    /// A worker has ended.
+    /// Unparks the hub, since a worker has served its last task.
     pub(crate) fn ended(&self) {
         self.hub.unpark();
     }

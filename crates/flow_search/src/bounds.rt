@@ -1,4 +1,5 @@
-//! The bounds of a node and of its children, with more than eight jobs left: the first machine whose bound prunes it.
+//! The first machine whose bound prunes a node, and the first that prunes a child of a node with more than eight jobs
+//! left.
 
 ghost use Rattle.std.specs.Prelude.{◌≡◌, ℕ, suc, ◌-◌, ◌≤◌, List, [], ◌∷◌, ◌++◌, slice_index};
 ghost use Rattle.flow_limits.specs.Limits.{most_machines};
@@ -64,7 +65,7 @@ pub fn pruning_of_node(
     }
 }
 
-/// The least tail after a machine of the jobs left without one of them, by its own tail.
+/// The least tail behind a machine of the jobs left but one, whose own tail is `own`.
 #[inline(always)]
 fn tail_without(here: &Frame, machine: u16, own: u32) -> u32
     requires from { 1 ≤ machine }

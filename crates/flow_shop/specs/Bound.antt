@@ -10,8 +10,8 @@ use Rattle.flow_shop.specs.Sequences.{jobs_left, IsSequence, Extends}
 abbrev pub Bound : Type 0
 Bound = Shop → List ℕ → ℕ → ℕ
 
--- the machine bound: the front on the machine, plus the times of the jobs left on it, plus the least tail of one of
--- these jobs, which is its time on the later machines (law: bound_is_admissible)
+-- the machine bound: the front on the machine, plus the times there of the jobs left, plus the least of their tails. A
+-- job's tail is its time on the later machines (law: bound_is_admissible)
 abbrev pub machine_bound : Shop → List ℕ → List ℕ → ℕ → ℕ
 machine_bound shop front left machine =
     slice_index front (machine - 1) + sum_by (λ job. time shop job machine) left
@@ -25,9 +25,9 @@ front_of shop jobs = map (completion shop jobs) (numbers 1 shop.machines)
 abbrev pub bound_at : Bound
 bound_at shop jobs machine = machine_bound shop (front_of shop jobs) (jobs_left shop.jobs jobs) machine
 
--- the release of a machine, before which no job left starts on it: for each machine up to this one, its front plus the
--- least time that a job left needs from there to this machine; and the greatest of these
--- (law: released_bound_is_admissible, released_bound_is_stronger)
+-- the release of a machine, before which no job left starts on it: the greatest, over the machines up to this one, of
+-- the front there plus the least time that a job left needs from there to the machine before this one (law:
+-- released_bound_is_admissible, released_bound_is_stronger)
 abbrev pub release : Shop → List ℕ → List ℕ → ℕ → ℕ
 release shop front left machine =
     greatest (map

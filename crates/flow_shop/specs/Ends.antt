@@ -32,11 +32,12 @@ abbrev pub back : Shop → List ℕ → ℕ → ℕ
 back shop [] machine = tail shop machine
 back shop (job ∷ jobs) machine = path_tail shop (job ∷ jobs) machine
 
--- the work of a machine: the time on it of the jobs that a list leaves
+-- the work of a machine: the time on it of the jobs that are not in a list
 abbrev pub work : Shop → List ℕ → ℕ → ℕ
 work shop list machine = sum_by (λ job. time shop job machine) (jobs_left shop.jobs list)
 
--- the bound of a node on a machine: its front, plus the work that both lists leave, plus its back
+-- the bound of a node on a machine: the front of its first list there, plus the time there of the jobs in neither list,
+-- plus the back of its last list there
 -- (law: end_bound_is_admissible, end_bound_is_exact)
 abbrev pub end_bound_at : Shop → List ℕ → List ℕ → ℕ → ℕ
 end_bound_at shop first last machine =

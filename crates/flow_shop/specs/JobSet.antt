@@ -18,12 +18,12 @@ members set = filter (contains set) (numbers 1 (length set))
 abbrev pub IsSetOf : Shop → List Bool → Type 0
 IsSetOf shop set = (job : ℕ) → shop.jobs < job → contains set job ≡ false
 
--- a set has the jobs of a list, and no others of the instance
+-- of the jobs of the instance a set has those of a list and no others; it has a place for each of the most jobs
 pub record Holds (shop : Shop) (list : List ℕ) (set : List Bool) : Type 0 where
   pub size : length set ≡ most_jobs
   pub each : (job : ℕ) → 1 ≤ job → job ≤ shop.jobs → contains set job ≡ has list job
 
--- distinct jobs of the instance, how many they are, and the set of them
+-- distinct jobs of the instance, how many they are, and a set that holds them
 pub record AreTaken (shop : Shop) (list : List ℕ) (count : ℕ) (set : List Bool) : Type 0 where
   pub are_jobs : AreJobs shop.jobs list
   pub size : length list ≡ count

@@ -1,4 +1,4 @@
--- The tails of some jobs behind a machine, their lags to it, and the two least of some numbers.
+-- The tails of jobs behind a machine, the lags of jobs to a machine, and the two least of some numbers.
 use Rattle.std.specs.Prelude.{ℕ, ◌≡◌, ◌≢◌, ◌+◌, ◌-◌, ◌<◌, ◌≤◌, List, [], ◌∷◌, ◌++◌, map, min, max, slice_index}
 use Rattle.flow_shop.specs.Shop.{Shop, time_between}
 use Rattle.flow_shop.specs.declared.least_pairs.LeastPairs.{LeastPairs}
@@ -21,13 +21,13 @@ second_below a b (x ∷ xs) = second_below (min a x) (min b (max a x)) xs
 abbrev pub least_of_none : ℕ
 least_of_none = 4294967295
 
--- a value is the least of some numbers without one of them, where these are the least and the second least of all
--- (tied: least_without_one)
+-- the value that is taken for the least of some numbers without one of them: their second least where this one is the
+-- least, and else the least (tied: least_without_one)
 abbrev pub IsLeastWithout : ℕ → ℕ → ℕ → ℕ → Type 0
 IsLeastWithout one least second value = (one ≡ least → value ≡ second) × (one ≢ least → value ≡ least)
 
--- from the two least of some numbers the least of them without one of them is found; first and second stand for the two
--- least of no numbers (law: least_without_one)
+-- what is taken for the least of some numbers without one of them is the least of the others, whichever two numbers
+-- the two least begin with, the lesser one first (law: least_without_one)
 abbrev pub LeastWithoutOneIsFound : Type 0
 LeastWithoutOneIsFound =
     (first second one value : ℕ) (before after : List ℕ) → first ≤ second →
@@ -35,7 +35,8 @@ LeastWithoutOneIsFound =
     value →
     value ≡ least_below first (before ++ after)
 
--- the lag of a job from the machine at a place to another: its time on the machines from there to the one before
+-- the lag of a job from the machine at a place, counted from 0, to one that is no earlier: its time on the machines
+-- from the first to the one before the second
 abbrev pub time_to : Shop → ℕ → ℕ → ℕ → ℕ
 time_to shop machine place job = time_between shop job (place + 1) (machine - 1)
 

@@ -114,7 +114,8 @@ fn first_too_great(times: &[u32]) -> Option<usize>
     times.iter().position(|time| *time > MAX_TIME)
 }
 
-/// Why no instance has so many jobs and machines: `Jobs`, or else `Machines`; `None` where one may.
+/// The fault of these numbers: `Jobs` where no instance may have so many jobs, or else `Machines` where none may have
+/// so many machines; `None` where one may have both.
 pub fn size_fault(jobs: u32, machines: u32) -> Option<InstanceFault>
     ensures fault { result ≡ first_fault (size_tests jobs machines) }
     ensures none { IfNone result

@@ -45,7 +45,8 @@ pub fn released_bound_is_stronger()
     ensures { ReleasedBoundIsStronger }
 {}
 
-/// Fronts and backs are computed job by job and machine by machine, from the heads and the tails of empty lists.
+/// Fronts and backs are computed job by job and machine by machine. They begin with empty lists, whose fronts are the
+/// heads and whose backs are the tails of the machines.
 pub fn ends_by_recurrence()
     ensures front { FrontByRecurrence }
     ensures back { BackByRecurrence }
@@ -87,19 +88,21 @@ pub fn least_is_least()
     ensures one { (first : ℕ) (numbers : List ℕ) → Contains (first ∷ numbers) (least_below first numbers) }
 {}
 
-/// The second least of some numbers and of two more is the least of all these without one that is the least of them.
+/// The second least of some numbers and of two more, the lesser one first, is the least of what remains where one that
+/// is the least of all these is taken out.
 pub fn second_is_second()
     ensures { (first second one : ℕ) (numbers before after : List ℕ) → first ≤ second →
         before ++ one ∷ after ≡ first ∷ second ∷ numbers → one ≡ least_below first numbers →
         second_below first second numbers ≡ least (before ++ after) }
 {}
 
-/// What is found from the two least of some numbers is the least of them without one of them.
+/// Where one of some numbers is taken out, the least of the others is the second least of all if it was the least, and
+/// else the least of all.
 pub fn least_without_one()
     ensures { LeastWithoutOneIsFound }
 {}
 
-/// Numbers have no fault exactly where they are an instance within the limits.
+/// Numbers of jobs and machines, and times, have no fault exactly where they are an instance within the limits.
 pub fn instances_have_no_fault()
     ensures is { (shop : Shop) → instance_fault shop.jobs shop.machines shop.times ≡ None → IsWithinLimits shop }
     ensures has { (shop : Shop) → IsWithinLimits shop → instance_fault shop.jobs shop.machines shop.times ≡ None }

@@ -1,4 +1,5 @@
-//! The two least numbers of some jobs at each of several places: their tails behind machines, or their lags from them.
+//! At each of several places the two least of the numbers that some jobs have there. A place stands for a machine, and
+//! a job's number is its tail behind that machine, or its lag from there to another.
 
 ghost use Rattle.std.specs.Prelude.{◌≡◌, ℕ, ◌<◌, ◌≤◌, min, max, List, [], ◌∷◌, ◌++◌, slice_index};
 ghost use Rattle.flow_limits.specs.Limits.{most_machines};
@@ -7,8 +8,8 @@ ghost use Rattle.flow_shop.specs.TwoLeast.{AreTwoLeast};
 use crate::two_least::TwoLeast;
 use flow_limits::MAX_MACHINES;
 
-/// The two least of some jobs' numbers at each place, each the greatest number of 32 bits where there is no such job.
-/// Where two jobs have the least, both are the same.
+/// The two least of some jobs' numbers at each place. Where there is no job, both are the greatest number of 32 bits,
+/// and where there is one, the second is. Where two jobs have the least, both are the same.
 #[derive(Clone, Copy)]
 pub struct LeastPairs {
     /// The least.
@@ -41,7 +42,7 @@ impl LeastPairs {
         }
     }
 
-    /// Takes one job more in, by its numbers at the first places. The other places stay as they were.
+    /// Takes one job more in, by its numbers at the first `count` places. The other places stay as they were.
     #[inline]
     pub fn take(&mut self, numbers: &[u32; MAX_MACHINES], count: usize)
         requires { count ≤ most_machines }

@@ -70,9 +70,9 @@ impl Eq for Sequence {
     ghost laws = { nat_list_eq_equiv };
 }
 
-/// Puts jobs into a set that has `count` earlier ones. `None` where it has these too; or the fault of the first job that
-/// is not one of the instance (`Job`), or that the set has already (`Twice`), its place counted on from the earlier
-/// jobs. After a fault nothing is known of the set.
+/// Adds jobs to a set that has `count` earlier ones, distinct jobs of the instance. `None` once all are added; else the
+/// fault of the first job that is not one of the instance (`Job`), or that is in the set by then (`Twice`), with its
+/// place, counted from 1 over the earlier jobs and these. After a fault nothing is said of the set.
 pub fn insert_all(
     instance: &Instance,
     taken: &mut JobSet,
