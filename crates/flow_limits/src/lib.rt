@@ -1,4 +1,4 @@
-//! The limits as constants. Contracts name the numbers in `specs/Limits.antt`, and the law says that these are the same.
+//! The limits as constants. Contracts name the numbers in `specs/Limits.antt`; the law says that these are the same.
 #![tactic(auto)]
 
 ghost use Rattle.std.specs.Int.{is_in_range};

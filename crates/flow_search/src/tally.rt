@@ -43,7 +43,8 @@ impl Tally {
         })
     }
 
-    /// Adds the best and the tree of the next prefix, where its outcome is `Done`; else there is no error, and it stays as it is.
+    /// Adds the best and the tree of the next prefix, where its outcome is `Done`; else there is no error, and it stays
+    /// as it is.
     pub fn add(&mut self, outcome: Outcome) -> Result<(), AllocError>
         ensures done { OnOk result ((plan : Planned) (number : ℕ) → number < length (prefixes_of plan) →
             IsTally plan number self.old → IsLawful plan number outcome → IsDone outcome →

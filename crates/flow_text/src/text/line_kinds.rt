@@ -151,7 +151,8 @@ fn take_numbers(
     numbers: &mut Vec<u32>,
 ) -> Result<(), LineFault>
     requires { Keeps (state_of progress.old) }
-    ensures { Gives LineFault.Memory (λ _. state_of progress.new) result (after_numbers (state_of progress.old) line.now) }
+    ensures { Gives LineFault.Memory (λ _. state_of progress.new) result
+        (after_numbers (state_of progress.old) line.now) }
 {
     match progress.want {
         Want::FirstLabel => Err(LineFault::Label),
