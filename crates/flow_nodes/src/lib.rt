@@ -9,8 +9,6 @@ mod limit;
 mod marks;
 mod node;
 mod plain_end;
-#[cfg(test)]
-mod tests;
 
 pub use group::{LANES, MAX_GROUPS, group_count, groups, write_group};
 pub use lanes::Lanes;

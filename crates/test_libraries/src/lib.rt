@@ -22,6 +22,8 @@ mod greatest;
 mod instances;
 #[cfg(test)]
 mod kinds;
+#[cfg(test)]
+mod nodes;
 mod outcomes;
 #[cfg(test)]
 mod parts;

@@ -1,5 +1,5 @@
 use Rattle.std.proofs.Common.{[], ◌∷◌, refl}
-use Rattle.flow_nodes.proofs.tests.bounds_of_a_child.Goals as goal
+use Rattle.test_libraries.proofs.nodes.bounds_of_a_child.Goals as goal
 
 pub bound-requires : goal.bound-requires
 bound-requires g c = (3 ∷ [], [], c.put.ensures [] [] c.root-node.ensures refl)

@@ -1,9 +1,10 @@
-//! The bounds of children that were worked out by hand.
+//! The bounds of children, groups and marks of flow_nodes: bounds that were worked out by hand.
 
-ghost use Rattle.std.specs.Prelude.{◌≡◌, ℕ, ◌+◌, ◌<◌, ◌≤◌, length, slice_index};
+ghost use Rattle.std.specs.Prelude.{◌≡◌, ◌<◌, ◌≤◌, length};
 ghost use Rattle.flow_nodes.specs.Nodes.{IsJob};
+ghost use Rattle.flow_nodes.specs.Groups.{AreGroups};
 
-use crate::{LANES, Lanes, MAX_GROUPS, Marks, Node, groups, time_of_all, write_group};
+use flow_nodes::{LANES, Lanes, MAX_GROUPS, Marks, Node, groups, time_of_all, write_group};
 use flow_shop::{End, Instance};
 use std::simd::prelude::*;
 use std::test::Fail;
@@ -50,6 +51,28 @@ fn bounds_of_three_machines(rt: HostRuntime) -> Result<(), Fail> {
     Ok(())
 }
 
+/// How many jobs of one group make children below a number at an end, the place of the first of them, and that of the
+/// first from place 8 on.
+type Below = (u32, Option<usize>, Option<usize>);
+
+/// The jobs of one group that make children below a number at an end.
+fn below<V: Lanes>(
+    instance: &Instance,
+    node: &Node,
+    end: End,
+    groups: &[Vec<V>],
+    number: u32,
+) -> Below
+    requires wide { V.WIDTH ≡ 16 }
+    requires number { number ≤ V.CAP }
+    requires groups { AreGroups V.list V.CAP V.WIDTH instance.now groups.now }
+{
+    let mut marks = Marks::none();
+    let left = Marks::first(instance.jobs());
+    node.mark_below(end, groups, &left, number, &mut marks);
+    (marks.count(1), marks.next(0, 1), marks.next(8, 1))
+}
+
 /// Behind the third job the others have the bounds 12 and 14.
 #[test]
 fn bounds_of_a_child(rt: HostRuntime) -> Result<(), Fail> {
@@ -58,12 +81,14 @@ fn bounds_of_a_child(rt: HostRuntime) -> Result<(), Fail> {
     node.put(&instance, End::Front, 3);
     assert_eq!(rt; node.bound(&instance), 10);
     let mut group = [u16x16::splat(0); 3];
-    write_group(&instance, &[1; 16], &mut group);
-    assert_eq!(rt; node.children_below(End::Front, &group, 12) & 1, 0);
-    assert_eq!(rt; node.children_below(End::Front, &group, 13) & 1, 1);
-    write_group(&instance, &[2; 16], &mut group);
-    assert_eq!(rt; node.children_below(End::Front, &group, 14) & 1, 0);
-    assert_eq!(rt; node.children_below(End::Front, &group, 15) & 1, 1);
+    assert_eq!(rt;
+        child_bound(&instance, &node, End::Front, 1, &mut group),
+        12
+    );
+    assert_eq!(rt;
+        child_bound(&instance, &node, End::Front, 2, &mut group),
+        14
+    );
     Ok(())
 }
 
@@ -83,35 +108,16 @@ fn bounds_above_the_cap(rt: HostRuntime) -> Result<(), Fail> {
         child_bound(&instance, &root, End::Front, 1, &mut great),
         90_000
     );
-    assert_eq!(rt; root.children_below(End::Back, &narrow, 65_535), 0);
+    let groups = groups::<u16x16>(rt.alloc(), &instance)?;
+    let found = below(&instance, &root, End::Back, groups.as_slice(), 65_535);
+    assert_eq!(rt; found, (0, None, None));
     Ok(())
-}
-
-/// The names of the first jobs.
-fn first_jobs() -> [u16; 16]
-    ensures count { length result ≡ 16 }
-    ensures each { (lane : ℕ) → lane < 16 → slice_index result lane ≡ lane + 1 }
-{
-    let mut names = [0; 16];
-    for lane in 0..16 {
-        names[lane] = lane as u16 + 1;
-    }
-    names
-}
-
-/// The group of all jobs, one for each lane.
-fn write_all<V: Lanes>(instance: &Instance, group: &mut [V])
-    requires machines { length group.old ≡ instance.now.machines }
-    requires jobs { instance.now.jobs ≡ V.WIDTH }
-    requires few { V.WIDTH ≤ 16 }
-    ensures { length group.new ≡ instance.now.machines }
-{
-    write_group(instance, &first_jobs()[..V::WIDTH], group);
 }
 
 /// Sixteen jobs on two machines, of which job `j` takes `j` on the first and `17 - j` on the second, so all take 136 on
 /// each. Whatever job is first leaves the second machine at 17, so its child at the front has the bound `136 + j`; and
-/// whatever job is last needs 17 from its start, so its child at the back has the bound `153 - j`.
+/// whatever job is last needs 17 from its start, so its child at the back has the bound `153 - j`. Below 145 are the
+/// first eight at the front, and the last eight at the back.
 #[test]
 fn bounds_of_sixteen_jobs(rt: HostRuntime) -> Result<(), Fail> {
     let times = [
@@ -122,20 +128,28 @@ fn bounds_of_sixteen_jobs(rt: HostRuntime) -> Result<(), Fail> {
     let root = Node::root(&instance);
     let mut narrow = [u16x16::splat(0); 2];
     let mut great = [u32x16::splat(0); 2];
-    write_all(&instance, &mut narrow);
-    write_all(&instance, &mut great);
-    for lane in 0..16_usize {
-        let front = 137 + lane as u32;
-        let back = 152 - lane as u32;
-        assert_eq!(rt; root.child_bounds(End::Front, &narrow).at(lane), front);
-        assert_eq!(rt; root.child_bounds(End::Front, &great).at(lane), front);
-        assert_eq!(rt; root.child_bounds(End::Back, &narrow).at(lane), back);
-        assert_eq!(rt; root.child_bounds(End::Back, &great).at(lane), back);
+    for job in 1..17_u16 {
+        for (end, wanted) in [
+            (End::Front, 136 + u32::from(job)),
+            (End::Back, 153 - u32::from(job)),
+        ] {
+            assert_eq!(rt;
+                child_bound(&instance, &root, end, job, &mut narrow),
+                wanted
+            );
+            assert_eq!(rt; child_bound(&instance, &root, end, job, &mut great), wanted);
+        }
     }
-    assert_eq!(rt; root.children_below(End::Front, &narrow, 145), 0x00FF);
-    assert_eq!(rt; root.children_below(End::Front, &great, 145), 0x00FF);
-    assert_eq!(rt; root.children_below(End::Back, &narrow, 145), 0xFF00);
-    assert_eq!(rt; root.children_below(End::Back, &great, 145), 0xFF00);
+    let narrow = groups::<u16x16>(rt.alloc(), &instance)?;
+    let found = below(&instance, &root, End::Front, narrow.as_slice(), 145);
+    assert_eq!(rt; found, (8, Some(0), None));
+    let found = below(&instance, &root, End::Back, narrow.as_slice(), 145);
+    assert_eq!(rt; found, (8, Some(8), Some(8)));
+    let great = groups::<u32x16>(rt.alloc(), &instance)?;
+    let found = below(&instance, &root, End::Front, great.as_slice(), 145);
+    assert_eq!(rt; found, (8, Some(0), None));
+    let found = below(&instance, &root, End::Back, great.as_slice(), 145);
+    assert_eq!(rt; found, (8, Some(8), Some(8)));
     Ok(())
 }
 
@@ -166,11 +180,9 @@ fn marks_of_three_children(rt: HostRuntime) -> Result<(), Fail> {
     let instance = Instance::new(rt.alloc(), 3, 3, &[4, 0, 0, 0, 8, 2, 4, 0, 1])?;
     assert_eq!(rt; time_of_all(&instance, 2), 10);
     let groups = groups::<u16x16>(rt.alloc(), &instance)?;
-    let left = Marks::first(3);
-    let mut below = Marks::none();
-    Node::root(&instance).mark_below(End::Front, groups.as_slice(), &left, 14, &mut below);
-    assert_eq!(rt; below.count(1), 2);
-    assert_eq!(rt; below.next(0, 1), Some(1));
+    let root = Node::root(&instance);
+    let found = below(&instance, &root, End::Front, groups.as_slice(), 14);
+    assert_eq!(rt; found, (2, Some(1), None));
     Ok(())
 }
 

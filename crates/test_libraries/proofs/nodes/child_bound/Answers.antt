@@ -1,7 +1,7 @@
 use Rattle.std.proofs.Common.{◌≡◌, ◌<◌, ◌≤◌, slice_index, take, get_or-take, sym, ◌∙◌, subst, replicate, arith}
 use Rattle.std.proofs.lemmas.Simd.{get_or-replicate}
 use Rattle.flow_nodes.specs.Nodes.{IsJob}
-use Rattle.flow_nodes.proofs.tests.child_bound.Goals as goal
+use Rattle.test_libraries.proofs.nodes.child_bound.Goals as goal
 
 pub write_group-requires-clause-each : goal.write_group-requires-clause-each
 write_group-requires-clause-each g c lane within =
