@@ -30,8 +30,8 @@ pub struct Report {
 /// What comes of a run that may start only some of its workers.
 #[derive(Drop)]
 enum RunOutcome {
-    /// The report of all workers.
-    Whole(Report),
+    /// All workers were started, and this is the verdict.
+    Whole(Verdict),
     /// All workers were started, and there is no verdict.
     Fault(RunFault),
     /// As many workers were started as may be, and the plan has more.
@@ -87,7 +87,8 @@ fn outcomes_of(answers: Vec<Answer>, room: Vec<Outcome>) -> Vec<Outcome>
 }
 
 /// Runs as `solve_limited` does, from the start of the first worker on, and tells apart why not all workers were
-/// started. Where the starts are used up it says so, whether or not there is memory.
+/// started. Where the starts are used up it says so, whether or not there is memory. Returns what comes of it, and the
+/// settled lanes of each worker that was started.
 fn run_made<R: Threads + Wait + Sync, G: Gate + Sync>(
     rt: &R,
     alloc: Global,
@@ -95,9 +96,9 @@ fn run_made<R: Threads + Wait + Sync, G: Gate + Sync>(
     gate: &HubGate<G>,
     starts: u32,
     made: Made,
-) -> RunOutcome
+) -> (RunOutcome, Vec<LanePair>)
     requires { IsMade plan.now made }
-    ensures { IsRun plan.now starts result }
+    ensures { IsRun plan.now starts result.0 result.1 }
 {
     let Made {
         ends,
@@ -115,16 +116,16 @@ fn run_made<R: Threads + Wait + Sync, G: Gate + Sync>(
     settle_all(hubs, workers, &mut lanes);
     match start {
         Started::Complete => {}
-        Started::UsedUp => return RunOutcome::UsedUp,
-        Started::Refused(refusal) => return RunOutcome::Refused(refusal),
+        Started::UsedUp => return (RunOutcome::UsedUp, lanes),
+        Started::Refused(refusal) => return (RunOutcome::Refused(refusal), lanes),
     }
     let outcomes = outcomes_of(answers, room);
     if let Some(fault) = first_refusal(&outcomes) {
-        return RunOutcome::Fault(fault);
+        return (RunOutcome::Fault(fault), lanes);
     }
     match conclude(alloc, plan, outcomes) {
-        Ok(verdict) => RunOutcome::Whole(Report { verdict, lanes }),
-        Err(fault) => RunOutcome::Fault(fault),
+        Ok(verdict) => (RunOutcome::Whole(verdict), lanes),
+        Err(fault) => (RunOutcome::Fault(fault), lanes),
     }
 }
 
@@ -144,8 +145,9 @@ pub fn solve_limited<R: Threads + Wait + Sync, G: Gate + Sync>(
 {
     let made = make_run(alloc, plan)?;
     let gate = HubGate::new(gate, &made.hub.parker)?;
-    match run_made(rt, alloc, plan, &gate, starts, made) {
-        RunOutcome::Whole(report) => Ok(report),
+    let (outcome, lanes) = run_made(rt, alloc, plan, &gate, starts, made);
+    match outcome {
+        RunOutcome::Whole(verdict) => Ok(Report { verdict, lanes }),
         RunOutcome::Fault(fault) => Err(SolveFault::from(fault)),
         RunOutcome::UsedUp => {
             let workers = plan.options().workers();
