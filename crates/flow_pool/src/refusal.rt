@@ -4,7 +4,7 @@ ghost use Rattle.std.specs.Prelude.{◌≡◌};
 
 use std::thread::SpawnError;
 
-/// The system refused to start the thread of a worker. Only the error of such a start makes one.
+/// The system refused to start the thread of a worker. It is made of the error of that start.
 #[derive(Drop)]
 pub(crate) struct Refusal {
     worker: u32,
