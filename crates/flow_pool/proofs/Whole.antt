@@ -33,6 +33,11 @@ use Rattle.flow_pool.proofs.Undeal.{same_from_dealt, All-from_dealt, length-deal
 use Rattle.flow_pool.proofs.Turns.{get_or-dealt}
 use Rattle.flow_pool.proofs.Settles.{ends_once-asking, asking-injective}
 
+-- lists that give the same list are of one length
+pub same-length : {X Y Z : Type 0} (f : X → Z) (g : Y → Z) (xs : List X) (ys : List Y) → map f xs ≡ map g ys →
+    length xs ≡ length ys
+same-length f g xs ys e = sym (length-map xs f) ∙ (ap length e ∙ length-map ys g)
+
 pub by_worker-length : {X Y : Type 0} (f : X → Y) (g : ℕ → Y) (xs : List X) (k : ℕ) → map f xs ≡ by_worker k g →
     length xs ≡ k
 by_worker-length {X} {Y} f g xs k e =

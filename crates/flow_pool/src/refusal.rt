@@ -1,15 +1,20 @@
 //! That the system refused to start a thread.
 
+ghost use Rattle.std.specs.Prelude.{◌≡◌};
+
 use std::thread::SpawnError;
 
-/// The system refused to start a thread. Only the error of such a start makes one.
+/// The system refused to start the thread of a worker. It is made of the error of that start.
 #[derive(Drop)]
 pub(crate) struct Refusal {
-    seen: (),
+    worker: u32,
 }
 
-impl<F: Drop> From<SpawnError<F>> for Refusal {
-    fn from(_error: SpawnError<F>) -> Refusal {
-        Refusal { seen: () }
+impl Refusal {
+    /// That of the worker, counted from 0, whose start gave this error.
+    pub(crate) fn new<F: Drop>(worker: u32, _error: SpawnError<F>) -> Refusal
+        ensures { result.worker ≡ worker }
+    {
+        Refusal { worker }
     }
 }

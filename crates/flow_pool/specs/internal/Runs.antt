@@ -1,7 +1,11 @@
 -- What comes of a run that may start only some of its workers.
-use Rattle.std.specs.Prelude.{◌≡◌, ℕ, ◌<◌, ◌≤◌, [], map, vec_len, vec_capacity}
+use Rattle.std.specs.Prelude.{◌≡◌, ℕ, ◌+◌, ◌<◌, ◌≤◌, [], map, vec_len, vec_capacity}
+use Rattle.std.specs.Global.{Vec}
 use Rattle.flow_limits.specs.Limits.{most_prefixes}
 use Rattle.flow_search.specs.Plans.{Planned}
+use Rattle.flow_lanes.specs.declared.settled.Settled.{Settled}
+use Rattle.flow_pool.specs.declared.messages.Task.{Task}
+use Rattle.flow_pool.specs.declared.messages.Answer.{Answer}
 use Rattle.flow_pool.specs.declared.run.solve.RunOutcome.{RunOutcome}
 use Rattle.flow_pool.specs.declared.run.solve.RunOutcome.TheVariants.{Whole, Fault, UsedUp, Refused}
 use Rattle.flow_pool.specs.declared.run.make.Made.{Made}
@@ -13,12 +17,16 @@ use Rattle.flow_pool.specs.internal.HubSteps.{hub_slots}
 use Rattle.flow_pool.specs.internal.Start.{CanStart}
 
 -- a run of so many starts has a report or a fault only where they are enough, and has used them up only where they are
--- not
-abbrev pub IsRun : Planned → ℕ → RunOutcome → Type 0
-IsRun plan starts (Whole report) = IsReport plan report × (plan.options.workers ≤ starts)
-IsRun plan starts (Fault fault) = IsSolveFault plan (solve_fault fault) × (plan.options.workers ≤ starts)
-IsRun plan starts UsedUp = starts < plan.options.workers
-IsRun plan starts (Refused refusal) = 0 < starts
+-- not. The lanes of each worker that was started are settled: of all; of as many as may be; of those behind the worker
+-- that the system refused to start
+abbrev pub IsRun : Planned → ℕ → RunOutcome → Vec (Settled Task × Settled Answer) → Type 0
+IsRun plan starts (Whole verdict) lanes =
+    IsReport plan (record { verdict = verdict; lanes = lanes }) × (plan.options.workers ≤ starts)
+IsRun plan starts (Fault fault) lanes =
+    IsSolveFault plan (solve_fault fault) × ((plan.options.workers ≤ starts) × (vec_len lanes ≡ plan.options.workers))
+IsRun plan starts UsedUp lanes = (starts < plan.options.workers) × (vec_len lanes ≡ starts)
+IsRun plan starts (Refused refusal) lanes =
+    (vec_len lanes < starts) × (vec_len lanes + refusal.worker + 1 ≡ plan.options.workers)
 
 -- the plan has a worker, and no more prefixes than a plan may have; all lanes are new, of run_slots slots; the workers
 -- and the hub can start; there is room for all outcomes and lanes

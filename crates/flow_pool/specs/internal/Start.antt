@@ -1,5 +1,5 @@
 -- What holds before the workers are started, and after they have ended.
-use Rattle.std.specs.Prelude.{◌≡◌, ℕ, ◌<◌, ◌≤◌, List, length, map, All}
+use Rattle.std.specs.Prelude.{◌≡◌, ℕ, ◌+◌, ◌<◌, ◌≤◌, List, length, map, All}
 use Rattle.flow_limits.specs.Limits.{most_workers}
 use Rattle.flow_pool.specs.declared.lane_ends.HubEnds.{HubEnds}
 use Rattle.flow_pool.specs.declared.lane_ends.WorkerEnds.{WorkerEnds}
@@ -27,8 +27,9 @@ pub record HasEnded (gives : WorkerEnds → Type 0) (workers : List WorkerEnds) 
   pub served : All gives workers
   pub collected : All IsCollected hubs
 
--- how many of `count` workers were started, where `starts` may be: all; just `starts`, which are fewer; fewer than both
+-- how many of `count` workers were started, the last first, where `starts` may be: all; just `starts`, which are fewer;
+-- fewer than `starts`, and just those behind the worker that the system refused to start
 abbrev pub HasStarted : Started → ℕ → ℕ → ℕ → Type 0
 HasStarted Complete starts count started = (started ≡ count) × (count ≤ starts)
 HasStarted UsedUp starts count started = (started ≡ starts) × (starts < count)
-HasStarted (Refused refusal) starts count started = (started < starts) × (started < count)
+HasStarted (Refused refusal) starts count started = (started < starts) × (started + refusal.worker + 1 ≡ count)

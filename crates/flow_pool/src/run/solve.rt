@@ -30,8 +30,8 @@ pub struct Report {
 /// What comes of a run that may start only some of its workers.
 #[derive(Drop)]
 enum RunOutcome {
-    /// The report of all workers.
-    Whole(Report),
+    /// All workers were started, and this is the verdict.
+    Whole(Verdict),
     /// All workers were started, and there is no verdict.
     Fault(RunFault),
     /// As many workers were started as may be, and the plan has more.
@@ -86,8 +86,9 @@ fn outcomes_of(answers: Vec<Answer>, room: Vec<Outcome>) -> Vec<Outcome>
     outcomes
 }
 
-/// Runs as `run_limited` does, from the start of the first worker on. Where the starts are used up it says so, whether
-/// or not there is memory.
+/// Runs as `solve_limited` does, from the start of the first worker on, and tells apart why not all workers were
+/// started. Where the starts are used up it says so, whether or not there is memory. Returns what comes of it, and the
+/// settled lanes of each worker that was started.
 fn run_made<R: Threads + Wait + Sync, G: Gate + Sync>(
     rt: &R,
     alloc: Global,
@@ -95,9 +96,9 @@ fn run_made<R: Threads + Wait + Sync, G: Gate + Sync>(
     gate: &HubGate<G>,
     starts: u32,
     made: Made,
-) -> RunOutcome
+) -> (RunOutcome, Vec<LanePair>)
     requires { IsMade plan.now made }
-    ensures { IsRun plan.now starts result }
+    ensures { IsRun plan.now starts result.0 result.1 }
 {
     let Made {
         ends,
@@ -115,38 +116,22 @@ fn run_made<R: Threads + Wait + Sync, G: Gate + Sync>(
     settle_all(hubs, workers, &mut lanes);
     match start {
         Started::Complete => {}
-        Started::UsedUp => return RunOutcome::UsedUp,
-        Started::Refused(refusal) => return RunOutcome::Refused(refusal),
+        Started::UsedUp => return (RunOutcome::UsedUp, lanes),
+        Started::Refused(refusal) => return (RunOutcome::Refused(refusal), lanes),
     }
     let outcomes = outcomes_of(answers, room);
     if let Some(fault) = first_refusal(&outcomes) {
-        return RunOutcome::Fault(fault);
+        return (RunOutcome::Fault(fault), lanes);
     }
     match conclude(alloc, plan, outcomes) {
-        Ok(verdict) => RunOutcome::Whole(Report { verdict, lanes }),
-        Err(fault) => RunOutcome::Fault(fault),
+        Ok(verdict) => (RunOutcome::Whole(verdict), lanes),
+        Err(fault) => (RunOutcome::Fault(fault), lanes),
     }
-}
-
-/// Runs the plan as `solve_limited` does, and tells apart why not all workers were started. `AllocError` where memory
-/// ran out before a worker was started.
-fn run_limited<R: Threads + Wait + Sync, G: Gate + Sync>(
-    rt: &R,
-    alloc: Global,
-    plan: &Plan,
-    gate: &G,
-    starts: u32,
-) -> Result<RunOutcome, AllocError>
-    ensures { IfOk result (λ run. IsRun plan.now starts run) }
-{
-    let made = make_run(alloc, plan)?;
-    let gate = HubGate::new(gate, &made.hub.parker)?;
-    Ok(run_made(rt, alloc, plan, &gate, starts, made))
 }
 
 /// Solves the plan as `solve` does, but starts at most `starts` workers: the next start counts as one that failed.
-/// Where the plan has more workers it refuses, by `Memory` before any worker starts, else by `Threads`. For callers
-/// alone, to try a start that fails.
+/// Where the plan has more workers it refuses, by `Memory` before any worker starts, else by `Threads`. So a caller can
+/// try a start that fails.
 pub fn solve_limited<R: Threads + Wait + Sync, G: Gate + Sync>(
     rt: &R,
     alloc: Global,
@@ -158,10 +143,18 @@ pub fn solve_limited<R: Threads + Wait + Sync, G: Gate + Sync>(
     ensures fault { IfErr result (λ fault. IsSolveFault plan.now fault) }
     ensures limited { starts < plan.now.options.workers → (result ≡ Err Memory) ⊎ (result ≡ Err Threads) }
 {
-    match run_limited(rt, alloc, plan, gate, starts)? {
-        RunOutcome::Whole(report) => Ok(report),
+    let made = make_run(alloc, plan)?;
+    let gate = HubGate::new(gate, &made.hub.parker)?;
+    let (outcome, lanes) = run_made(rt, alloc, plan, &gate, starts, made);
+    match outcome {
+        RunOutcome::Whole(verdict) => Ok(Report { verdict, lanes }),
         RunOutcome::Fault(fault) => Err(SolveFault::from(fault)),
-        RunOutcome::UsedUp | RunOutcome::Refused(_) => Err(SolveFault::Threads),
+        RunOutcome::UsedUp => {
+            let workers = plan.options().workers();
+            prove!(starts < workers);
+            Err(SolveFault::Threads)
+        }
+        RunOutcome::Refused(_) => Err(SolveFault::Threads),
     }
 }
 
@@ -178,10 +171,5 @@ pub fn solve<R: Threads + Wait + Sync, G: Gate + Sync>(
     ensures report { IfOk result (λ report. IsReport plan.now report) }
     ensures fault { IfErr result (λ fault. IsSolveFault plan.now fault) }
 {
-    match run_limited(rt, alloc, plan, gate, plan.options().workers())? {
-        RunOutcome::Whole(report) => Ok(report),
-        RunOutcome::Fault(fault) => Err(SolveFault::from(fault)),
-        RunOutcome::UsedUp => unreachable!(),
-        RunOutcome::Refused(_) => Err(SolveFault::Threads),
-    }
+    solve_limited(rt, alloc, plan, gate, plan.options().workers())
 }

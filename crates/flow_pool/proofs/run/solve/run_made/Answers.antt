@@ -1,10 +1,23 @@
 use Rattle.std.proofs.Common.{◌≡◌, ◌∙◌, None, Some, length, map, sym, ap, rules, arith}
 use Rattle.flow_search.specs.Verdicts.{first_refusal}
 use Rattle.flow_pool.specs.declared.messages.Answer.{Answer}
+use Rattle.flow_pool.specs.internal.Settling.{pair_tasks, worker_tasks}
 use Rattle.flow_pool.proofs.Over.{IsSolveFault-first, none-over_budget}
 use Rattle.flow_pool.proofs.Whole.{answers-of-run, lawful-outcomes, All-IsDoneAnswer, AreWholeWork-from_parts}
-use Rattle.flow_pool.proofs.Whole.{HasCollected-dealt}
+use Rattle.flow_pool.proofs.Whole.{HasCollected-dealt, same-length}
 use Rattle.flow_pool.proofs.run.solve.run_made.Goals as goal
+
+pub returns-in-UsedUp : goal.returns-in-UsedUp
+returns-in-UsedUp g c =
+    let started = rw c.in-UsedUp.is at c.run_workers-ended.ensures.start in
+    let all = same-length pair_tasks worker_tasks _ _ c.settle_all.ensures.tasks.1 in
+    (omega (arith, started.1, c.requires.workers), omega (arith, all, started.0))
+
+pub returns-in-Refused : goal.returns-in-Refused
+returns-in-Refused g c =
+    let started = rw c.in-Refused.is at c.run_workers-ended.ensures.start in
+    let all = same-length pair_tasks worker_tasks _ _ c.settle_all.ensures.tasks.1 in
+    (omega (arith, all, started.0), omega (arith, all, started.1, c.requires.workers))
 
 pub first_refusal-requires : goal.first_refusal-requires
 first_refusal-requires g c =
@@ -23,11 +36,16 @@ returns-in-Some g c =
     let lawful = lawful-outcomes c.args.plan.now _ _ _ _ _ _ directed
     c.run_workers-ended.ensures.ended.served
     settled.tasks settled.answers c.requires.some c.outcomes_of-outcomes.ensures in
+    let started = rw c.in-Complete.is at c.run_workers-ended.ensures.start in
+    let all = same-length pair_tasks worker_tasks _ _ settled.tasks.1 in
     let first : first_refusal 0 outcomes ≡ Some c.in-Some.fault =
     ap (first_refusal 0) (sym c.deref.ensures.value) ∙ (sym c.first_refusal.ensures ∙ c.in-Some.is) in (
       IsSolveFault-first c.args.plan.now outcomes c.in-Some.fault (omega (arith, lawful.1, directed.few))
           lawful.0 first,
-      search rules,
+      (
+        omega (arith, started.1, c.requires.workers),
+        omega (arith, all, started.0, c.requires.workers),
+      ),
     )
 
 pub conclude-requires-clause-count : goal.conclude-requires-clause-count
