@@ -20,8 +20,8 @@ pub struct Insertion {
     pub makespan: u64,
 }
 
-/// What insertions are computed from and in: the rows of an instance, and an entry for each place of a partial sequence.
-/// It is made once for many insertions.
+/// What insertions are computed in: the rows of an instance, and an entry for each place of a partial sequence. It is
+/// made once for many insertions.
 #[derive(Drop)]
 pub struct InsertionRoom {
     rows: Vec<Row>,
