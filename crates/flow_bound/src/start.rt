@@ -1,6 +1,6 @@
 //! The starting sequence.
 
-pub(crate) mod insertion;
+mod insertion;
+pub(crate) mod insertion_room;
 mod job_order;
 pub(crate) mod neh;
-pub(crate) mod place;

@@ -3,20 +3,17 @@
 ghost use Rattle.std.specs.Prelude.{◌≡◌, ◌+◌, ◌<◌, take, IfOk};
 ghost use Rattle.flow_shop.specs.Paths.{span};
 ghost use Rattle.flow_shop.specs.Sequences.{IsSequence};
-ghost use Rattle.flow_improve.specs.internal.Rooms.{IsRoomFor};
+ghost use Rattle.flow_bound.specs.Rooms.{IsRoomFor};
 
 use crate::list::{place_of, put_in, take_out};
-use flow_bound::{Times, best_place};
-use flow_limits::MAX_MACHINES;
-use flow_shop::{Instance, Row, rows};
+use flow_bound::InsertionRoom;
+use flow_shop::Instance;
 use std::alloc::{AllocError, Global};
 
-/// What the makespans of insertions are computed from, and room to compute them in. It is made once for all rounds.
+/// Room for insertions, and how many steps they took. It is made once for all rounds.
 #[derive(Drop)]
 pub(crate) struct Room {
-    rows: Vec<Row>,
-    tails: Vec<Times>,
-    spans: Vec<u64>,
+    insertions: InsertionRoom,
     /// The steps so far: three for each job of a list in which a job is placed, and each machine.
     pub(crate) steps: u64,
 }
@@ -24,13 +21,10 @@ pub(crate) struct Room {
 impl Room {
     /// The room for the lists of an instance's jobs.
     pub(crate) fn new(alloc: Global, instance: &Instance) -> Result<Room, AllocError>
-        ensures { IfOk result (IsRoomFor instance.now) }
+        ensures { IfOk result (λ room. IsRoomFor instance.now room.insertions) }
     {
-        let jobs = usize::from(instance.jobs());
         Ok(Room {
-            rows: rows(alloc, instance)?,
-            tails: vec![in alloc; [0; MAX_MACHINES]; jobs]?,
-            spans: vec![in alloc; 0; jobs]?,
+            insertions: InsertionRoom::new(alloc, instance)?,
             steps: 0,
         })
     }
@@ -38,24 +32,17 @@ impl Room {
     /// Places the job at index `count` among the `count` jobs before it: at the earliest place of least makespan.
     /// Returns this makespan.
     pub(crate) fn place(&mut self, instance: &Instance, list: &mut [u16], count: usize) -> u64
-        requires room { IsRoomFor instance.now self.old }
+        requires room { IsRoomFor instance.now self.old.insertions }
         requires list { IsSequence instance.now.jobs list.old }
         requires count { count < instance.now.jobs }
-        ensures room { IsRoomFor instance.now self.new }
+        ensures room { IsRoomFor instance.now self.new.insertions }
         ensures list { IsSequence instance.now.jobs list.new }
         ensures makespan { result ≡ span instance.now (take (count + 1) list.new) }
     {
         let machines = usize::from(instance.machines());
         self.steps = self.steps.saturating_add(3 * (count * machines) as u64);
         let (before, rest) = list.split_at(count);
-        let best = best_place(
-            instance,
-            self.rows.as_slice(),
-            before,
-            rest[0],
-            self.tails.as_mut_slice(),
-            self.spans.as_mut_slice(),
-        );
+        let best = self.insertions.best_place(instance, before, rest[0]);
         put_in(&mut list[..count + 1], best.index);
         best.makespan
     }
@@ -69,10 +56,10 @@ impl Room {
         order: &[u16],
         before: u64,
     ) -> u64
-        requires room { IsRoomFor instance.now self.old }
+        requires room { IsRoomFor instance.now self.old.insertions }
         requires list { IsSequence instance.now.jobs list.old }
         requires before { before ≡ span instance.now list.old }
-        ensures room { IsRoomFor instance.now self.new }
+        ensures room { IsRoomFor instance.now self.new.insertions }
         ensures list { IsSequence instance.now.jobs list.new }
         ensures makespan { result ≡ span instance.now list.new }
     {

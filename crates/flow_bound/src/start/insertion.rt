@@ -1,19 +1,17 @@
-//! The makespans of a partial sequence with a job put in at each place.
+//! The makespan with a job between two lists, from fronts and tails.
 
 ghost use Rattle.std.specs.Prelude.{◌≡◌, ℕ, ◌+◌, ◌<◌, ◌≤◌, List, [], ◌∷◌, ◌++◌, length, drop, insert, All};
-ghost use Rattle.std.specs.Prelude.{slice_index, slice_index_or, vec_len, IfOk, false};
+ghost use Rattle.std.specs.Prelude.{slice_index, slice_index_or};
 ghost use Rattle.flow_shop.specs.Paths.{span};
 ghost use Rattle.flow_shop.specs.Front.{IsFrontOf, IsWithinFront};
-ghost use Rattle.flow_shop.specs.Sequences.{has, AreJobs};
 ghost use Rattle.flow_shop.specs.Rows.{AreRows};
 ghost use Rattle.flow_bound.specs.internal.Tails.{AreTails};
 
 use flow_limits::MAX_MACHINES;
-use flow_shop::{Instance, Row, rows};
-use std::alloc::{AllocError, Global};
+use flow_shop::{Instance, Row};
 
 /// A time for each machine, that of machine 1 first.
-pub type Times = [u32; MAX_MACHINES];
+pub(crate) type Times = [u32; MAX_MACHINES];
 
 /// Turns the tails of a list into those of the list with one more job before it, and writes them into a row too.
 fn push_tails(instance: &Instance, rows: &[Row], tails: &mut Times, job: u16, row: &mut Times)
@@ -35,7 +33,13 @@ fn push_tails(instance: &Instance, rows: &[Row], tails: &mut Times, job: u16, ro
 }
 
 /// The makespan with a job between two lists, from the front of the first and the tails of the second.
-fn span_between(instance: &Instance, rows: &[Row], front: &Times, job: u16, tails: &Times) -> u64
+pub(crate) fn span_between(
+    instance: &Instance,
+    rows: &[Row],
+    front: &Times,
+    job: u16,
+    tails: &Times,
+) -> u64
     requires rows { AreRows instance.now rows.now }
     requires job_from { 1 ≤ job }
     requires job_to { job ≤ instance.now.jobs }
@@ -57,7 +61,7 @@ fn span_between(instance: &Instance, rows: &[Row], front: &Times, job: u16, tail
 
 /// The makespan with a job between two lists, from the front of the first and the tails of the second. Turns the front
 /// into that of the first list with its own next job at its end.
-fn span_and_push(
+pub(crate) fn span_and_push(
     instance: &Instance,
     rows: &[Row],
     front: &mut Times,
@@ -94,7 +98,7 @@ fn span_and_push(
 }
 
 /// Writes the tails of the jobs behind each place of a partial sequence.
-fn fill_tails(instance: &Instance, rows: &[Row], partial: &[u16], tails: &mut [Times])
+pub(crate) fn fill_tails(instance: &Instance, rows: &[Row], partial: &[u16], tails: &mut [Times])
     requires rows { AreRows instance.now rows.now }
     requires short { length partial.now < instance.now.jobs }
     requires jobs { All (λ job. (1 ≤ job) × (job ≤ instance.now.jobs)) partial.now }
@@ -113,63 +117,4 @@ fn fill_tails(instance: &Instance, rows: &[Row], partial: &[u16], tails: &mut [T
             &mut tails[place],
         );
     }
-}
-
-/// Writes the makespan with a job put in at each place of a partial sequence. `tails` is room to compute in.
-pub(crate) fn fill_spans(
-    instance: &Instance,
-    rows: &[Row],
-    partial: &[u16],
-    job: u16,
-    tails: &mut [Times],
-    spans: &mut [u64],
-)
-    requires rows { AreRows instance.now rows.now }
-    requires short { length partial.now < instance.now.jobs }
-    requires jobs { All (λ job. (1 ≤ job) × (job ≤ instance.now.jobs)) partial.now }
-    requires job_from { 1 ≤ job }
-    requires job_to { job ≤ instance.now.jobs }
-    requires tails_room { length partial.now < length tails.old }
-    requires spans_room { length partial.now < length spans.old }
-    ensures { (place : ℕ) → place ≤ length partial.now →
-        slice_index spans.new place ≡ span instance.now (insert partial.now place job) }
-{
-    fill_tails(instance, rows, partial, tails);
-    let mut front = [0; MAX_MACHINES];
-    for (index, next) in partial.iter().enumerate() {
-        spans[index] = span_and_push(instance, rows, &mut front, job, &tails[index], *next);
-    }
-    let last = partial.len();
-    spans[last] = span_between(instance, rows, &front, job, &tails[last]);
-}
-
-/// The makespan of a partial sequence with a job put in at each place; entry `i`: put in behind the first `i` jobs. For
-/// callers alone: `neh` calls `best_place`, which needs no memory.
-pub fn insertion_spans(
-    alloc: Global,
-    instance: &Instance,
-    partial: &[u16],
-    job: u16,
-) -> Result<Vec<u64>, AllocError>
-    requires jobs { AreJobs instance.now.jobs partial.now }
-    requires job_from { 1 ≤ job }
-    requires job_to { job ≤ instance.now.jobs }
-    requires other { has partial.now job ≡ false }
-    ensures count { IfOk result (λ spans. vec_len spans ≡ length partial.now + 1) }
-    ensures each { IfOk result (λ spans. (place : ℕ) → place ≤ length partial.now →
-        slice_index spans.items place ≡ span instance.now (insert partial.now place job)) }
-{
-    let places = partial.len() + 1;
-    let rows = rows(alloc, instance)?;
-    let mut tails = vec![in alloc; [0; MAX_MACHINES]; places]?;
-    let mut spans = vec![in alloc; 0; places]?;
-    fill_spans(
-        instance,
-        rows.as_slice(),
-        partial,
-        job,
-        tails.as_mut_slice(),
-        spans.as_mut_slice(),
-    );
-    Ok(spans)
 }

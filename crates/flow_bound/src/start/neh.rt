@@ -5,10 +5,9 @@ ghost use Rattle.flow_shop.specs.Paths.{span};
 ghost use Rattle.flow_shop.specs.Sequences.{IsSequence};
 ghost use Rattle.flow_bound.specs.Neh.{IsNeh};
 
+use crate::start::insertion_room::InsertionRoom;
 use crate::start::job_order::by_total;
-use crate::start::place::best_place;
-use flow_limits::MAX_MACHINES;
-use flow_shop::{Instance, Sequence, rows};
+use flow_shop::{Instance, Sequence};
 use std::alloc::{AllocError, Global};
 
 /// The starting sequence and its makespan: jobs by decreasing total time, each put in at the earliest best place.
@@ -18,20 +17,11 @@ pub fn neh(alloc: Global, instance: &Instance) -> Result<(Sequence, u64), AllocE
     ensures each { IfOk result (λ start. IsSequence instance.now.jobs start.0) }
 {
     let order = by_total(alloc, instance)?;
-    let rows = rows(alloc, instance)?;
-    let mut tails = vec![in alloc; [0; MAX_MACHINES]; order.len() + 1]?;
-    let mut spans = vec![in alloc; 0; order.len() + 1]?;
+    let mut room = InsertionRoom::new(alloc, instance)?;
     let mut jobs = Vec::with_capacity(alloc, order.len())?;
     let mut makespan = 0;
     for job in order.as_slice() {
-        let best = best_place(
-            instance,
-            rows.as_slice(),
-            jobs.as_slice(),
-            *job,
-            tails.as_mut_slice(),
-            spans.as_mut_slice(),
-        );
+        let best = room.best_place(instance, jobs.as_slice(), *job);
         jobs.insert(best.index, *job)?;
         makespan = best.makespan;
     }

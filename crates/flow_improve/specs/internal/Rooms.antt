@@ -1,23 +1,16 @@
 -- What rounds compute in.
-use Rattle.std.specs.Prelude.{◌≡◌, ◌≤◌, vec_len}
+use Rattle.std.specs.Prelude.{◌≡◌}
 use Rattle.flow_shop.specs.Shop.{Shop}
 use Rattle.flow_shop.specs.Paths.{span}
-use Rattle.flow_shop.specs.Rows.{AreRows}
 use Rattle.flow_shop.specs.Sequences.{IsSequence}
-use Rattle.flow_improve.specs.declared.place.Room.{Room}
+use Rattle.flow_bound.specs.Rooms.{IsRoomFor}
 use Rattle.flow_improve.specs.declared.round.Rounds.{Rounds}
 use Rattle.flow_improve.specs.declared.rounds.Known.{Known}
 use Rattle.flow_improve.specs.declared.rounds.RoundsRun.{RoundsRun}
 
--- there is room for all places of an instance's jobs
-pub record IsRoomFor (shop : Shop) (room : Room) : Type 0 where
-  pub rows : AreRows shop room.rows.items
-  pub tails : shop.jobs ≤ vec_len room.tails
-  pub spans : shop.jobs ≤ vec_len room.spans
-
 -- there is room, and both lists have the jobs
 pub record IsRoundsFor (shop : Shop) (rounds : Rounds) : Type 0 where
-  pub room : IsRoomFor shop rounds.room
+  pub room : IsRoomFor shop rounds.room.insertions
   pub jobs : IsSequence shop.jobs rounds.jobs.items
   pub order : IsSequence shop.jobs rounds.order.items
 

@@ -18,8 +18,7 @@ loop-job-init c =
       list = none;
       makespan = sym (ap (span shop) none ∙ span-none shop);
       count = c.in_ok-jobs.ensures.len;
-      tails = omega (arith, c.as_slice-job-items.ensures.len, c.len.ensures, c.in_ok-tails.ensures.len);
-      spans = omega (arith, c.as_slice-job-items.ensures.len, c.len-2.ensures, c.in_ok-spans.ensures.len);
+      room = c.in_ok-room.ensures;
       each = subst (AreJobs shop.jobs) (sym none) (no-jobs shop.jobs);
       same = λ job. ap (λ xs. has xs job) none;
     }
@@ -34,13 +33,13 @@ loop-job-preserved c =
     let index = c.loop-job.job-index in
     let job : ℕ = slice_index_or items index 0 in
     let jobs : List ℕ = c.loop-job.jobs.items in
-    let now : c.as_slice-in-loop-job.result.now ≡ jobs = c.as_slice-in-loop-job.ensures.value in
+    let now : c.as_slice.result.now ≡ jobs = c.as_slice.ensures.value in
     let at = c.best_place-best.result.index in
     let before = c.loop-job.invariant in
     let new : c.insert.new.self.items ≡ insert jobs at job = c.in_ok-insert.ensures.items in
     let found = c.best_place-best.ensures in
     let best : insert jobs at job ≡ inserted shop jobs job =
-    subst (λ xs. insert xs at job ≡ inserted shop xs job) now (inserted-is shop job c.as_slice-in-loop-job.result.now
+    subst (λ xs. insert xs at job ≡ inserted shop xs job) now (inserted-is shop job c.as_slice.result.now
     at c.best_place-best.result.makespan found.within found.makespan found.least found.earliest) in
     let makespan : c.best_place-best.result.makespan ≡ span shop (insert jobs at job) =
     subst (λ xs. c.best_place-best.result.makespan
@@ -55,8 +54,7 @@ loop-job-preserved c =
           ∙ sym (all_inserted-push shop [] (take index items) job) ∙ ap (all_inserted shop []) more;
       makespan = makespan ∙ ap (span shop) (sym new);
       count = omega (arith, c.in_ok-insert.ensures.len, before.count);
-      tails = omega (arith, before.tails);
-      spans = omega (arith, before.spans);
+      room = found.room;
       each = subst (AreJobs shop.jobs) (sym new) (jobs-insert shop.jobs jobs at job before.each range.0 range.1 fresh);
       same = λ k. ap (λ xs. has xs k) new ∙ has-more jobs (take index items) at job k (before.same k)
           ∙ ap (λ xs. has xs k) more;

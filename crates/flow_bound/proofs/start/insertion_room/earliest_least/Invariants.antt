@@ -1,5 +1,5 @@
 use Rattle.std.proofs.Common.{ℕ, ◌<◌, ◌≤◌, length, slice_index}
-use Rattle.flow_bound.proofs.start.place.earliest_least.Given as goal
+use Rattle.flow_bound.proofs.start.insertion_room.earliest_least.Given as goal
 
 -- the best of the places so far
 abbrev pub invariant-loop-place : goal.invariant-loop-place
