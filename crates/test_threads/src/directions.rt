@@ -58,11 +58,23 @@ static PUBLISHED: [Published; 5] = [
 /// How many workers there are.
 const WORKERS: [usize; 6] = [0, 1, 2, 3, 4, 64];
 
-/// Keeps how many directions it was told of last, and whether they ever became fewer.
+/// Keeps how many directions it was told of last, whether they ever became fewer, and how often it was told.
 #[derive(Drop)]
 struct Told {
     last: Cell<u64>,
     fell: Cell<bool>,
+    times: Cell<u64>,
+}
+
+impl Told {
+    /// It was told nothing.
+    fn nothing() -> Told {
+        Told {
+            last: Cell::new(0),
+            fell: Cell::new(false),
+            times: Cell::new(0),
+        }
+    }
 }
 
 impl Watch for Told {
@@ -76,6 +88,7 @@ impl Watch for Told {
                 self.fell.set(true);
             }
             self.last.set(directions);
+            self.times.set(self.times.get().saturating_add(1));
         }
     }
 }
@@ -87,10 +100,7 @@ fn is_published<R: Threads + Sync>(rt: &R, alloc: Global, row: &Published, worke
     let Ok(instance) = generate(alloc, jobs, machines, seed) else {
         return false;
     };
-    let told = Told {
-        last: Cell::new(0),
-        fell: Cell::new(false),
-    };
+    let told = Told::nothing();
     let workers = Workers {
         rt,
         count: workers,
@@ -131,5 +141,37 @@ fn workers_find_the_published_directions(rt: HostRuntime) {
                 row.2
             );
         }
+    }
+}
+
+/// Workers, and how often a watch may be told of 116,565 directions of 20 jobs: at least as often as there would be
+/// rounds if all directions of each were known at its end, and once more. One worker searches the first 12,000. Then a
+/// round has an eighth of the directions so far, and at least 2,000 for each worker where there are as many so far: 19
+/// rounds by one worker, 12 by four, and 4 by sixty-four.
+static ROUNDS: [(usize, u64, u64); 3] = [(1, 21, 40), (4, 14, 40), (64, 6, 40)];
+
+/// How often a watch is told of the directions of the second published instance.
+fn times_told<R: Threads + Sync>(rt: &R, alloc: Global, workers: usize) -> u64 {
+    let (jobs, machines, seed, number, length, _) = PUBLISHED[1];
+    let told = Told::nothing();
+    let workers = Workers {
+        rt,
+        count: workers,
+        watch: &told,
+    };
+    if let Ok(instance) = generate(alloc, jobs, machines, seed) {
+        let _ = prove_by(&workers, alloc, &instance, number, length);
+    }
+    told.times.get()
+}
+
+#[test]
+fn rounds_grow_with_the_directions(rt: HostRuntime) {
+    for (workers, least, most) in &ROUNDS {
+        let times = times_told(&rt, rt.alloc(), *workers);
+        assert!(rt;
+            *least <= times && times <= *most,
+            "{workers} workers: told {times} times"
+        );
     }
 }
