@@ -1,11 +1,11 @@
-use Rattle.std.proofs.Common.{◌≡◌, true, ◌∷◌, length, ap, sym, ◌∙◌, subst, map, inl, arith}
+use Rattle.std.proofs.Common.{◌≡◌, ap, sym, ◌∙◌, subst, inl, arith}
 use Rattle.std.proofs.lemmas.Bool.{false≢true}
 use Rattle.std.proofs.lemmas.Result.{IfOk-weaker}
 use Rattle.std.specs.Prelude.{IfOk}
 use Rattle.flow_directions.specs.Search.{IsAdvanced}
 use Rattle.flow_directions.specs.declared.found.Advanced.TheVariants.{Rest}
-use Rattle.flow_workers.specs.internal.Pieces.{has_reached, pieces_met, written}
-use Rattle.flow_workers.specs.declared.piece.Piece.TheVariants.{Done, Left}
+use Rattle.flow_workers.specs.internal.Pieces.{has_reached, pieces_met}
+use Rattle.flow_workers.specs.declared.piece.Piece.TheVariants.{Done}
 use Rattle.flow_workers.proofs.PieceSteps.{budget-written, left-reached, rest-met}
 use Rattle.flow_workers.proofs.Results.{IfOk-both}
 use Rattle.flow_workers.proofs.node.search_node.Goals as goal
