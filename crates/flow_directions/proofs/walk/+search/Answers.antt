@@ -1,4 +1,4 @@
-use Rattle.std.proofs.Common.{rules, ◌≡◌, ◌*◌, ◌≤◌, [], ◌∷◌, ◌++◌, length, take}
+use Rattle.std.proofs.Common.{rules, ◌≡◌, ℕ, ◌-◌, ◌*◌, ◌≤◌, List, [], ◌∷◌, ◌++◌, length, take}
 use Rattle.std.proofs.Common.{slice_index_or, replicate, refl, ap, sym, ◌∙◌, subst, arith}
 use Rattle.std.proofs.Common.{length-append}
 use Rattle.std.proofs.lemmas.List.{length-replicate, length-set}
@@ -7,12 +7,16 @@ use Rattle.flow_directions.specs.internal.Lists.{HasLists}
 use Rattle.flow_directions.specs.internal.Packs.{jobs_at}
 use Rattle.flow_directions.specs.declared.pack.Pack.{Pack}
 use Rattle.flow_directions.specs.internal.Left.{IsNodeLeft, AreChildrenLeft}
-use Rattle.flow_directions.proofs.WalkSteps.{Stands, stands-first, stands-next, stands-done, head-same}
-use Rattle.flow_directions.proofs.ChildSteps.{index-same, packs-keep, pack-few, at-count, next-here, stands-job}
+use Rattle.flow_directions.specs.internal.Walk.{IsAt, KeepsPacks}
+use Rattle.flow_directions.proofs.WalkSteps.{IsOpen, Stands, stands-first, stands-next, stands-done, head-same}
+use Rattle.flow_directions.proofs.ChildSteps.{IsNext, index-same, packs-keep, pack-few, at-count, next-here, stands-job}
 use Rattle.flow_directions.proofs.ChildSteps.{job-open, child-at, ends-below, ends-here, ends-over, over-lists}
 use Rattle.flow_directions.proofs.ChildSteps.{last-reached, last-written}
 use Rattle.flow_directions.proofs.PackedSteps.{rooms-set, split-first, split-behind, split-rooms, packed-at}
+use Rattle.flow_directions.proofs.walk.+search.Given.{Over}
 use Rattle.flow_directions.proofs.walk.+search.Goals as goal
+use Rattle.flow_directions.proofs.walk.+search.Goals.{After-index-job, After-child-child, After-search-in-Some}
+use Rattle.flow_directions.proofs.walk.+search.Goals.{In-Err-Over}
 
 pub search-requires : goal.search-requires
 search-requires g t c κs within =
@@ -158,19 +162,73 @@ put-requires g t c =
       at-count at c.index-packs-0-in-Some.result,
     )
 
+-- the job that is put next
+next : (g : Over) (t : ℕ) (c : After-index-job g t) {first last : List ℕ} →
+    IsAt g.V.Lanes.list g.V.Lanes.CAP g.V.Lanes.WIDTH c.args.instance.now c.args.terms.number first last c.args.left
+    c.args.written.now.lists c.args.marked.now c.args.packs.now →
+    IsNext c.args.instance.now c.args.terms.number (slice_index_or c.args.packs.now 0 c.index-packs-0-in-Some.result)
+    c.open-opened.result.end first last c.args.written.now.directions.items c.children.written.directions.items
+    c.children.written.lists c.children.below c.pop.new.self c.in-Some.place c.index-job.result.now
+next g t c {first} {last} at =
+    let pack = c.index-packs-0-in-Some.result in
+    next-here at pack c.children.packs c.len-groups.result c.children.invariant.packs
+    (c.children.invariant.groups pack) c.in-Some.ensures.within c.in-Some.ensures.first c.index-job.ensures
+    (c.children.invariant.stands pack first last at)
+
+-- it is left, and its child is below the number
+open-job : (g : Over) (t : ℕ) (c : After-index-job g t) {first last : List ℕ} →
+    IsAt g.V.Lanes.list g.V.Lanes.CAP g.V.Lanes.WIDTH c.args.instance.now c.args.terms.number first last c.args.left
+    c.args.written.now.lists c.args.marked.now c.args.packs.now →
+    IsOpen c.args.instance.now c.args.terms.number c.open-opened.result.end first last c.index-job.result.now
+open-job g t c at = job-open at c.index-packs-0-in-Some.result (next g t c at)
+
+-- the search stands at its child
+child : (g : Over) (t : ℕ) (c : After-child-child g t) {first last : List ℕ} →
+    IsAt g.V.Lanes.list g.V.Lanes.CAP g.V.Lanes.WIDTH c.args.instance.now c.args.terms.number first last c.args.left
+    c.args.written.now.lists c.args.marked.now c.args.packs.now →
+    IsAt g.V.Lanes.list g.V.Lanes.CAP g.V.Lanes.WIDTH c.args.instance.now c.args.terms.number
+    (first_with c.open-opened.result.end first c.index-job.result.now)
+    (last_with c.open-opened.result.end last c.index-job.result.now) (c.args.left - 1) c.put.new.self
+    c.child-child.result c.children.packs
+child g t c {first} {last} at =
+    let pack = c.index-packs-0-in-Some.result in
+    let before = (goal.at.After-child-child g t c).After-index-job in
+    let is = next g t before at in
+    let left = (open-job g t before at).left in
+    child-at at pack is c.put.new.self c.child-child.result c.children.packs c.requires.few c.children.invariant.packs
+    (c.put.ensures c.args.instance.now.jobs first last is.stands.has_lists)
+    (c.child-child.ensures.node first last (at.is_marked pack).is_node left)
+    (λ names has_left within named. c.child-child.ensures.left first last names has_left left within named
+    (c.children.invariant.marked c.in-Some.place c.in-Some.ensures.marked))
+
+-- where its search is over, the search stands at it again
+child-lists : (g : Over) (t : ℕ) (c : In-Err-Over g t) {first last : List ℕ} →
+    IsAt g.V.Lanes.list g.V.Lanes.CAP g.V.Lanes.WIDTH c.args.instance.now c.args.terms.number first last c.args.left
+    c.args.written.now.lists c.args.marked.now c.args.packs.now →
+    HasLists c.args.instance.now.jobs (first_with c.open-opened.result.end first c.index-job.result.now)
+    (last_with c.open-opened.result.end last c.index-job.result.now) c.search-in-Some.new.written.lists
+child-lists g t c at =
+    over-lists c.args.instance.now c.args.terms.number c.args.terms.budget _ _ c.children.written.directions.items
+    c.search-in-Some.new.written c.in-Err-Over.field-0 c.in-Err-Over.field-0-is
+    (c.in-Err-Over.ensures.ends _ _ (child g t (goal.at.In-Err-Over g t c).After-child-child at))
+
+-- the packs stay as they were
+packs : (g : Over) (t : ℕ) (c : After-search-in-Some g t) →
+    KeepsPacks c.args.instance.now c.args.packs.now c.search-in-Some.new.packs
+packs g t c =
+    packs-keep c.args.instance.now c.args.packs.now c.children.packs c.search-in-Some.new.packs
+    c.children.invariant.packs c.search-in-Some.ensures.packs
+
 pub returns-then-left-eq1-clause-packs : goal.returns-then-left-eq1-clause-packs
 returns-then-left-eq1-clause-packs g t c = c.children.invariant.packs
 
 pub returns-then-left-eq1-clause-ends : goal.returns-then-left-eq1-clause-ends
 returns-then-left-eq1-clause-ends g t c first last at =
-    let pack : Pack g.row.V.Denot = c.index-packs-0-in-Some.result in
-    let next = next-here at c.index-packs-0-in-Some.result c.children.packs c.len-groups.result
-    c.children.invariant.packs (c.children.invariant.groups c.index-packs-0-in-Some.result) c.in-Some.ensures.within
-    c.in-Some.ensures.first c.index-job.ensures
-    (c.children.invariant.stands c.index-packs-0-in-Some.result first last at) in (
-      last-reached at pack next c.if-left-eq1.true c.put.new.self
-          (c.put.ensures c.args.instance.now.jobs first last next.stands.has_lists),
-      sym (last-written at pack next c.if-left-eq1.true),
+    let pack = c.index-packs-0-in-Some.result in
+    let is = next g t (goal.at.returns-then-left-eq1-clause-ends g t c).After-index-job at in (
+      last-reached at pack is c.if-left-eq1.true c.put.new.self
+          (c.put.ensures c.args.instance.now.jobs first last is.stands.has_lists),
+      sym (last-written at pack is c.if-left-eq1.true),
       c.children.invariant.within,
     )
 
@@ -185,41 +243,19 @@ child-child-requires-clause-place g t c =
 
 pub child-child-requires-clause-job : goal.child-child-requires-clause-job
 child-child-requires-clause-job g t c =
-    let pack : Pack g.row.V.Denot = c.index-packs-0-in-Some.result in
-    let next = next-here c.requires.at.2 c.index-packs-0-in-Some.result c.children.packs c.len-groups.result
-    c.children.invariant.packs (c.children.invariant.groups c.index-packs-0-in-Some.result) c.in-Some.ensures.within
-    c.in-Some.ensures.first c.index-job.ensures
-    (c.children.invariant.stands c.index-packs-0-in-Some.result c.requires.at.0 c.requires.at.1 c.requires.at.2) in
-    (job-open c.requires.at.2 pack next).is_job
+    (open-job g t (goal.at.child-child-requires-clause-job g t c).After-index-job c.requires.at.2).is_job
 
 pub child-child-requires-clause-left : goal.child-child-requires-clause-left
-child-child-requires-clause-left g t c =
-    let pack : Pack g.row.V.Denot = c.index-packs-0-in-Some.result in
-    let next = next-here c.requires.at.2 c.index-packs-0-in-Some.result c.children.packs c.len-groups.result
-    c.children.invariant.packs (c.children.invariant.groups c.index-packs-0-in-Some.result) c.in-Some.ensures.within
-    c.in-Some.ensures.first c.index-job.ensures
-    (c.children.invariant.stands c.index-packs-0-in-Some.result c.requires.at.0 c.requires.at.1 c.requires.at.2) in (
-      c.requires.at.0,
-      c.requires.at.1,
-      (c.requires.at.2.is_marked pack).is_node,
-      (job-open c.requires.at.2 pack next).left,
-    )
+child-child-requires-clause-left g t c = (
+  c.requires.at.0,
+  c.requires.at.1,
+  (c.requires.at.2.is_marked c.index-packs-0-in-Some.result).is_node,
+  (open-job g t (goal.at.child-child-requires-clause-left g t c).After-index-job c.requires.at.2).left,
+)
 
 pub search-requires-in-Some : goal.search-requires-in-Some
 search-requires-in-Some g t c κs within =
-    let pack : Pack g.row.V.Denot = c.index-packs-0-in-Some.result in
-    let next = next-here c.requires.at.2 c.index-packs-0-in-Some.result c.children.packs c.len-groups.result
-    c.children.invariant.packs (c.children.invariant.groups c.index-packs-0-in-Some.result) c.in-Some.ensures.within
-    c.in-Some.ensures.first c.index-job.ensures
-    (c.children.invariant.stands c.index-packs-0-in-Some.result c.requires.at.0 c.requires.at.1 c.requires.at.2) in
-    let child = child-at c.requires.at.2 pack next c.put.new.self c.child-child.result c.children.packs c.requires.few
-    c.children.invariant.packs (c.put.ensures c.args.instance.now.jobs c.requires.at.0 c.requires.at.1
-    next.stands.has_lists)
-    (c.child-child.ensures.node c.requires.at.0 c.requires.at.1 (c.requires.at.2.is_marked pack).is_node
-    (job-open c.requires.at.2 pack next).left)
-    (λ names left within named. c.child-child.ensures.left c.requires.at.0 c.requires.at.1 names left
-    (job-open c.requires.at.2 pack next).left
-    within named (c.children.invariant.marked c.in-Some.place c.in-Some.ensures.marked)) in (
+    let at = child g t (goal.at.search-requires-in-Some g t c).After-child-child c.requires.at.2 in (
       omega (arith, c.decreases, c.if-left-eq1.false, c.requires.some, c.children.invariant.packs.count),
       (
         within,
@@ -242,7 +278,7 @@ search-requires-in-Some g t c κs within =
                         (
                           (first_with c.open-opened.result.end c.requires.at.0 c.index-job.result.now),
                           (last_with c.open-opened.result.end c.requires.at.1 c.index-job.result.now),
-                          child,
+                          at,
                         ),
                       ),
                     ),
@@ -257,72 +293,33 @@ search-requires-in-Some g t c κs within =
 
 pub returns-in-Err-Below-clause-packs : goal.returns-in-Err-Below-clause-packs
 returns-in-Err-Below-clause-packs g t c =
-    packs-keep c.args.instance.now c.args.packs.now c.children.packs c.search-in-Some.new.packs
-    c.children.invariant.packs c.search-in-Some.ensures.packs
+    packs g t (goal.at.returns-in-Err-Below-clause-packs g t c).After-search-in-Some
 
 pub returns-in-Err-Below-clause-ends : goal.returns-in-Err-Below-clause-ends
 returns-in-Err-Below-clause-ends g t c first last at =
-    let pack : Pack g.row.V.Denot = c.index-packs-0-in-Some.result in
-    let next = next-here at c.index-packs-0-in-Some.result c.children.packs c.len-groups.result
-    c.children.invariant.packs (c.children.invariant.groups c.index-packs-0-in-Some.result) c.in-Some.ensures.within
-    c.in-Some.ensures.first c.index-job.ensures
-    (c.children.invariant.stands c.index-packs-0-in-Some.result first last at) in
-    let child = child-at at pack next c.put.new.self c.child-child.result c.children.packs c.requires.few
-    c.children.invariant.packs (c.put.ensures c.args.instance.now.jobs first last next.stands.has_lists)
-    (c.child-child.ensures.node first last (at.is_marked pack).is_node (job-open at pack next).left)
-    (λ names left within named. c.child-child.ensures.left first last names left (job-open at pack next).left
-    within named (c.children.invariant.marked c.in-Some.place c.in-Some.ensures.marked)) in
-    ends-below at pack next c.args.terms.budget c.search-in-Some.new.written c.in-Err-Below.field-0
-    c.in-Err-Below.field-0-is
-    (c.in-Err-Below.ensures.ends (first_with c.open-opened.result.end first c.index-job.result.now)
-    (last_with c.open-opened.result.end last c.index-job.result.now) child)
+    let here = (goal.at.returns-in-Err-Below-clause-ends g t c).After-child-child in
+    let is = next g t (goal.at.After-child-child g t here).After-index-job at in
+    ends-below at c.index-packs-0-in-Some.result is c.args.terms.budget c.search-in-Some.new.written
+    c.in-Err-Below.field-0 c.in-Err-Below.field-0-is (c.in-Err-Below.ensures.ends _ _ (child g t here at))
 
 pub take-requires : goal.take-requires
 take-requires g t c =
-    let pack : Pack g.row.V.Denot = c.index-packs-0-in-Some.result in
-    let next = next-here c.requires.at.2 c.index-packs-0-in-Some.result c.children.packs c.len-groups.result
-    c.children.invariant.packs (c.children.invariant.groups c.index-packs-0-in-Some.result) c.in-Some.ensures.within
-    c.in-Some.ensures.first c.index-job.ensures
-    (c.children.invariant.stands c.index-packs-0-in-Some.result c.requires.at.0 c.requires.at.1 c.requires.at.2) in
-    let child = child-at c.requires.at.2 pack next c.put.new.self c.child-child.result c.children.packs c.requires.few
-    c.children.invariant.packs (c.put.ensures c.args.instance.now.jobs c.requires.at.0 c.requires.at.1
-    next.stands.has_lists)
-    (c.child-child.ensures.node c.requires.at.0 c.requires.at.1 (c.requires.at.2.is_marked pack).is_node
-    (job-open c.requires.at.2 pack next).left)
-    (λ names left within named. c.child-child.ensures.left c.requires.at.0 c.requires.at.1 names left
-    (job-open c.requires.at.2 pack next).left
-    within named (c.children.invariant.marked c.in-Some.place c.in-Some.ensures.marked)) in (
+    let at = child g t (goal.at.take-requires g t c).After-child-child c.requires.at.2 in (
       c.args.instance.now.jobs,
       c.requires.at.0,
       c.requires.at.1,
       c.index-job.result.now,
-      (c.in-Ok.ensures.ends (first_with c.open-opened.result.end c.requires.at.0 c.index-job.result.now)
-          (last_with c.open-opened.result.end c.requires.at.1 c.index-job.result.now) child).4,
+      (c.in-Ok.ensures.ends _ _ at).4,
     )
 
 pub take-requires-in-Err-Over : goal.take-requires-in-Err-Over
-take-requires-in-Err-Over g t c =
-    let pack : Pack g.row.V.Denot = c.index-packs-0-in-Some.result in
-    let next = next-here c.requires.at.2 c.index-packs-0-in-Some.result c.children.packs c.len-groups.result
-    c.children.invariant.packs (c.children.invariant.groups c.index-packs-0-in-Some.result) c.in-Some.ensures.within
-    c.in-Some.ensures.first c.index-job.ensures
-    (c.children.invariant.stands c.index-packs-0-in-Some.result c.requires.at.0 c.requires.at.1 c.requires.at.2) in
-    let child = child-at c.requires.at.2 pack next c.put.new.self c.child-child.result c.children.packs c.requires.few
-    c.children.invariant.packs (c.put.ensures c.args.instance.now.jobs c.requires.at.0 c.requires.at.1
-    next.stands.has_lists)
-    (c.child-child.ensures.node c.requires.at.0 c.requires.at.1 (c.requires.at.2.is_marked pack).is_node
-    (job-open c.requires.at.2 pack next).left)
-    (λ names left within named. c.child-child.ensures.left c.requires.at.0 c.requires.at.1 names left
-    (job-open c.requires.at.2 pack next).left
-    within named (c.children.invariant.marked c.in-Some.place c.in-Some.ensures.marked)) in
-    let lists = over-lists c.args.instance.now c.args.terms.number c.args.terms.budget
-    (first_with c.open-opened.result.end c.requires.at.0 c.index-job.result.now)
-    (last_with c.open-opened.result.end c.requires.at.1 c.index-job.result.now) c.children.written.directions.items
-    c.search-in-Some.new.written
-    c.in-Err-Over.field-0 c.in-Err-Over.field-0-is
-    (c.in-Err-Over.ensures.ends (first_with c.open-opened.result.end c.requires.at.0 c.index-job.result.now)
-    (last_with c.open-opened.result.end c.requires.at.1 c.index-job.result.now) child) in
-    (c.args.instance.now.jobs, c.requires.at.0, c.requires.at.1, c.index-job.result.now, lists)
+take-requires-in-Err-Over g t c = (
+  c.args.instance.now.jobs,
+  c.requires.at.0,
+  c.requires.at.1,
+  c.index-job.result.now,
+  child-lists g t (goal.at.take-requires-in-Err-Over g t c).In-Err-Over c.requires.at.2,
+)
 
 pub jobs-requires-clause-names : goal.jobs-requires-clause-names
 jobs-requires-clause-names g t c =
@@ -331,80 +328,40 @@ jobs-requires-clause-names g t c =
 
 pub returns-in_err-jobs-in-Err-Over-clause-packs : goal.returns-in_err-jobs-in-Err-Over-clause-packs
 returns-in_err-jobs-in-Err-Over-clause-packs g t c =
-    packs-keep c.args.instance.now c.args.packs.now c.children.packs c.search-in-Some.new.packs
-    c.children.invariant.packs c.search-in-Some.ensures.packs
+    packs g t (goal.at.returns-in_err-jobs-in-Err-Over-clause-packs g t c).After-search-in-Some
 
 pub leave_children-requires : goal.leave_children-requires
-leave_children-requires g t c =
-    let pack : Pack g.row.V.Denot = c.index-packs-0-in-Some.result in
-    let next = next-here c.requires.at.2 c.index-packs-0-in-Some.result c.children.packs c.len-groups.result
-    c.children.invariant.packs (c.children.invariant.groups c.index-packs-0-in-Some.result) c.in-Some.ensures.within
-    c.in-Some.ensures.first c.index-job.ensures
-    (c.children.invariant.stands c.index-packs-0-in-Some.result c.requires.at.0 c.requires.at.1 c.requires.at.2) in
-    let child = child-at c.requires.at.2 pack next c.put.new.self c.child-child.result c.children.packs c.requires.few
-    c.children.invariant.packs (c.put.ensures c.args.instance.now.jobs c.requires.at.0 c.requires.at.1
-    next.stands.has_lists)
-    (c.child-child.ensures.node c.requires.at.0 c.requires.at.1 (c.requires.at.2.is_marked pack).is_node
-    (job-open c.requires.at.2 pack next).left)
-    (λ names left within named. c.child-child.ensures.left c.requires.at.0 c.requires.at.1 names left
-    (job-open c.requires.at.2 pack next).left
-    within named (c.children.invariant.marked c.in-Some.place c.in-Some.ensures.marked)) in
-    let lists = over-lists c.args.instance.now c.args.terms.number c.args.terms.budget
-    (first_with c.open-opened.result.end c.requires.at.0 c.index-job.result.now)
-    (last_with c.open-opened.result.end c.requires.at.1 c.index-job.result.now) c.children.written.directions.items
-    c.search-in-Some.new.written
-    c.in-Err-Over.field-0 c.in-Err-Over.field-0-is
-    (c.in-Err-Over.ensures.ends (first_with c.open-opened.result.end c.requires.at.0 c.index-job.result.now)
-    (last_with c.open-opened.result.end c.requires.at.1 c.index-job.result.now) child) in (
-      c.args.instance.now.jobs,
-      c.requires.at.0,
-      c.requires.at.1,
-      c.take-in-Err-Over.ensures c.args.instance.now.jobs
-          c.requires.at.0 c.requires.at.1 c.index-job.result.now lists,
-    )
+leave_children-requires g t c = (
+  c.args.instance.now.jobs,
+  c.requires.at.0,
+  c.requires.at.1,
+  c.take-in-Err-Over.ensures c.args.instance.now.jobs c.requires.at.0 c.requires.at.1 c.index-job.result.now
+      (child-lists g t (goal.at.leave_children-requires g t c).In-Err-Over c.requires.at.2),
+)
 
-pub returns-in_err-leave_children-in-Err-Over-clause-packs :
-    goal.returns-in_err-leave_children-in-Err-Over-clause-packs
+pub returns-in_err-leave_children-in-Err-Over-clause-packs : goal.returns-in_err-leave_children-in-Err-Over-clause-packs
 returns-in_err-leave_children-in-Err-Over-clause-packs g t c =
-    packs-keep c.args.instance.now c.args.packs.now c.children.packs c.search-in-Some.new.packs
-    c.children.invariant.packs c.search-in-Some.ensures.packs
+    packs g t (goal.at.returns-in_err-leave_children-in-Err-Over-clause-packs g t c).After-search-in-Some
 
 pub returns-in-Err-Over-clause-packs : goal.returns-in-Err-Over-clause-packs
-returns-in-Err-Over-clause-packs g t c =
-    packs-keep c.args.instance.now c.args.packs.now c.children.packs c.search-in-Some.new.packs
-    c.children.invariant.packs c.search-in-Some.ensures.packs
+returns-in-Err-Over-clause-packs g t c = packs g t (goal.at.returns-in-Err-Over-clause-packs g t c).After-search-in-Some
 
 pub returns-in-Err-Over-clause-ends : goal.returns-in-Err-Over-clause-ends
 returns-in-Err-Over-clause-ends g t c first last at =
-    let pack : Pack g.row.V.Denot = c.index-packs-0-in-Some.result in
-    let next = next-here at c.index-packs-0-in-Some.result c.children.packs c.len-groups.result
-    c.children.invariant.packs (c.children.invariant.groups c.index-packs-0-in-Some.result) c.in-Some.ensures.within
-    c.in-Some.ensures.first c.index-job.ensures
-    (c.children.invariant.stands c.index-packs-0-in-Some.result first last at) in
-    let child = child-at at pack next c.put.new.self c.child-child.result c.children.packs c.requires.few
-    c.children.invariant.packs (c.put.ensures c.args.instance.now.jobs first last next.stands.has_lists)
-    (c.child-child.ensures.node first last (at.is_marked pack).is_node (job-open at pack next).left)
-    (λ names left within named. c.child-child.ensures.left first last names left (job-open at pack next).left
-    within named (c.children.invariant.marked c.in-Some.place c.in-Some.ensures.marked)) in
-    let lists = over-lists c.args.instance.now c.args.terms.number c.args.terms.budget
-    (first_with c.open-opened.result.end first c.index-job.result.now)
-    (last_with c.open-opened.result.end last c.index-job.result.now) c.children.written.directions.items
-    c.search-in-Some.new.written
-    c.in-Err-Over.field-0 c.in-Err-Over.field-0-is
-    (c.in-Err-Over.ensures.ends (first_with c.open-opened.result.end first c.index-job.result.now)
-    (last_with c.open-opened.result.end last c.index-job.result.now) child) in
-    let back = c.take-in-Err-Over.ensures c.args.instance.now.jobs first last c.index-job.result.now lists in
+    let pack = c.index-packs-0-in-Some.result in
+    let over = (goal.at.returns-in-Err-Over-clause-ends g t c).In-Err-Over in
+    let here = (goal.at.In-Err-Over g t over).After-child-child in
+    let is = next g t (goal.at.After-child-child g t here).After-index-job at in
+    let back = c.take-in-Err-Over.ensures c.args.instance.now.jobs first last c.index-job.result.now
+    (child-lists g t over at) in
     let named : c.in_ok-jobs-in-Err-Over.jobs.items
     ≡ jobs_at (slice_index_or c.args.packs.now 0 pack) c.pop.new.self =
     c.in_ok-jobs-in-Err-Over.ensures
     ∙ ap (λ p. jobs_at p c.pop.new.self)
-    (c.search-in-Some.ensures.packs.same c.index-packs-0-in-Err-Over.result
-    ∙ c.children.invariant.packs.same c.index-packs-0-in-Err-Over.result
+    ((packs g t (goal.at.In-Err-Over g t over).After-search-in-Some).same c.index-packs-0-in-Err-Over.result
     ∙ head-same c.args.packs.now c.index-packs-0-in-Err-Over.result pack c.requires.few) in
-    ends-over at pack next c.args.terms.budget c.search-in-Some.new.written c.leave_children.new.self
-    c.in-Err-Over.field-0 c.in-Err-Over.field-0-is
-    (c.in-Err-Over.ensures.ends (first_with c.open-opened.result.end first c.index-job.result.now)
-    (last_with c.open-opened.result.end last c.index-job.result.now) child)
+    ends-over at pack is c.args.terms.budget c.search-in-Some.new.written c.leave_children.new.self
+    c.in-Err-Over.field-0 c.in-Err-Over.field-0-is (c.in-Err-Over.ensures.ends _ _ (child g t here at))
     (ap (λ v. v.items) c.in_ok-leave_children-in-Err-Over.ensures.directions)
     (subst (HasLists c.args.instance.now.jobs first last) (sym c.in_ok-leave_children-in-Err-Over.ensures.lists) back)
     (subst (λ jobs. AreChildrenLeft first last c.open-opened.result.end jobs c.search-in-Some.new.written.rest.items
@@ -413,8 +370,7 @@ returns-in-Err-Over-clause-ends g t c first last at =
 
 pub returns-in-Err-Memory-clause-packs : goal.returns-in-Err-Memory-clause-packs
 returns-in-Err-Memory-clause-packs g t c =
-    packs-keep c.args.instance.now c.args.packs.now c.children.packs c.search-in-Some.new.packs
-    c.children.invariant.packs c.search-in-Some.ensures.packs
+    packs g t (goal.at.returns-in-Err-Memory-clause-packs g t c).After-search-in-Some
 
 pub children-smaller : goal.children-smaller
 children-smaller g t c =
@@ -426,49 +382,25 @@ children-smaller g t c =
 
 pub children-preserved : goal.children-preserved
 children-preserved g t c =
-    let pack : Pack g.row.V.Denot = c.index-packs-0-in-Some.result in
-    let next = next-here c.requires.at.2 c.index-packs-0-in-Some.result c.children.packs c.len-groups.result
-    c.children.invariant.packs (c.children.invariant.groups c.index-packs-0-in-Some.result) c.in-Some.ensures.within
-    c.in-Some.ensures.first c.index-job.ensures
-    (c.children.invariant.stands c.index-packs-0-in-Some.result c.requires.at.0 c.requires.at.1 c.requires.at.2) in
-    let child = child-at c.requires.at.2 pack next c.put.new.self c.child-child.result c.children.packs c.requires.few
-    c.children.invariant.packs (c.put.ensures c.args.instance.now.jobs c.requires.at.0 c.requires.at.1
-    next.stands.has_lists)
-    (c.child-child.ensures.node c.requires.at.0 c.requires.at.1 (c.requires.at.2.is_marked pack).is_node
-    (job-open c.requires.at.2 pack next).left)
-    (λ names left within named. c.child-child.ensures.left c.requires.at.0 c.requires.at.1 names left
-    (job-open c.requires.at.2 pack next).left
-    within named (c.children.invariant.marked c.in-Some.place c.in-Some.ensures.marked)) in
-    let ends = c.in-Ok.ensures.ends (first_with c.open-opened.result.end c.requires.at.0 c.index-job.result.now)
-    (last_with c.open-opened.result.end c.requires.at.1 c.index-job.result.now) child in
+    let pack = c.index-packs-0-in-Some.result in
+    let here = (goal.at.children-preserved g t c).After-child-child in
+    let ends = c.in-Ok.ensures.ends _ _ (child g t here c.requires.at.2) in
     record {
-      packs = packs-keep c.args.instance.now c.args.packs.now c.children.packs c.search-in-Some.new.packs
-          c.children.invariant.packs c.search-in-Some.ensures.packs;
+      packs = packs g t (goal.at.children-preserved g t c).After-search-in-Some;
       groups = c.children.invariant.groups;
       within = ends.2;
       rest = ends.3;
       marked = λ place marked. c.children.invariant.marked place (c.pop.ensures.fewer place marked);
       stands = λ none first last at.
-          let pack : Pack g.row.V.Denot = c.index-packs-0-in-Some.result in
-          let next = next-here at c.index-packs-0-in-Some.result c.children.packs c.len-groups.result
-          c.children.invariant.packs (c.children.invariant.groups c.index-packs-0-in-Some.result)
-          c.in-Some.ensures.within
-          c.in-Some.ensures.first c.index-job.ensures
-          (c.children.invariant.stands c.index-packs-0-in-Some.result first last at) in
-          let child = child-at at pack next c.put.new.self c.child-child.result c.children.packs c.requires.few
-          c.children.invariant.packs (c.put.ensures c.args.instance.now.jobs first last next.stands.has_lists)
-          (c.child-child.ensures.node first last (at.is_marked pack).is_node (job-open at pack next).left)
-          (λ names left within named. c.child-child.ensures.left first last names left (job-open at pack next).left
-          within named (c.children.invariant.marked c.in-Some.place c.in-Some.ensures.marked)) in
-          let ends = c.in-Ok.ensures.ends (first_with c.open-opened.result.end first c.index-job.result.now)
-          (last_with c.open-opened.result.end last c.index-job.result.now) child in
+          let is = next g t (goal.at.After-child-child g t here).After-index-job at in
+          let ends = c.in-Ok.ensures.ends _ _ (child g t here at) in
           subst (λ p. Stands c.args.instance.now c.args.terms.number c.open-opened.result.end first last
           c.args.written.now.directions.items c.search-in-Some.new.written.directions.items c.take.new.self
           (jobs_at p c.pop.new.self)) (head-same c.args.packs.now pack none c.requires.few)
           (stands-next c.args.instance.now c.args.terms.number first last c.open-opened.result.end
           c.args.written.now.directions.items c.children.written.directions.items c.children.written.lists
           c.index-job.result.now (jobs_at (slice_index_or c.args.packs.now 0 pack) c.pop.new.self)
-          (stands-job at pack next) c.search-in-Some.new.written.directions.items c.take.new.self
+          (stands-job at pack is) c.search-in-Some.new.written.directions.items c.take.new.self
           ends.0 ends.1
           (c.take.ensures c.args.instance.now.jobs first last c.index-job.result.now ends.4));
     }

@@ -1,6 +1,7 @@
 use Rattle.std.proofs.Common.{◌≡◌, ◌+◌, ◌-◌, ◌<◌, ◌≤◌, [], ◌∷◌, ◌++◌, length, take, drop, slice_index}
 use Rattle.std.proofs.Common.{refl, ap, sym, ◌∙◌, subst, arith, append-nil, length-take, length-drop, rules}
 use Rattle.std.proofs.lemmas.List.{take_more, take_all, drop_all}
+use Rattle.flow_shop.specs.JobSet.{AreTaken}
 use Rattle.flow_shop.specs.Sequences.{has}
 use Rattle.flow_shop.proofs.JobLists.{none-taken, jobs-first, next-at}
 use Rattle.flow_shop.proofs.Lists.{drop-at}
@@ -9,28 +10,34 @@ use Rattle.flow_directions.specs.internal.Lists.{HasLists}
 use Rattle.flow_directions.proofs.FoundSteps.{no-jobs-fault}
 use Rattle.flow_directions.proofs.StartLists.{next-back, count-both, not-taken, first-taken, both-taken}
 use Rattle.flow_directions.proofs.start.StartNode.new.Goals as goal
+use Rattle.flow_directions.proofs.start.StartNode.new.Goals.{After-none-taken, Else-is_some, Else-is_some-2}
 use Rattle.flow_directions.proofs.start.StartNode.new.Goals.{then-is_some-via-then-is_some}
 use Rattle.flow_directions.proofs.start.StartNode.new.Goals.{then-is_some-via-else-is_some+then-is_some-2}
 
+-- no job is taken at first
+none : (c : After-none-taken) → AreTaken c.args.instance.now [] 0 c.none-taken.result
+none c = none-taken c.args.instance.now c.none-taken.result c.none-taken.ensures.size c.none-taken.ensures.empty
+
 pub insert_all-requires : goal.insert_all-requires
-insert_all-requires c =
-    ([], none-taken c.args.instance.now c.none-taken.result c.none-taken.ensures.size c.none-taken.ensures.empty)
+insert_all-requires c = ([], none (goal.at.insert_all-requires c).After-none-taken)
+
+-- then those of the first list
+first-are : (c : Else-is_some) →
+    AreTaken c.args.instance.now c.args.first.now (length c.args.first.now) c.insert_all.new.taken
+first-are c =
+    first-taken _ _ _ _ (c.insert_all.ensures.taken [] (none (goal.at.Else-is_some c).After-none-taken))
+    (sym c.is_some.ensures ∙ c.if-is_some.false)
 
 pub insert_all-requires-else-is_some : goal.insert_all-requires-else-is_some
 insert_all-requires-else-is_some c =
-    let none = none-taken c.args.instance.now c.none-taken.result c.none-taken.ensures.size
-    c.none-taken.ensures.empty in (
-      c.args.first.now,
-      first-taken c.args.instance.now c.args.first.now c.insert_all.new.taken c.insert_all.result
-          (c.insert_all.ensures.taken [] none) (sym c.is_some.ensures ∙ c.if-is_some.false),
-    )
+    (c.args.first.now, first-are (goal.at.insert_all-requires-else-is_some c).Else-is_some)
 
 pub returns-then-is_some-clause-refused : goal.returns-then-is_some-clause-refused
 returns-then-is_some-clause-refused c =
     let shop = c.args.instance.now in
     let first = c.args.first.now in
     let last = c.args.last.now in
-    let none = none-taken shop c.none-taken.result c.none-taken.ensures.size c.none-taken.ensures.empty in (
+    let none = none (goal.at.returns-then-is_some-clause-refused c).After-none-taken in (
       λ e are. elim c.then-is_some.branch [
         | then-is_some-via-then-is_some w ↦
             not-taken shop.jobs [] first c.insert_all.result (c.insert_all.ensures.fault [] none)
@@ -45,28 +52,24 @@ returns-then-is_some-clause-refused c =
       λ _. refl,
     )
 
+-- and at last those of both
+both : (c : Else-is_some-2) →
+    AreTaken c.args.instance.now (c.args.first.now ++ c.args.last.now)
+    (length c.args.first.now + length c.args.last.now) c.insert_all-else-is_some.new.taken
+both c =
+    both-taken _ _ _ _ _
+    (c.insert_all-else-is_some.ensures.taken c.args.first.now (first-are (goal.at.Else-is_some-2 c).Else-is_some))
+    (sym c.is_some-else-is_some.ensures ∙ c.if-is_some-2.false)
+
 pub returns-in_err-lists-clause-refused : goal.returns-in_err-lists-clause-refused
-returns-in_err-lists-clause-refused c =
-    let none = none-taken c.args.instance.now c.none-taken.result c.none-taken.ensures.size
-    c.none-taken.ensures.empty in
-    let taken = first-taken c.args.instance.now c.args.first.now c.insert_all.new.taken c.insert_all.result
-    (c.insert_all.ensures.taken [] none) (sym c.is_some.ensures ∙ c.if-is_some.false) in
-    let both = both-taken c.args.instance.now c.args.first.now c.args.last.now
-    c.insert_all-else-is_some.new.taken c.insert_all-else-is_some.result
-    (c.insert_all-else-is_some.ensures.taken c.args.first.now taken)
-    (sym c.is_some-else-is_some.ensures ∙ c.if-is_some-2.false) in
-    (λ e are. no-jobs-fault c.from_residual.result (search rules) e, λ refused. absurd (refused both.are_jobs))
+returns-in_err-lists-clause-refused c = (
+  λ e are. no-jobs-fault c.from_residual.result (search rules) e,
+  λ refused. absurd (refused (both (goal.at.returns-in_err-lists-clause-refused c).Else-is_some-2).are_jobs),
+)
 
 pub loop-job-init : goal.loop-job-init
 loop-job-init c =
-    let none = none-taken c.args.instance.now c.none-taken.result c.none-taken.ensures.size
-    c.none-taken.ensures.empty in
-    let taken = first-taken c.args.instance.now c.args.first.now c.insert_all.new.taken c.insert_all.result
-    (c.insert_all.ensures.taken [] none) (sym c.is_some.ensures ∙ c.if-is_some.false) in
-    let both = both-taken c.args.instance.now c.args.first.now c.args.last.now
-    c.insert_all-else-is_some.new.taken c.insert_all-else-is_some.result
-    (c.insert_all-else-is_some.ensures.taken c.args.first.now taken)
-    (sym c.is_some-else-is_some.ensures ∙ c.if-is_some-2.false) in
+    let both = both (goal.at.loop-job-init c).Else-is_some-2 in
     record {
       are_jobs = both.are_jobs;
       holds = both.holds;

@@ -6,11 +6,13 @@ use Rattle.flow_directions.specs.internal.Packs.{HasRoom}
 use Rattle.flow_directions.specs.internal.Start.{IsStart}
 use Rattle.flow_directions.proofs.PackSteps.{room-named}
 use Rattle.flow_directions.proofs.StartLists.{under-had, names-left, count-left, count-within}
+use Rattle.flow_directions.proofs.start.StartNode.pack.Given.{Over}
 use Rattle.flow_directions.proofs.start.StartNode.pack.Goals as goal
-use Rattle.flow_directions.proofs.start.StartNode.pack.Goals.{then-not-contains, else-not-contains}
+use Rattle.flow_directions.proofs.start.StartNode.pack.Goals.{Then-not-contains, then-not-contains, else-not-contains}
 
-pub index_mut-requires : goal.index_mut-requires
-index_mut-requires g c =
+-- the job is not taken, so fewer than all that are left stand before it
+fewer : (g : Over) (c : Then-not-contains g) → c.loop-job.count < c.args.self.now.left
+fewer g c =
     let first = c.requires.start.0 in
     let last = c.requires.start.1 in
     let is = c.requires.start.2 in
@@ -19,10 +21,14 @@ index_mut-requires g c =
     let high : job ≤ c.args.instance.now.jobs = omega (arith, c.loop-job-test.true, c.jobs-job-end.ensures.value) in
     let fresh : has (first ++ last) job ≡ false =
     sym (is.holds.each job low high) ∙ sym c.contains.ensures.value ∙ c.if-not-contains.true in
+    count-within c.args.instance.now first last c.args.self.now c.loop-job.count job is low high fresh
+    (c.loop-job.invariant.count first last is)
+
+pub index_mut-requires : goal.index_mut-requires
+index_mut-requires g c =
     omega (
       arith,
-      count-within c.args.instance.now first last c.args.self.now c.loop-job.count job is low high fresh
-          (c.loop-job.invariant.count first last is),
+      fewer g (goal.at.index_mut-requires g c).Then-not-contains,
       c.requires.fits,
       c.loop-job.invariant.size,
       c.loop-job.pack.names.ok.0,
@@ -30,18 +36,9 @@ index_mut-requires g c =
 
 pub overflow_add-count : goal.overflow_add-count
 overflow_add-count g c =
-    let first = c.requires.start.0 in
-    let last = c.requires.start.1 in
-    let is = c.requires.start.2 in
-    let job = c.loop-job.job in
-    let low : 1 ≤ job = c.loop-job.auto.job in
-    let high : job ≤ c.args.instance.now.jobs = omega (arith, c.loop-job-test.true, c.jobs-job-end.ensures.value) in
-    let fresh : has (first ++ last) job ≡ false =
-    sym (is.holds.each job low high) ∙ sym c.contains.ensures.value ∙ c.if-not-contains.true in
     omega (
       arith,
-      count-within c.args.instance.now first last c.args.self.now c.loop-job.count job is low high fresh
-          (c.loop-job.invariant.count first last is),
+      fewer g (goal.at.overflow_add-count g c).Then-not-contains,
       c.requires.fits,
       c.requires.room.names,
       c.requires.room.few,
