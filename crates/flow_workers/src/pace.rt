@@ -102,39 +102,3 @@ fn bytes_of_piece(jobs: u16) -> usize
 {
     150 + 2 * jobs as usize
 }
-
-/// Workers, jobs, pieces, directions so far, and the budget; then how many nodes are dealt, how many directions the
-/// round has, and how many its first node is given.
-#[cfg(test)]
-static PACES: [(usize, u16, usize, u64, u64, usize, u64, u64); 10] = [
-    (4, 20, 1, 0, 1_000_000, 1, 12_000, 12_000),
-    (4, 20, 1, 0, 100, 1, 101, 101),
-    (64, 800, 1, 0, 1_000_000, 1, 500, 500),
-    (64, 20, 10, 12_000, 1_012_000, 632, 12_000, 500),
-    (4, 20, 10, 12_000, 1_012_000, 112, 8_000, 1_000),
-    (4, 20, 500, 400_000, 1_400_000, 532, 50_000, 6_250),
-    (0, 20, 500, 400_000, 1_400_000, 508, 50_000, 25_000),
-    (4, 20, 500, 400_000, 400_299, 35, 300, 300),
-    (
-        4, 20, 526_315, 8_000_000, 9_000_000, 8_032, 800_000, 100_000,
-    ),
-    (4, 20, 526_316, 8_000_000, 9_000_000, 1, 800_000, 800_000),
-];
-
-#[test]
-fn paces_are_those_stated(rt: HostRuntime) {
-    for row in &PACES {
-        let (workers, jobs, pieces, written, budget, nodes, whole, grant) = *row;
-        let pace = Pace::new(workers, jobs, pieces, written, budget);
-        let found = (pace.nodes, pace.whole, pace.grant(0));
-        assert!(rt;
-            found == (nodes, whole, grant),
-            "after {written} of {pieces} pieces, {workers} workers"
-        );
-    }
-    let pace = Pace::new(4, 20, 500, 400_000, 1_400_000);
-    assert!(rt;
-        pace.grant(40_000) == 1_250,
-        "after 40000 of a round of 50000"
-    );
-}
