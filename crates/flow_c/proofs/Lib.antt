@@ -5,3 +5,4 @@ mod Puts
 mod Asked
 mod Ended
 mod Told
+mod Joined

@@ -7,6 +7,7 @@ use Rattle.flow_shop.specs.Shop.{Shop, IsWithinLimits}
 use Rattle.flow_shop.specs.SequenceFaults.{place_fault}
 use Rattle.flow_shop.specs.Sequences.{AreJobs}
 use Rattle.flow_shop.specs.Directions.{ProvesFrom}
+use Rattle.flow_shop.proofs.JobLists.{few-jobs}
 use Rattle.flow_directions.specs.Search.{IsAdvanced, IsPart}
 use Rattle.flow_directions.specs.declared.found.Found.TheVariants as found
 use Rattle.flow_directions.specs.declared.found.Advanced.{Advanced}
@@ -14,7 +15,6 @@ use Rattle.flow_directions.specs.declared.found.Advanced.TheVariants.{Proved, Be
 use Rattle.flow_directions.specs.declared.found.Part.{Part}
 use Rattle.flow_directions.specs.declared.found.Part.TheVariants.{Node, Children}
 use Rattle.flow_directions.proofs.FoundSteps.{found-shows}
-use Rattle.flow_directions.proofs.NodeLists.{left-length}
 use Rattle.flow_c.specs.Faults.{numbers_fault, room_fault}
 use Rattle.flow_c.specs.Searches.{proved, below, IsTold, IsSearched, IsBelow, IsRestTooLong, prove_fault}
 use Rattle.flow_c.specs.internal.Parts.{IsShort, LeavesShort, IsToldBy, IsComeTo, sequence_of}
@@ -23,10 +23,6 @@ use Rattle.flow_c.specs.declared.prove.Searched.{Searched}
 use Rattle.flow_c.specs.declared.node.NodeLists.{NodeLists}
 use Rattle.flow_c.specs.declared.fault.Fault.{Fault}
 use Rattle.flow_c.specs.declared.fault.Fault.TheVariants.{Room}
-
--- distinct jobs of an instance are no more than it has
-few-jobs : (n : ℕ) (jobs : List ℕ) → AreJobs n jobs → length jobs ≤ n
-few-jobs n jobs are = omega (arith, left-length n jobs are)
 
 -- the lists of a part are short
 short-part : (shop : Shop) → IsWithinLimits shop → (part : Part) → IsPart shop part → IsShort part

@@ -143,7 +143,7 @@ fn search_numbers(
     ensures memory { IfErr result (λ fault. statuses.number fault ≡ memory → numbers_fault shop.now ≡ None) }
 {
     let instance = shop.instance(alloc)?;
-    node.test(alloc, &instance)?;
+    node.test(&instance)?;
     need(shop.jobs as usize, part.sequence.len())?;
     search(
         alloc,

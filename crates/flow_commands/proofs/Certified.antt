@@ -99,15 +99,17 @@ text-short shop bounds jobs directions limits shows few =
       few,
     )
 
--- what a search finds from the sequence to start from is certified by its text
-pub certifies : (shop : Shop) (given : Option (List ℕ)) (start jobs directions : List ℕ) (bounds : Bounds)
-    (most : ℕ) → IsWithinLimits shop → StartsFrom shop given start → IsSequence shop.jobs jobs →
-    span shop jobs ≡ bounds.upper → bounds.upper ≤ span shop start → Proves shop bounds.lower directions →
-    end_bound shop [] [] ≤ bounds.lower → length directions ≤ min most most_signs →
+-- where the numbers are accepted, the text of what a search finds from the sequence to start from is answered
+pub certified-answers : (request : CertifyRequest) (shop : Shop) (given : Option (List ℕ))
+    (start jobs directions : List ℕ) (bounds : Bounds) → certify_fault request ≡ None → IsWithinLimits shop →
+    StartsFrom shop given start → IsSequence shop.jobs jobs → span shop jobs ≡ bounds.upper →
+    bounds.upper ≤ span shop start → Proves shop bounds.lower directions → end_bound shop [] [] ≤ bounds.lower →
+    length directions ≤ min request.directions most_signs →
     (IsSequence shop.jobs jobs → span shop jobs ≡ bounds.upper → Proves shop bounds.lower directions →
     IsTwoEnded shop (two_ended_text shop bounds jobs directions) bounds jobs) →
-    Certifies shop given most (two_ended_text shop bounds jobs directions)
-certifies shop given start jobs directions bounds most limits starts whole attained better proved floor few lawful =
+    AnswersCertify request shop given (Ok (two_ended_text shop bounds jobs directions))
+certified-answers request shop given start jobs directions bounds accepted limits starts whole attained better proved
+    floor few lawful =
     let shown = (lawful whole attained proved).shows in
     let shows : ShowsBounds shop bounds jobs directions = record {
       lower_fits = shown.lower_fits;
@@ -116,9 +118,12 @@ certifies shop given start jobs directions bounds most limits starts whole attai
       attained = attained;
       proved = proved;
     } in
+    let most = request.directions in
     let of_start : span shop jobs ≤ span shop start = omega (arith, attained, better) in
     let within : length directions ≤ most = omega (arith, few, min-le_left most most_signs) in
-    let short : length directions ≤ most_signs = omega (arith, few, min-le_right most most_signs) in (
+    let short : length directions ≤ most_signs = omega (arith, few, min-le_right most most_signs) in
+    let text : List ℕ = two_ended_text shop bounds jobs directions in
+    let is : Certifies shop given most text = (
       bounds,
       jobs,
       record { directions = directions; shows = shows; text = refl },
@@ -126,10 +131,5 @@ certifies shop given start jobs directions bounds most limits starts whole attai
       floor,
       within,
       text-short shop bounds jobs directions limits shows short,
-    )
-
--- what is answered where the numbers are accepted
-pub certified-answers : (request : CertifyRequest) (shop : Shop) (given : Option (List ℕ)) (text : List ℕ) →
-    certify_fault request ≡ None → Certifies shop given request.directions text →
-    AnswersCertify request shop given (Ok text)
-certified-answers request shop given text accepted is = rw (AnswersCertify, accepted) (text, is, refl)
+    ) in
+    rw (AnswersCertify, accepted) (text, is, refl)

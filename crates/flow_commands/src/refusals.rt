@@ -10,9 +10,9 @@ ghost use Rattle.flow_core.specs.declared.instance.InstanceFault.TheVariants as 
 ghost use Rattle.flow_search.specs.declared.plan.PlanFault.TheVariants as plan;
 ghost use Rattle.flow_pool.specs.declared.run.solve.SolveFault.TheVariants as solve;
 ghost use Rattle.flow_check.specs.declared.fault.CheckFault.TheVariants as check;
-ghost use Rattle.flow_commands.specs.declared.refusals.CommandFault.TheVariants.{Memory, Read, Text, Start, Sequence};
-ghost use Rattle.flow_commands.specs.declared.refusals.CommandFault.TheVariants.{Index, Instance, Improve, Choice, Plan};
-ghost use Rattle.flow_commands.specs.declared.refusals.CommandFault.TheVariants.{Run, Certificate, Write};
+ghost use Rattle.flow_commands.specs.declared.refusals.CommandFault.TheVariants.{Memory, Read, Text, Index, Start};
+ghost use Rattle.flow_commands.specs.declared.refusals.CommandFault.TheVariants.{Sequence, Instance, Improve, Choice};
+ghost use Rattle.flow_commands.specs.declared.refusals.CommandFault.TheVariants.{Plan, Run, Certificate, Write};
 
 use flow_check::CheckFault;
 use flow_core::{

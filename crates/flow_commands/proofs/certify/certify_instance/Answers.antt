@@ -4,7 +4,7 @@ use Rattle.flow_check.specs.TwoEnded.{two_ended_text}
 use Rattle.flow_check.specs.declared.bounds.Bounds.{Bounds}
 use Rattle.flow_commands.specs.Certify.{AnswersCertify}
 use Rattle.flow_commands.specs.Runs.{sink_run}
-use Rattle.flow_commands.proofs.Certified.{certified-answers, certifies}
+use Rattle.flow_commands.proofs.Certified.{certified-answers}
 use Rattle.flow_commands.proofs.Responses.{all-written, part-written}
 use Rattle.flow_commands.proofs.certify.certify_instance.Goals as goal
 
@@ -18,12 +18,10 @@ returns g c =
     all-written (AnswersCertify request shop c.args.given)
     (sink_run g.K.Sink c.args.out.now c.write_two_ended.new.out)
     (two_ended_text shop bounds found.sequence found.directions.items)
-    (certified-answers request shop c.args.given _ c.in_ok-effort.ensures.accepted
-    (certifies shop c.args.given c.in_ok-start.start found.sequence found.directions.items bounds request.directions
-    (rw (← c.instance.view_is) c.instance.invariant.0)
-    c.in_ok-start.ensures.start says.each says.attained says.no_worse says.proved says.floor
-    (rw c.in_ok-effort.ensures.most at says.few)
-    (rw c.as_slice.ensures.value at c.write_two_ended.ensures.lawful)))
+    (certified-answers request shop c.args.given c.in_ok-start.start found.sequence found.directions.items bounds
+    c.in_ok-effort.ensures.accepted (rw (← c.instance.view_is) c.instance.invariant.0) c.in_ok-start.ensures.start
+    says.each says.attained says.no_worse says.proved says.floor (rw c.in_ok-effort.ensures.most at says.few)
+    (rw c.as_slice.ensures.value at c.write_two_ended.ensures.lawful))
     (rw c.as_slice.ensures.value at c.in_ok-write_two_ended.ensures.ok) (search rules)
 
 pub returns-in_err-write_two_ended : goal.returns-in_err-write_two_ended
@@ -40,10 +38,8 @@ returns-in_err-write_two_ended g c =
     (part-written (AnswersCertify request shop c.args.given)
     (sink_run g.K.Sink c.args.out.now c.write_two_ended.new.out) _
     (two_ended_text shop bounds found.sequence found.directions.items)
-    (certified-answers request shop c.args.given _ c.in_ok-effort.ensures.accepted
-    (certifies shop c.args.given c.in_ok-start.start found.sequence found.directions.items bounds request.directions
-    (rw (← c.instance.view_is) c.instance.invariant.0)
-    c.in_ok-start.ensures.start says.each says.attained says.no_worse says.proved says.floor
-    (rw c.in_ok-effort.ensures.most at says.few)
-    (rw c.as_slice.ensures.value at c.write_two_ended.ensures.lawful)))
+    (certified-answers request shop c.args.given c.in_ok-start.start found.sequence found.directions.items bounds
+    c.in_ok-effort.ensures.accepted (rw (← c.instance.view_is) c.instance.invariant.0) c.in_ok-start.ensures.start
+    says.each says.attained says.no_worse says.proved says.floor (rw c.in_ok-effort.ensures.most at says.few)
+    (rw c.as_slice.ensures.value at c.write_two_ended.ensures.lawful))
     (rw c.as_slice.ensures.value at c.in_err-write_two_ended.ensures.err) (search rules))
