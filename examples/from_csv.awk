@@ -642,18 +642,21 @@ function has_words_alone(row,    column, words) {
 }
 
 # Stops at a field that is no time.
-function refuse_field(j, k, text,    i, row) {
+function refuse_field(j, k, text,    i, row, ends) {
   row = turned ? machine_at[k] : job_at[j]
+  ends = last_of[row] < (turned ? job_at[j] : machine_at[k])
   if (has_words_alone(row))
     stop(row_place(row) " has no times: take it out of the table, if it is no " (turned ? "machine" : "job"))
   for (i = 1; i <= machines && field_of(j, i) == ""; i++);
   if (i > machines) stop(job_place(j) " has no times: take it out of the table, or write 0 where it skips a machine")
   for (i = 1; i <= jobs && field_of(i, k) == ""; i++);
   if (i > jobs) stop(machine_place(k) " has no times: take it out of the table, or write 0 where a job skips it")
-  if (text ~ /^(-|–|—)*$/) stop(place_of(j, k) " has no time: write 0 if the job skips this machine")
+  if (text ~ /^(-|–|—)*$/)
+    stop(place_of(j, k) " has no time: write 0 if the job skips this machine" \
+      (text == "" && ends ? ", or the time that this line lacks" : ""))
   if (text ~ /^-[0-9]/) stop(place_of(j, k) " has " text ": no time is below 0")
   if (text ~ /^[0-9]+([.,' ][0-9]+)+$/) stop(place_of(j, k) " has " text ": write it without signs of thousands")
-  stop(place_of(j, k) " has " text ": write a number alone, in the unit of the table")
+  stop(place_of(j, k) " has \"" text "\": write a number alone, in the unit of the table")
 }
 
 # Tests the decimal sign of a time: it is that of the times before, and can't be a sign of thousands.

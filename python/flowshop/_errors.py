@@ -90,4 +90,6 @@ def shown(value: object) -> str:
         text = f"{value:,}" if type(value) is int else repr(value)
     except ValueError:  # an int that Python does not write out
         text = "a number of thousands of digits"
-    return text if len(text) <= 40 else f"{text[:37]}..."
+    if len(text) <= 40:
+        return text
+    return f"{text[:36]}...{text[0]}" if text[0] in "'\"" else f"{text[:37]}..."

@@ -11,7 +11,7 @@ from dataclasses import asdict, dataclass, fields
 from pathlib import Path
 from typing import Any, List, NamedTuple, Optional, TextIO
 
-from ._errors import TextError
+from ._errors import TextError, counted
 from ._results import Certificate
 from ._shop import Block, Shop
 
@@ -86,7 +86,7 @@ def _numbers(words: str, count: int, file: str) -> List[int]:
             raise WordError(f"--blocks is {words}, and has to be all, or numbers such as 1,3-5")
         first, last = int(found[1]), int(found[2] or found[1])
         if not 1 <= first <= last <= count:
-            raise WordError(f"--blocks has {word}, and {file} has the blocks 1 to {count}")
+            raise WordError(f"--blocks has {word}, and {file} has {counted(count, 'block')}")
         numbers += [number for number in range(first, last + 1) if number not in numbers]
     return numbers
 

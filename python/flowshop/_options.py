@@ -49,7 +49,7 @@ def time_limit_of(value: Any) -> Optional[float]:
     if value is None:
         return None
     try:
-        seconds = float(value)
+        seconds = -1.0 if isinstance(value, (str, bytes, bool)) else float(value)
     except (TypeError, ValueError, OverflowError):
         seconds = -1.0
     if seconds >= 0:

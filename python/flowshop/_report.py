@@ -46,7 +46,7 @@ def _picked(path: str, index: Optional[str]) -> Shop:
     if index is None:
         raise OptionError("INDEX", 0, f"{path} has {counted(len(blocks), 'block')}: write the number of one behind it")
     if not index.isdecimal() or not 1 <= int(index) <= len(blocks):
-        raise OptionError("INDEX", 0, f"INDEX is {shown(index)}, and {path} has the blocks 1 to {len(blocks)}")
+        raise OptionError("INDEX", 0, f"INDEX is {shown(index)}, and {path} has {counted(len(blocks), 'block')}")
     return blocks[int(index) - 1].shop
 
 
