@@ -14,7 +14,8 @@ pub enum CheckFault {
     /// Memory ran out.
     #[error("Memory")]
     Memory,
-    /// The first line is not that of a text of its kind.
+    /// The first line is not that of the kind as which the text is read. Where `kind_of` named the kind, it is that of
+    /// neither kind.
     #[error("Header")]
     Header,
     /// The second line does not hold the instance's jobs and machines and a depth; of a two-ended certificate, the jobs

@@ -4,7 +4,8 @@ ghost use Rattle.std.specs.Prelude.{◌≡◌};
 
 use std::thread::SpawnError;
 
-/// The system refused to start the thread of a worker. It is made of the error of that start.
+/// The system refused to start the thread of a worker. Only the error of a start makes one; whoever makes it says of
+/// which worker. No code reads the number: contracts say by it how many workers were started.
 #[derive(Drop)]
 pub(crate) struct Refusal {
     worker: u32,

@@ -8,7 +8,7 @@ ghost use Rattle.flow_workers.specs.internal.Paces.{first_alone, nodes_of};
 /// than they save.
 const ALONE: u64 = 240_000;
 
-/// The least directions of a round, for each worker, where there are as many so far.
+/// The least directions of a round, for each worker, or as many as there are so far where that is less.
 const LEAST: u64 = 2_000;
 
 /// The most directions of a round, for each worker.

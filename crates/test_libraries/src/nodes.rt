@@ -1,4 +1,4 @@
-//! The bounds of children, groups and marks of flow_nodes: bounds that were worked out by hand.
+//! Children's bounds, groups and marks of flow_nodes; the bounds were worked out by hand.
 
 ghost use Rattle.std.specs.Prelude.{◌≡◌, ◌<◌, ◌≤◌, length};
 ghost use Rattle.flow_nodes.specs.Nodes.{IsJob};
@@ -55,12 +55,13 @@ fn bounds_of_three_machines(rt: HostRuntime) -> Result<(), Fail> {
 /// first from place 8 on.
 type Below = (u32, Option<usize>, Option<usize>);
 
-/// The jobs of one group that make children below a number at an end.
+/// Of these jobs of one group, those that make children below a number at an end.
 fn below<V: Lanes>(
     instance: &Instance,
     node: &Node,
     end: End,
     groups: &[Vec<V>],
+    left: &Marks,
     number: u32,
 ) -> Below
     requires wide { V.WIDTH ≡ 16 }
@@ -68,9 +69,15 @@ fn below<V: Lanes>(
     requires groups { AreGroups V.list V.CAP V.WIDTH instance.now groups.now }
 {
     let mut marks = Marks::none();
-    let left = Marks::first(instance.jobs());
-    node.mark_below(end, groups, &left, number, &mut marks);
+    node.mark_below(end, groups, left, number, &mut marks);
     (marks.count(1), marks.next(0, 1), marks.next(8, 1))
+}
+
+/// The bounds of the children that put the jobs of the first group at an end, a lane for each job.
+fn first_bounds<V: Lanes>(instance: &Instance, node: &Node, end: End, groups: &[Vec<V>]) -> V
+    requires { AreGroups V.list V.CAP V.WIDTH instance.now groups.now }
+{
+    node.child_bounds(end, groups[0].as_slice())
 }
 
 /// Behind the third job the others have the bounds 12 and 14.
@@ -109,7 +116,15 @@ fn bounds_above_the_cap(rt: HostRuntime) -> Result<(), Fail> {
         90_000
     );
     let groups = groups::<u16x16>(rt.alloc(), &instance)?;
-    let found = below(&instance, &root, End::Back, groups.as_slice(), 65_535);
+    let left = Marks::first(2);
+    let found = below(
+        &instance,
+        &root,
+        End::Back,
+        groups.as_slice(),
+        &left,
+        65_535,
+    );
     assert_eq!(rt; found, (0, None, None));
     Ok(())
 }
@@ -140,15 +155,23 @@ fn bounds_of_sixteen_jobs(rt: HostRuntime) -> Result<(), Fail> {
             assert_eq!(rt; child_bound(&instance, &root, end, job, &mut great), wanted);
         }
     }
+    let left = Marks::first(16);
     let narrow = groups::<u16x16>(rt.alloc(), &instance)?;
-    let found = below(&instance, &root, End::Front, narrow.as_slice(), 145);
+    let fronts = first_bounds(&instance, &root, End::Front, narrow.as_slice());
+    let backs = first_bounds(&instance, &root, End::Back, narrow.as_slice());
+    for lane in 0..LANES {
+        let job = lane as u32 + 1;
+        assert_eq!(rt; fronts.at(lane), 136 + job);
+        assert_eq!(rt; backs.at(lane), 153 - job);
+    }
+    let found = below(&instance, &root, End::Front, narrow.as_slice(), &left, 145);
     assert_eq!(rt; found, (8, Some(0), None));
-    let found = below(&instance, &root, End::Back, narrow.as_slice(), 145);
+    let found = below(&instance, &root, End::Back, narrow.as_slice(), &left, 145);
     assert_eq!(rt; found, (8, Some(8), Some(8)));
     let great = groups::<u32x16>(rt.alloc(), &instance)?;
-    let found = below(&instance, &root, End::Front, great.as_slice(), 145);
+    let found = below(&instance, &root, End::Front, great.as_slice(), &left, 145);
     assert_eq!(rt; found, (8, Some(0), None));
-    let found = below(&instance, &root, End::Back, great.as_slice(), 145);
+    let found = below(&instance, &root, End::Back, great.as_slice(), &left, 145);
     assert_eq!(rt; found, (8, Some(8), Some(8)));
     Ok(())
 }
@@ -181,7 +204,8 @@ fn marks_of_three_children(rt: HostRuntime) -> Result<(), Fail> {
     assert_eq!(rt; time_of_all(&instance, 2), 10);
     let groups = groups::<u16x16>(rt.alloc(), &instance)?;
     let root = Node::root(&instance);
-    let found = below(&instance, &root, End::Front, groups.as_slice(), 14);
+    let left = Marks::first(3);
+    let found = below(&instance, &root, End::Front, groups.as_slice(), &left, 14);
     assert_eq!(rt; found, (2, Some(1), None));
     Ok(())
 }

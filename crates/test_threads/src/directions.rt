@@ -144,11 +144,12 @@ fn workers_find_the_published_directions(rt: HostRuntime) {
     }
 }
 
-/// Workers, and how often a watch may be told of 116,565 directions of 20 jobs: at least as often as there would be
-/// rounds if all directions of each were known at its end, and once more. One worker searches the first 12,000. Then a
-/// round has an eighth of the directions so far, and at least 2,000 for each worker where there are as many so far: 19
-/// rounds by one worker, 12 by four, and 4 by sixty-four.
-static ROUNDS: [(usize, u64, u64); 3] = [(1, 21, 40), (4, 14, 40), (64, 6, 40)];
+/// Workers, and how often a watch may be told of 116,565 directions of 20 jobs: about as often as there are rounds by
+/// their sizes, and once more. One worker searches the first 12,000. Then a round has an eighth of the directions so
+/// far, and at least 2,000 for each worker, or as many as there are so far where that is less: 19 rounds by one worker,
+/// 12 by four, and 4 by sixty-four. The directions of a round are known once all before them are, so with more workers
+/// a round adds fewer at first: a plain program of the pieces came to 22, 15 to 17, and 11, whatever turns they took.
+static ROUNDS: [(usize, u64, u64); 3] = [(1, 21, 23), (4, 14, 18), (64, 6, 14)];
 
 /// How often a watch is told of the directions of the second published instance.
 fn times_told<R: Threads + Sync>(rt: &R, alloc: Global, workers: usize) -> u64 {

@@ -108,7 +108,7 @@ impl InsertionRoom {
 }
 
 /// The makespan of a partial sequence with a job put in at each place; entry `i`: put in behind the first `i` jobs. For
-/// callers alone: `neh` calls `best_place`, which needs no memory.
+/// callers alone: `neh` calls `InsertionRoom::best_place`, which needs no memory.
 pub fn insertion_spans(
     alloc: Global,
     instance: &Instance,

@@ -10,7 +10,9 @@ use crate::start::job_order::by_total;
 use flow_shop::{Instance, Sequence};
 use std::alloc::{AllocError, Global};
 
-/// The starting sequence and its makespan: jobs by decreasing total time, each put in at the earliest best place.
+/// The starting sequence and its makespan: jobs by decreasing total time, each put in at the earliest best place. Of
+/// jobs with equal totals the lower number comes first (`by_total`); of places with equal makespans the earliest is
+/// taken (`InsertionRoom::best_place`).
 pub fn neh(alloc: Global, instance: &Instance) -> Result<(Sequence, u64), AllocError>
     ensures start { IfOk result (λ start. IsNeh instance.now start.0) }
     ensures value { IfOk result (λ start. start.1 ≡ span instance.now start.0) }

@@ -71,6 +71,7 @@ pub(crate) fn read_two_ended_heading<'a>(
     let jobs = instance.jobs();
     let machines = instance.machines();
     let Some(size_text) = after_title(text) else {
+        // No command comes here: where line 1 is another, `kind_of` has the text read as a certificate with trees.
         return Err(CheckFault::Header);
     };
     let Some(bounds_text) = after_size(jobs, machines, size_text) else {

@@ -17,8 +17,8 @@ use Rattle.flow_pool.specs.internal.HubSteps.{hub_slots}
 use Rattle.flow_pool.specs.internal.Start.{CanStart}
 
 -- a run of so many starts has a report or a fault only where they are enough, and has used them up only where they are
--- not. The lanes of each worker that was started are settled: of all; of as many as may be; of those behind the worker
--- that the system refused to start
+-- not. There are as many pairs of settled lanes as workers were started: all; as many as may be; as many as stand behind
+-- the worker that the system refused to start. Whose they are stands in the code, but for those of a report
 abbrev pub IsRun : Planned → ℕ → RunOutcome → Vec (Settled Task × Settled Answer) → Type 0
 IsRun plan starts (Whole verdict) lanes =
     IsReport plan (record { verdict = verdict; lanes = lanes }) × (plan.options.workers ≤ starts)

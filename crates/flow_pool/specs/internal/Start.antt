@@ -27,8 +27,8 @@ pub record HasEnded (gives : WorkerEnds → Type 0) (workers : List WorkerEnds) 
   pub served : All gives workers
   pub collected : All IsCollected hubs
 
--- how many of `count` workers were started, the last first, where `starts` may be: all; just `starts`, which are fewer;
--- fewer than `starts`, and just those behind the worker that the system refused to start
+-- how many of `count` workers were started, where `starts` may be: all; just `starts`, which are fewer; fewer than
+-- `starts`, and as many as stand behind the worker that the system refused to start
 abbrev pub HasStarted : Started → ℕ → ℕ → ℕ → Type 0
 HasStarted Complete starts count started = (started ≡ count) × (count ≤ starts)
 HasStarted UsedUp starts count started = (started ≡ starts) × (starts < count)
