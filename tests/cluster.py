@@ -402,7 +402,8 @@ def lose_results(pool):
     except ZeroDivisionError:
         got = "raised"
     equal("an error of who is told", got, "raised")
-    for name, value in [("workers", 0), ("workers", 10_001), ("time_limit", -1), ("time_limit", "60"), ("time_limit", True), ("bound", -1)]:
+    limits = [("time_limit", value) for value in (-1, "60", True)]
+    for name, value in [("workers", 0), ("workers", 10_001), *limits, ("bound", -1)]:
         call = HARD.prove if name == "bound" else HARD.certify
         equal(f"{name} as {value}", refused(lambda: call(**{name: value}))[:2], ("OptionError", name.upper()))
     for front, back, place, sentence in [
