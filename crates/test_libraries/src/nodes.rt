@@ -129,17 +129,19 @@ fn bounds_above_the_cap(rt: HostRuntime) -> Result<(), Fail> {
     Ok(())
 }
 
+/// Sixteen jobs on two machines: job `j` takes `j` on the first and `17 - j` on the second.
+static SIXTEEN_JOBS: [u32; 32] = [
+    1, 2, 3, 4, 5, 6, 7, 8, 9, 10, 11, 12, 13, 14, 15, 16, 16, 15, 14, 13, 12, 11, 10, 9, 8, 7, 6,
+    5, 4, 3, 2, 1,
+];
+
 /// Sixteen jobs on two machines, of which job `j` takes `j` on the first and `17 - j` on the second, so all take 136 on
 /// each. Whatever job is first leaves the second machine at 17, so its child at the front has the bound `136 + j`; and
 /// whatever job is last needs 17 from its start, so its child at the back has the bound `153 - j`. Below 145 are the
 /// first eight at the front, and the last eight at the back.
 #[test]
 fn bounds_of_sixteen_jobs(rt: HostRuntime) -> Result<(), Fail> {
-    let times = [
-        1, 2, 3, 4, 5, 6, 7, 8, 9, 10, 11, 12, 13, 14, 15, 16, 16, 15, 14, 13, 12, 11, 10, 9, 8, 7,
-        6, 5, 4, 3, 2, 1,
-    ];
-    let instance = Instance::new(rt.alloc(), 16, 2, &times)?;
+    let instance = Instance::new(rt.alloc(), 16, 2, &SIXTEEN_JOBS)?;
     let root = Node::root(&instance);
     let mut narrow = [u16x16::splat(0); 2];
     let mut great = [u32x16::splat(0); 2];
@@ -176,15 +178,17 @@ fn bounds_of_sixteen_jobs(rt: HostRuntime) -> Result<(), Fail> {
     Ok(())
 }
 
+/// Seventeen jobs on two machines: job `j` takes `j` on the first and `100 + j` on the second.
+static SEVENTEEN_JOBS: [u32; 34] = [
+    1, 2, 3, 4, 5, 6, 7, 8, 9, 10, 11, 12, 13, 14, 15, 16, 17, 101, 102, 103, 104, 105, 106, 107,
+    108, 109, 110, 111, 112, 113, 114, 115, 116, 117,
+];
+
 /// Seventeen jobs on two machines, of which job `j` takes `j` on the first and `100 + j` on the second: two groups, and
 /// the last job, which is alone in the second, stands in each of its lanes.
 #[test]
 fn groups_of_seventeen_jobs(rt: HostRuntime) -> Result<(), Fail> {
-    let times = [
-        1, 2, 3, 4, 5, 6, 7, 8, 9, 10, 11, 12, 13, 14, 15, 16, 17, 101, 102, 103, 104, 105, 106,
-        107, 108, 109, 110, 111, 112, 113, 114, 115, 116, 117,
-    ];
-    let instance = Instance::new(rt.alloc(), 17, 2, &times)?;
+    let instance = Instance::new(rt.alloc(), 17, 2, &SEVENTEEN_JOBS)?;
     let groups = groups::<u16x16>(rt.alloc(), &instance)?;
     assert_eq!(rt; groups.len(), 2);
     for lane in 0..LANES {
