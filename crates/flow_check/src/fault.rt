@@ -14,15 +14,15 @@ pub enum CheckFault {
     /// Memory ran out.
     #[error("Memory")]
     Memory,
-    /// The first line is not that of the kind as which the text is read. Where `kind_of` named the kind, it is that of
-    /// neither kind.
+    /// The first line is not that of the kind as which the text is read. Where `kind_of` gave the kind, it is that of no
+    /// kind.
     #[error("Header")]
     Header,
-    /// The second line does not hold the instance's jobs and machines and a depth; of a two-ended certificate, the jobs
-    /// and machines alone.
+    /// The second line does not hold the instance's jobs and machines; or of a certificate with trees no depth, or of a
+    /// two-ended one more than these two.
     #[error("Size")]
     Size,
-    /// The third line is not one number, of a two-ended certificate not two, or a number is too large.
+    /// The third line is not one number, or of a two-ended certificate not two numbers; or a number is too large.
     #[error("Value")]
     Value,
     /// The fourth line is not a sequence.
@@ -31,7 +31,7 @@ pub enum CheckFault {
     /// The sequence's makespan is not the value, or not the upper bound.
     #[error("NotAttained")]
     NotAttained,
-    /// This line is not one tree; of a two-ended certificate, not one string of directions that prove the lower bound.
+    /// This line is not one tree; of a two-ended certificate, it has too few signs, too many, or another byte.
     #[error("Tree {0}")]
     Tree(usize),
     /// In this line of a certificate with trees a letter's bound, that of the version, is below the value.
@@ -41,7 +41,7 @@ pub enum CheckFault {
     /// sequence that is below the lower bound.
     #[error("Low {0}")]
     Low(usize),
-    /// The text after the trees, or after the directions, is not the last line alone.
+    /// What follows the line of the last tree, or that of the directions, is not the last line alone.
     #[error("End")]
     End,
 }

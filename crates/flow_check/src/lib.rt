@@ -1,6 +1,6 @@
-//! The checker: reads a certificate, and returns the value that it proves least, or the sequence. Reads a two-ended
-//! certificate, and returns its bounds and its sequence. It uses nothing of a solver: docs/proved.md lists the code
-//! below it that the searches may call too.
+//! The checker. `check_text`, which the command `check` calls, reads a text of either kind, and returns what it shows.
+//! `check` and `check_sequence` read a certificate with trees, `check_two_ended` a two-ended one. It uses nothing of a
+//! solver: docs/proved.md lists the code below it that the searches may call too.
 #![tactic(auto)]
 
 mod bounds;

@@ -24,7 +24,7 @@ use flow_search::{OptionFault, PlanFault};
 use std::alloc::AllocError;
 use thiserror::Error;
 
-/// Why a command refused, in the order in which it is tested; its text is the line on standard error.
+/// Why a command refused; its text is the line on standard error. A second file is read after text and index.
 #[derive(Clone, Copy, Debug, PartialEq, Eq, Error)]
 pub enum CommandFault {
     /// Memory ran out, in whatever layer.

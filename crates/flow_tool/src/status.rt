@@ -12,7 +12,7 @@ const REFUSED: u8 = 1;
 /// The words are no command line.
 const NO_COMMAND: u8 = 2;
 
-/// A file or stream can't be opened, read or written.
+/// A file or stream can't be opened, read or written, or has more bytes than are read.
 const NO_FILE: u8 = 3;
 
 impl Stop {
