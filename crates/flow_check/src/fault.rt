@@ -14,12 +14,12 @@ pub enum CheckFault {
     /// Memory ran out.
     #[error("Memory")]
     Memory,
-    /// The first line is not that of the kind as which the text is read. Where `kind_of` gave the kind, it is that of no
-    /// kind.
+    /// The first line is not that of the kind as which the text is read. Where `kind_of` gave the kind, it is that of
+    /// no kind.
     #[error("Header")]
     Header,
-    /// The second line does not hold the instance's jobs and machines; or of a certificate with trees no depth, or of a
-    /// two-ended one more than these two.
+    /// The second line is not the jobs and machines of the instance alone, or in a certificate with trees not these and
+    /// a depth that it may have.
     #[error("Size")]
     Size,
     /// The third line is not one number, or of a two-ended certificate not two numbers; or a number is too large.
@@ -31,7 +31,8 @@ pub enum CheckFault {
     /// The sequence's makespan is not the value, or not the upper bound.
     #[error("NotAttained")]
     NotAttained,
-    /// This line is not one tree; of a two-ended certificate, it has too few signs, too many, or another byte.
+    /// This line is not one tree; of a two-ended certificate, it has too few signs, too many, another byte, or no line
+    /// end.
     #[error("Tree {0}")]
     Tree(usize),
     /// In this line of a certificate with trees a letter's bound, that of the version, is below the value.

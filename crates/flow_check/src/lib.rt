@@ -1,6 +1,6 @@
 //! The checker. `check_text`, which the command `check` calls, reads a text of either kind, and returns what it shows.
-//! `check` and `check_sequence` read a certificate with trees, `check_two_ended` a two-ended one. It uses nothing of a
-//! solver: docs/proved.md lists the code below it that the searches may call too.
+//! `check` and `check_sequence` read a certificate with trees, `check_two_ended` a two-ended one. The checker uses
+//! nothing of a solver: docs/proved.md lists the code below it that the searches may call too.
 #![tactic(auto)]
 
 mod bounds;
