@@ -144,14 +144,14 @@ fn workers_find_the_published_directions(rt: HostRuntime) {
     }
 }
 
-/// Workers, and how often at least and at most a watch is told of 116,565 directions of 20 jobs. One worker searches
-/// the first 12,000. Then a round has an eighth of the directions so far, and at least 2,000 for each worker, or as
-/// many as there are so far where that is less. If each round added just its size, there would be 19 rounds behind the
-/// first by one worker, 12 by four and 4 by sixty-four. A round may add up to 499 more for each worker, which makes 17,
-/// 10 and 2, or fewer, where its nodes are used up or one before them is not known. The watch is told before the first
-/// 12,000, behind them, and behind each round. By the sizes alone, one worker would tell it 55 times if rounds did not
-/// grow; and four and sixty-four would tell it 21 times if the least of a round were that of one worker.
-static ROUNDS: [(usize, u64, u64); 3] = [(1, 19, 54), (4, 12, 20), (64, 4, 20)];
+/// Workers, and how often at least and at most a watch is told of 116,565 directions of 20 jobs: before the first
+/// 12,000, which one worker searches, behind them, and behind each round. A round has an eighth of the directions so
+/// far, and at least 2,000 for each worker, or as many as there are so far where that is less. If each round added just
+/// its size, there would be 19 rounds by one worker, 12 by four and 4 by sixty-four. A round may add up to 499 more for
+/// each worker, which makes 17, 10 and 2; or fewer, where its nodes are used up or one before them is not known. If
+/// rounds did not grow, one worker would tell the watch at least 44 times. If the least of a round were that of one
+/// worker, four and sixty-four would by the sizes alone tell it 21 times.
+static ROUNDS: [(usize, u64, u64); 3] = [(1, 19, 43), (4, 12, 20), (64, 4, 20)];
 
 /// How often a watch is told of the directions of the second published instance.
 fn times_told<R: Threads + Sync>(rt: &R, alloc: Global, workers: usize) -> u64 {
