@@ -1,6 +1,6 @@
 //! A part of a search for directions.
 
-ghost use Rattle.std.specs.Prelude.{◌≡◌, ◌⊎◌, ◌++◌, ◌≤◌, ◌<◌, [], None, Some, IfOk, OnOk, IfErr, length, take, drop};
+ghost use Rattle.std.specs.Prelude.{◌≡◌, ◌⊎◌, ◌++◌, ◌≤◌, None, Some, IfOk, OnOk, IfErr, length, take, drop};
 ghost use Rattle.flow_shop.specs.Shop.{IsWithinLimits};
 ghost use Rattle.flow_shop.specs.Sequences.{AreJobs};
 ghost use Rattle.flow_shop.specs.Directions.{ProvesFrom};

@@ -9,7 +9,7 @@ use Rattle.flow_check.specs.internal.ReadTrees.{read_tree, after_tree, trees_val
 use Rattle.flow_check.specs.internal.Links.{IsNext}
 use Rattle.flow_shop.proofs.Taken.{left_from}
 use Rattle.flow_check.proofs.Stacks.{awaited}
-use Rattle.flow_check.specs.internal.PartsGive.{TreeGives, LineEnds, LinesGive}
+use Rattle.flow_check.specs.internal.PartsGive.{LineEnds, LinesGive}
 use Rattle.flow_check.specs.declared.fault.CheckFault.{CheckFault}
 use Rattle.flow_check.specs.declared.fault.CheckFault.TheVariants.{Memory, Header, Size, Value, Sequence, NotAttained}
 use Rattle.flow_check.specs.declared.fault.CheckFault.TheVariants.{Tree, Weak, Low, End}
@@ -96,30 +96,6 @@ lines-err shop version value l m ps qs line place from at bytes answer fault is 
     (lines-fail shop version value l m ps qs line place from at bytes fault pass h)
 
 -- one line
-
-line-fails : (shop : Shop) (version value left : ℕ) (list : List ℕ) (line from : ℕ) (bytes : List ℕ)
-    (fault : CheckFault) →
-    TreeGives from bytes (Err fault) (read_tree shop (bound_of version) value line left list (drop from bytes)) →
-    LinesGive shop version value left (list ∷ []) line from bytes (Err fault)
-line-fails shop version value left list line from bytes Memory h = tt
-line-fails shop version value left list line from bytes Header h =
-    λ rest. ap (after_tree line (trees_value shop (bound_of version) value left rest (line + 1))) h
-line-fails shop version value left list line from bytes Size h =
-    λ rest. ap (after_tree line (trees_value shop (bound_of version) value left rest (line + 1))) h
-line-fails shop version value left list line from bytes Value h =
-    λ rest. ap (after_tree line (trees_value shop (bound_of version) value left rest (line + 1))) h
-line-fails shop version value left list line from bytes Sequence h =
-    λ rest. ap (after_tree line (trees_value shop (bound_of version) value left rest (line + 1))) h
-line-fails shop version value left list line from bytes NotAttained h =
-    λ rest. ap (after_tree line (trees_value shop (bound_of version) value left rest (line + 1))) h
-line-fails shop version value left list line from bytes (Tree p) h =
-    λ rest. ap (after_tree line (trees_value shop (bound_of version) value left rest (line + 1))) h
-line-fails shop version value left list line from bytes (Weak p) h =
-    λ rest. ap (after_tree line (trees_value shop (bound_of version) value left rest (line + 1))) h
-line-fails shop version value left list line from bytes (Low p) h =
-    λ rest. ap (after_tree line (trees_value shop (bound_of version) value left rest (line + 1))) h
-line-fails shop version value left list line from bytes End h =
-    λ rest. ap (after_tree line (trees_value shop (bound_of version) value left rest (line + 1))) h
 
 -- a whole tree, and its end
 pub line-gives : (shop : Shop) (version value left : ℕ) (list : List ℕ) (line from end : ℕ) (bytes : List ℕ)

@@ -14,7 +14,6 @@ use Rattle.flow_shop.proofs.EndSteps.{has-child}
 use Rattle.flow_shop.specs.declared.end.End.{End}
 use Rattle.flow_shop.specs.Ends.{end_bound}
 use Rattle.flow_shop.specs.Directions.{first_with, last_with}
-use Rattle.flow_nodes.specs.Nodes.{IsJob}
 use Rattle.flow_nodes.specs.Groups.{child_bound, group_count}
 use Rattle.flow_check.specs.declared.fault.CheckFault.TheVariants.{Low, Tree}
 use Rattle.flow_nodes.specs.declared.marks.Marks.{Marks}
@@ -185,9 +184,6 @@ module _ (shop : Shop) (number : ℕ) (whole : Reading) (text : List ℕ) (place
     pub opened : (job ≤ shop.jobs) × (has (first ++ last) job ≡ false)
         × (child_bound shop frame.end first last job < number)
     opened = stands.is_frame.are_open.only job (omega (arith, above)) inside marked
-
-    pub opened-job : IsJob shop job
-    opened-job = (omega (arith, above), opened.0)
 
     -- what is read of the next child that is below the number
     pub children-next : (r : Reading) →

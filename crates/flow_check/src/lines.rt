@@ -1,6 +1,6 @@
 //! Reading the lines of the trees, one tree in each.
 
-ghost use Rattle.std.specs.Prelude.{◌≢◌, ℕ, suc, ◌+◌, ◌-◌, ◌≤◌, List, [], ◌∷◌, ◌++◌, slice_index, IfOk};
+ghost use Rattle.std.specs.Prelude.{◌≢◌, ℕ, suc, ◌-◌, ◌≤◌, List, [], ◌∷◌, ◌++◌, slice_index, IfOk};
 ghost use Rattle.flow_shop.specs.Sequences.{extensions};
 ghost use Rattle.flow_check.specs.internal.Links.{IsPlace};
 ghost use Rattle.flow_check.specs.internal.Gives.{IsSpotOf, GivesLines};

@@ -1,9 +1,8 @@
 //! The nodes of the trees: what is kept of a list of jobs, and the machine bounds.
 
-ghost use Rattle.std.specs.Prelude.{◌≡◌, ◌≢◌, ℕ, ◌+◌, ◌-◌, ◌*◌, ◌≤◌, ◌<◌, List, [], ◌∷◌, ◌++◌, suc, false};
+ghost use Rattle.std.specs.Prelude.{◌≡◌, ◌≢◌, ℕ, ◌+◌, ◌*◌, ◌≤◌, ◌<◌, List, [], ◌∷◌, ◌++◌, suc, false};
 ghost use Rattle.std.specs.Prelude.{length, slice_index};
 ghost use Rattle.flow_shop.specs.Limits.{greatest_time, greatest_completion, most_machines};
-ghost use Rattle.flow_shop.specs.Shop.{time};
 ghost use Rattle.flow_shop.specs.Paths.{completion};
 ghost use Rattle.flow_shop.specs.Front.{IsFrontOf, IsWithinFront};
 ghost use Rattle.flow_shop.specs.Sequences.{has};

@@ -2,7 +2,7 @@
 //! left starts there before it, whichever comes first.
 
 ghost use Rattle.std.specs.Prelude.{◌≡◌, ℕ, suc, ◌+◌, ◌-◌, List, ◌++◌, ◌∷◌, [], nat_le, slice_index, Some};
-ghost use Rattle.std.specs.Prelude.{length, ◌<◌};
+ghost use Rattle.std.specs.Prelude.{length};
 ghost use Rattle.flow_shop.specs.Sequences.{jobs_left};
 ghost use Rattle.flow_shop.specs.Bound.{bound_at, bound_of, front_of, release};
 ghost use Rattle.flow_check.specs.internal.Links.{AreLinks};

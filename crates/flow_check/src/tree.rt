@@ -1,6 +1,6 @@
 //! Reading one tree, byte by byte: a letter, a point, or a plus before the trees of the children.
 
-ghost use Rattle.std.specs.Prelude.{◌≢◌, ℕ, suc, ◌+◌, ◌≤◌, List, [], ◌∷◌, ◌++◌, length, slice_index, IfOk};
+ghost use Rattle.std.specs.Prelude.{◌≢◌, ℕ, suc, ◌≤◌, List, [], ◌∷◌, ◌++◌, length, slice_index, IfOk};
 ghost use Rattle.flow_check.specs.internal.Gives.{GivesTree, GivesChildren};
 ghost use Rattle.flow_check.specs.internal.Links.{IsPlace};
 ghost use Rattle.flow_check.specs.internal.Reader.{Stands, IsBack};

@@ -1,11 +1,10 @@
 -- What is answered for the sequence that a start text gives, or without one.
-use Rattle.std.proofs.Common.{refl, inl, inr, ℕ, List, Option, Some, None, Err}
+use Rattle.std.proofs.Common.{inl, ℕ, List, Option, Some, None}
 use Rattle.flow_core.specs.Shop.{Shop}
 use Rattle.flow_commands.specs.Output.{Output}
 use Rattle.flow_commands.specs.Block.{Origin}
 use Rattle.flow_commands.specs.Start.{FromStart}
-use Rattle.flow_commands.specs.declared.refusals.CommandFault.{CommandFault}
-use Rattle.flow_commands.specs.internal.Given.{GivesSequence, RefusesStart}
+use Rattle.flow_commands.specs.internal.Given.{GivesSequence}
 
 module _ (A : Shop → Option (List ℕ) → Output → Type 0) (origin : Origin) where
   -- the answer for the sequence that it gives
@@ -16,9 +15,3 @@ module _ (A : Shop → Option (List ℕ) → Output → Type 0) (origin : Origin
   given-answers (Some text) (Some jobs) answer gives answers = inl (jobs, gives, answers)
   given-answers None (Some jobs) answer gives answers = absurd gives
   given-answers (Some text) None answer gives answers = absurd gives
-
-  -- the fault that it gives
-  pub refused-answers : (text : Option (List ℕ)) (fault : CommandFault) →
-      RefusesStart origin.block.instance text fault → FromStart A origin text (Err fault)
-  refused-answers None fault refuses = absurd refuses
-  refused-answers (Some text) fault refuses = inr (fault, refuses, refl)

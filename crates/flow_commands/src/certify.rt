@@ -1,6 +1,6 @@
 //! The command `certify`.
 
-ghost use Rattle.std.specs.Prelude.{◌≡◌, false, None, Some, Err, IfOk, OnOk, IfErr, IfSome, is_some};
+ghost use Rattle.std.specs.Prelude.{◌≡◌, false, None, Some, IfOk, OnOk, IfErr, IfSome, is_some};
 ghost use Rattle.std.specs.Option.{ForSome};
 ghost use denote.Param.Send.{IsSync};
 ghost use Rattle.flow_core.specs.Sequences.{IsSequence};

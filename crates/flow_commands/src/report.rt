@@ -2,7 +2,6 @@
 
 ghost use Rattle.std.specs.Prelude.{◌≡◌, IfOk};
 ghost use Rattle.std.specs.List.{count_by};
-ghost use Rattle.flow_commands.specs.Printed.{value_line};
 ghost use Rattle.flow_commands.specs.Report.{block_line, block_lines, is_direction, is_drawn, is_line_end};
 ghost use Rattle.flow_commands.specs.Report.{proof_line, report_lines, size_lines, sum_line, times_line};
 ghost use Rattle.flow_commands.specs.internal.Picked.{origin_of};

@@ -1,6 +1,6 @@
 //! The command `solve`.
 
-ghost use Rattle.std.specs.Prelude.{◌≡◌, ◌⊎◌, false, None, Ok, Err, IfOk, OnOk, IfErr, IfSome, is_some};
+ghost use Rattle.std.specs.Prelude.{◌≡◌, ◌⊎◌, false, None, Err, IfOk, OnOk, IfErr, IfSome, is_some};
 ghost use Rattle.std.specs.Option.{ForSome};
 ghost use Rattle.flow_core.specs.Sequences.{IsSequence};
 ghost use Rattle.flow_search.specs.Plans.{IsPlan, but_memory, plan_fault};

@@ -74,13 +74,6 @@ module _ (visits_at : ℕ → List Visit) where
       let both = none-both (visits_at job) (flat_map visits_at jobs) none in
       (both.0, none-each jobs both.1)
 
-  -- where none of them reaches a sequence, they reach none
-  pub none-flat_map : (jobs : List ℕ) → AllByRecursion (λ job. first_reached (visits_at job) ≡ None) jobs →
-      first_reached (flat_map visits_at jobs) ≡ None
-  none-flat_map [] each = refl
-  none-flat_map (job ∷ jobs) each =
-      first_reached-append (visits_at job) (flat_map visits_at jobs) each.0 ∙ none-flat_map jobs each.1
-
   -- then the signs are those of each, one after another
   pub signs-flat_map : (jobs : List ℕ) → first_reached (flat_map visits_at jobs) ≡ None →
       signs (flat_map visits_at jobs) ≡ flat_map (λ job. signs (visits_at job)) jobs

@@ -1,6 +1,6 @@
 //! Taillard's generator of random numbers and instances.
 
-ghost use Rattle.std.specs.Prelude.{◌≡◌, ℕ, ◌+◌, ◌-◌, ◌<◌, ◌≤◌, None, IfOk, OnOk, IfErr};
+ghost use Rattle.std.specs.Prelude.{◌≡◌, ℕ, ◌+◌, ◌<◌, ◌≤◌, None, IfOk, OnOk, IfErr};
 ghost use Rattle.std.specs.Option.{SomeIff};
 ghost use Rattle.flow_generator.specs.Generator.{modulus, state_after, drawn, generated, generator_fault};
 ghost use Rattle.flow_shop.specs.InstanceFaults.{but_memory};

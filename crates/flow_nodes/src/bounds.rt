@@ -6,7 +6,6 @@ ghost use Rattle.std.specs.Global.{Vec};
 ghost use Rattle.flow_limits.specs.Limits.{most_machines};
 ghost use Rattle.flow_shop.specs.Shop.{Shop};
 ghost use Rattle.flow_shop.specs.Sequences.{has};
-ghost use Rattle.flow_shop.specs.declared.end.End.{End};
 ghost use Rattle.flow_shop.specs.declared.end.End.TheVariants.{Front, Back};
 ghost use Rattle.flow_nodes.specs.Lanes.{HasLane, limit_of};
 ghost use Rattle.flow_nodes.specs.Nodes.{IsNode};

@@ -1,8 +1,7 @@
 -- Answers that are over the budget, and what the first refusal says.
-use Rattle.std.proofs.Common.{◌≡◌, ℕ, zero, suc, ◌+◌, ◌<◌, ◌≤◌, true, false, ◌||◌, List, [], ◌∷◌, ◌++◌, length}
-use Rattle.std.proofs.Common.{map, Some, None, refl, sym, ap, ◌∙◌, arith}
-use Rattle.std.specs.Prelude.{slice_index_or}
-use Rattle.std.proofs.lemmas.Bool.{or_parts, or_right}
+use Rattle.std.proofs.Common.{◌≡◌, ℕ, ◌+◌, ◌≤◌, false, ◌||◌, List, [], ◌∷◌, ◌++◌, length}
+use Rattle.std.proofs.Common.{map, Some, None, refl, sym, ap, ◌∙◌}
+use Rattle.std.proofs.lemmas.Bool.{or_parts}
 use Rattle.std.proofs.lemmas.List.Folds.{list_any-append}
 use Rattle.flow_search.specs.declared.outcome.Outcome.{Outcome}
 use Rattle.flow_search.specs.declared.outcome.Outcome.TheVariants as outcome
@@ -23,15 +22,6 @@ any_over_budget-push answers more a pushed none =
     (or_parts (any_over_budget answers) (any_over_budget (a ∷ []))
     (sym (list_any-append (λ (b : Answer). is_over_budget b.outcome) answers (a ∷ []))
     ∙ (sym (ap any_over_budget pushed) ∙ none))).0
-
--- one of the answers is over the budget
-pub any_over_budget-at : (answers : List Answer) (i : ℕ) (a : Answer) → i < length answers →
-    slice_index_or answers i a ≡ a → is_over_budget a.outcome ≡ true → any_over_budget answers ≡ true
-any_over_budget-at [] i a l here over = absurd (omega arith)
-any_over_budget-at (x ∷ xs) zero a l here over =
-    ap (λ b. b || any_over_budget xs) (ap (λ (y : Answer). is_over_budget y.outcome) here ∙ over)
-any_over_budget-at (x ∷ xs) (suc i) a l here over =
-    or_right (is_over_budget x.outcome) (any_over_budget xs) (any_over_budget-at xs i a (omega arith) here over)
 
 -- where nothing is refused, no answer is over the budget
 pub none-over_budget : (number : ℕ) (answers : List Answer) →

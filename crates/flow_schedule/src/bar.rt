@@ -9,7 +9,7 @@ ghost use Rattle.flow_schedule.specs.Picture.{style_text, names_text, times_text
 use crate::colours::{colour, ink};
 use crate::operations::Operation;
 use crate::scale::{x_of, y_of};
-use crate::text::{push_number, push_words};
+use crate::text::push_words;
 use itoa::Buffer;
 use std::alloc::AllocError;
 

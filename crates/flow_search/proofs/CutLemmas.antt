@@ -4,7 +4,6 @@ use Rattle.std.proofs.Common.{take, drop, slice_index_or, refl, ap, sym, ◌∙�
 use Rattle.std.proofs.Math.Nat.{mul_assoc}
 use Rattle.std.proofs.Math.Seq.{take-append_seam, drop-append-add}
 use Rattle.std.specs.List.{filter, flat_map, concat, AllByRecursion}
-use Rattle.std.proofs.lemmas.List.{append-nil}
 use Rattle.std.proofs.lemmas.List.Folds.{concat-append}
 use Rattle.flow_shop.specs.Shop.{numbers}
 use Rattle.flow_shop.specs.Sequences.{has, jobs_left, extensions, cut}
@@ -104,10 +103,6 @@ added-taken n below list job now next whole high free e w =
     ∙ ap (λ xs. now ++ xs) (sym (concat-append here rest))
     ∙ ap (λ ls. now ++ concat ls) (sym (added-here n below list job high free))
     ∙ w
-
--- no job more
-pub itself : (n more : ℕ) (list old : List ℕ) → more ≡ 0 → old ++ concat (extensions n more list) ≡ old ++ list
-itself n more list old e = ap (λ m. old ++ concat (extensions n m list)) e ∙ ap (λ xs. old ++ xs) (append-nil list)
 
 -- lists of one length, one after another
 pub joined-size : (size : ℕ) (lists : List (List ℕ)) → AllByRecursion (λ l. length l ≡ size) lists →

@@ -97,14 +97,6 @@ impl<'a> Plan<'a> {
         self.options
     }
 
-    /// The same plan with other options of the same depth.
-    pub fn with_options(self, options: Options) -> Plan<'a>
-        requires { options.depth ≡ self.options.depth }
-        ensures { result ≡ record { shop = self.entry.shop; start = self.entry.start; options = options } }
-    {
-        Plan { options, ..self }
-    }
-
     /// How many prefixes there are.
     pub fn prefixes(&self) -> u32
         ensures value { result ≡ length (prefixes_of self.now) }

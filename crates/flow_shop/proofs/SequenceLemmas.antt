@@ -51,9 +51,6 @@ module _ (n : ℕ) (earlier rest : List ℕ) (job : ℕ) where
   abbrev later : Option SequenceFault
   later = place_fault n (earlier ++ job ∷ []) rest
 
-  pub fault-out : is_in_range 1 n job ≡ false → place_fault n earlier (job ∷ rest) ≡ Some (Job (length earlier + 1))
-  fault-out out = ap (λ b. tested b (has earlier job) (length earlier + 1) later) out
-
   pub fault-twice : is_in_range 1 n job ≡ true → has earlier job ≡ true →
       place_fault n earlier (job ∷ rest) ≡ Some (Twice (length earlier + 1))
   fault-twice within held =

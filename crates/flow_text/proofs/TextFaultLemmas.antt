@@ -305,11 +305,6 @@ abbrev pub fault_of : Result (List Block) TextFault → Option TextFault
 fault_of (Ok blocks) = None
 fault_of (Err f) = Some f
 
-end-tests : (n : ℕ) (some : Bool) (bs : List Block) → end_fault_at n false some [] 0
-    ≡ fault_of (cond some (Err text.NoBlock) (Ok bs))
-end-tests n true bs = refl
-end-tests n false bs = refl
-
 end-none : (n : ℕ) (some : Bool) (since : List ℕ) (bs : List Block) →
     end_fault_at n false some since (length since) ≡ fault_of (cond some (Err text.NoBlock) (Ok bs))
 end-none n some since bs =

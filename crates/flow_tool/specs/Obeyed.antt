@@ -1,5 +1,5 @@
 -- What the program does that a command line asks for, by what its names stand for.
-use Rattle.std.specs.Prelude.{◌≡◌, ◌⊎◌, List, ℕ, Result, Ok, Err, IsErrOf}
+use Rattle.std.specs.Prelude.{◌≡◌, ◌⊎◌, Result, Ok, Err, IsErrOf}
 use Rattle.flow_text.specs.declared.bytes.device.Source as sources
 use Rattle.flow_requests.specs.declared.Invocation.{Invocation}
 use Rattle.flow_requests.specs.declared.Invocation.TheVariants.{Gen, OfBlock}

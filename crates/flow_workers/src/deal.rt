@@ -1,6 +1,6 @@
 //! Which pieces are dealt in a round: the first ones of a search, where children of a node are taken one by one.
 
-ghost use Rattle.std.specs.Prelude.{◌≡◌, [], Option, Some, None, IfOk};
+ghost use Rattle.std.specs.Prelude.{◌≡◌, IfOk};
 ghost use Rattle.flow_shop.specs.Directions.{first_with, last_with};
 ghost use Rattle.flow_workers.specs.internal.Pieces.{behind, all_met, piece_met, pieces_met};
 ghost use Rattle.flow_workers.specs.internal.Taken.{IsNodeOf, taken_met};

@@ -1,6 +1,6 @@
 //! The search of one node.
 
-ghost use Rattle.std.specs.Prelude.{◌≡◌, ◌≤◌, ◌⊎◌, true, [], ◌∷◌, All, length, map, IfOk};
+ghost use Rattle.std.specs.Prelude.{◌≡◌, ◌≤◌, ◌⊎◌, true, ◌∷◌, All, length, map, IfOk};
 ghost use Rattle.flow_directions.specs.Search.{visits};
 ghost use Rattle.flow_workers.specs.internal.Pieces.{IsSearched, has_reached, met, pieces_met, written};
 ghost use Rattle.flow_workers.specs.declared.piece.Piece.TheVariants.{Left};

@@ -6,7 +6,7 @@ use flow_core::{Instance, generate};
 use flow_search::{Outcome, answer};
 use std::alloc::{AllocError, Global};
 
-/// Writes the tree of a list that leaves so many jobs. The value is the makespan in force.
+/// Writes the tree of a list that leaves so many jobs. The value is the bound in force.
 fn walk(
     instance: &Instance,
     version: u32,

@@ -99,7 +99,7 @@ static CERTIFICATES: [Row; 11] = [
     ),
     // The certificates of nine and ten jobs are as `bench/plain.rs` writes them, which shares nothing with the crates.
     // The search walks a node with nine jobs left in another way than one with eight. These trees go from the one to
-    // the other and back, and the makespan in force falls on the way.
+    // the other and back, and the bound in force falls on the way.
     (
         NINE,
         0,

@@ -1,7 +1,7 @@
 //! The makespan with a job between two lists, from fronts and tails.
 
-ghost use Rattle.std.specs.Prelude.{◌≡◌, ℕ, ◌+◌, ◌<◌, ◌≤◌, List, [], ◌∷◌, ◌++◌, length, drop, insert, All};
-ghost use Rattle.std.specs.Prelude.{slice_index, slice_index_or};
+ghost use Rattle.std.specs.Prelude.{◌≡◌, ℕ, ◌<◌, ◌≤◌, List, [], ◌∷◌, ◌++◌, length, drop, All};
+ghost use Rattle.std.specs.Prelude.{slice_index_or};
 ghost use Rattle.flow_shop.specs.Paths.{span};
 ghost use Rattle.flow_shop.specs.Front.{IsFrontOf, IsWithinFront};
 ghost use Rattle.flow_shop.specs.Rows.{AreRows};

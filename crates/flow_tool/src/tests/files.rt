@@ -3,7 +3,7 @@
 ghost use Rattle.flow_tool.specs.Inputs.{unknown_names};
 
 use crate::inputs::Inputs;
-use flow_core::{MemorySource, Source};
+use flow_core::MemorySource;
 use std::cell::Cell;
 
 /// The instance with three machines.

@@ -148,32 +148,26 @@ fn solve_writes_nothing_after_a_failed_read(rt: HostRuntime) {
     }
 }
 
-/// Holds each of the first `count` prefixes until all of them were reached. (test_threads tests `solve` with a gate of
-/// the same form: a crate does not see the tests of another.)
+/// Notes which prefixes were reached, and holds some of them until all of these were reached. (test_threads tests
+/// `solve` with a gate of the same form: a crate does not see the tests of another.)
 #[derive(Drop)]
 struct Meeting {
-    count: u32,
-    /// A bit for each of these prefixes.
+    /// A bit for each prefix that is held.
+    held: u32,
+    /// A bit for each prefix that was reached.
     came: AtomicU32,
     late: AtomicBool,
 }
 
-impl Meeting {
-    /// Whether each of these prefixes was reached.
-    fn is_complete(&self) -> bool {
-        self.came.load(Ordering::SeqCst).count_ones() == self.count
-    }
-}
-
 impl Gate for Meeting {
     fn reached(&self, _lane: u32, number: u32) {
-        if number >= self.count {
+        let bit = 1u32.rotate_left(number);
+        self.came.fetch_or(bit, Ordering::SeqCst);
+        if self.held & bit == 0 {
             return;
         }
-        self.came
-            .fetch_or(1u32.rotate_left(number), Ordering::SeqCst);
         for _ in 0..TURNS {
-            if self.is_complete() {
+            if self.came.load(Ordering::SeqCst) & self.held == self.held {
                 return;
             }
         }
@@ -181,10 +175,15 @@ impl Gate for Meeting {
     }
 }
 
-/// Whether so many workers meet at their prefixes, none of them late, and come to the certificate.
-fn meet<R: Threads + Wait + Sync>(rt: &R, alloc: Global, workers: u32) -> bool {
+/// Workers, and a bit for each prefix that is held: as many as workers.
+static MEETINGS: [(u32, u32); 2] = [(2, 0b11), (3, 0b111)];
+
+/// Whether the workers meet at the prefixes that are held, none of them late, reach all three prefixes, and come to the
+/// certificate.
+fn meet<R: Threads + Wait + Sync>(rt: &R, alloc: Global, row: &(u32, u32)) -> bool {
+    let (workers, held) = *row;
     let gate = Meeting {
-        count: workers,
+        held,
         came: AtomicU32::new(0),
         late: AtomicBool::new(false),
     };
@@ -193,12 +192,14 @@ fn meet<R: Threads + Wait + Sync>(rt: &R, alloc: Global, workers: u32) -> bool {
     let ran = run_solve(
         rt, alloc, &mut file, 1, workers, 1, AMPLE, 1, &gate, &mut out,
     );
-    comes_to(ran, &out, Ok(DEPTH_1)) && gate.is_complete() && !gate.late.load(Ordering::SeqCst)
+    comes_to(ran, &out, Ok(DEPTH_1))
+        && gate.came.load(Ordering::SeqCst) == 0b111
+        && !gate.late.load(Ordering::SeqCst)
 }
 
 #[test]
 fn run_solve_starts_workers(rt: HostRuntime) {
-    for workers in 2..4u32 {
-        assert!(rt; meet(&rt, rt.alloc(), workers), "{workers} workers");
+    for (number, row) in MEETINGS.iter().enumerate() {
+        assert!(rt; meet(&rt, rt.alloc(), row), "row {number}");
     }
 }

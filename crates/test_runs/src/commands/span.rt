@@ -13,10 +13,16 @@ a\n1 1 0 0 0\nb\n0\na\n1 1 0 0 0\nb\n0\na\n1 1 0 0 0\nb\n0\na\n1 1 0 0 0\nb\n0\n
 a\n1 1 0 0 0\nb\n0\na\n1 1 0 0 0\nb\n0\na\n1 1 0 0 0\nb\n0\na\n1 1 0 0 0\nb\n0\n\
 a\n3 2 0 0 0\nb\n3 1 2\n2 4 2\n";
 
+/// Ten times the block with two machines.
+const TEN_ALIKE: &[u8] = b"a\n3 2 0 0 0\nb\n3 1 2\n2 4 2\na\n3 2 0 0 0\nb\n3 1 2\n2 4 2\n\
+a\n3 2 0 0 0\nb\n3 1 2\n2 4 2\na\n3 2 0 0 0\nb\n3 1 2\n2 4 2\na\n3 2 0 0 0\nb\n3 1 2\n2 4 2\n\
+a\n3 2 0 0 0\nb\n3 1 2\n2 4 2\na\n3 2 0 0 0\nb\n3 1 2\n2 4 2\na\n3 2 0 0 0\nb\n3 1 2\n2 4 2\n\
+a\n3 2 0 0 0\nb\n3 1 2\n2 4 2\na\n3 2 0 0 0\nb\n3 1 2\n2 4 2\n";
+
 /// A text, an index and jobs; and what is written, or the fault.
 type Row = (&'static [u8], u32, &'static [u16], Wanted);
 
-static ROWS: [Row; 11] = [
+static ROWS: [Row; 12] = [
     (TWO_MACHINES, 1, &[2, 3, 1], Ok(b"makespan 9\n")),
     (
         TWO_MACHINES,
@@ -41,8 +47,9 @@ static ROWS: [Row; 11] = [
     (TEN_BLOCKS, 1, &[2, 3, 1], Ok(b"makespan 15\n")),
     (TEN_BLOCKS, 9, &[1], Ok(b"makespan 0\n")),
     (TEN_BLOCKS, 10, &[2, 3, 1], Ok(b"makespan 9\n")),
-    (TEN_BLOCKS, 11, &[2, 3, 1], Err(CommandFault::Index)),
-    (TEN_BLOCKS, 0, &[2, 3, 1], Err(CommandFault::Index)),
+    (TEN_ALIKE, 10, &[2, 3, 1], Ok(b"makespan 9\n")),
+    (TEN_ALIKE, 11, &[2, 3, 1], Err(CommandFault::Index)),
+    (TEN_ALIKE, 0, &[2, 3, 1], Err(CommandFault::Index)),
 ];
 
 /// Whether `span` comes to what a row says.
