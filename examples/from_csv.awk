@@ -130,6 +130,14 @@ function keep_lines(text,    part, parts, i) {
   }
 }
 
+# Stops at a benchmark text: words, the five numbers of a head, words, and for each machine a line of numbers alone, one
+# for each job.
+function test_head(    head, time, i) {
+  if (line[2] line[4] ~ /[^0-9 \t]/ || split(line[2], head, " ") != 5 || line[3] !~ /^[^0-9]/) return
+  for (i = 4; i < 4 + head[2] && line[i] !~ /[^0-9 \t]/ && split(line[i], time, " ") == head[1]; i++);
+  if (i > 4 && i == 4 + head[2]) stop("this is a benchmark text and no table: certify takes it as it is")
+}
+
 # The separator is the one of tab, semicolon and comma that stands in the most lines, outside of quotation marks; of
 # equal ones the first, since a comma may be a decimal sign.
 function find_separator(    i, bare, tabs, semicolons, commas) {
@@ -193,8 +201,8 @@ function read_rows(    i, text, begun, open, last) {
 
 # --- The words on the command line ---
 
-# Stops at a word NAME=VALUE whose name is none of those below: awk itself takes any.
-function test_names_of_words(    i, name) {
+# Stops at a word NAME=VALUE whose name is none of those below, or stands twice: awk itself takes any, and the last one.
+function test_names_of_words(    i, name, named) {
   for (i = 1; i < ARGC; i++) {
     name = ARGV[i]
     if (name !~ /^[A-Za-z_][A-Za-z_0-9]*=/) continue
@@ -202,6 +210,9 @@ function test_names_of_words(    i, name) {
     if (!index(" header first rows totals decimal skip keep from ", " " name " "))
       stop("there is no word " name "=: the words are header=, first=, rows=, totals=, decimal=, skip=, keep= and " \
         "from=")
+    if (name in named)
+      stop(name "= stands twice" (name == "skip" || name == "keep" ? "; write its names in one word, with commas" : ""))
+    named[name] = 1
   }
 }
 
@@ -471,11 +482,16 @@ function drops_totals(place) {
   return totals == "drop"
 }
 
+# Whether a job has the name of totals. A row of words may have units, and so the name min.
+function is_total_job(i) {
+  if (has_word(job_name(i), total_words)) return 1
+  return is_name(job_name(i), below_names) && (turned || !has_words_alone(job_at[i]))
+}
+
 # Finds totals by their names.
-function test_total_names(    i, name) {
+function test_total_names(    i) {
   for (i = jobs; i >= 1; i--) {
-    name = job_name(i)
-    if ((has_word(name, total_words) || is_name(name, below_names)) && drops_totals(job_place(i))) drop_job(i)
+    if (is_total_job(i) && drops_totals(job_place(i))) drop_job(i)
   }
   for (i = machines; i >= 1; i--) {
     if (has_word(machine_name(i), total_words) && drops_totals(machine_place(i))) drop_machine(i)
@@ -655,7 +671,8 @@ function refuse_field(j, k, text,    i, row, ends) {
     stop(place_of(j, k) " has no time: write 0 if the job skips this machine" \
       (text == "" && ends ? ", or the time that this line lacks" : ""))
   if (text ~ /^-[0-9]/) stop(place_of(j, k) " has " text ": no time is below 0")
-  if (text ~ /^[0-9]+([.,' ][0-9]+)+$/) stop(place_of(j, k) " has " text ": write it without signs of thousands")
+  if (text ~ /^[0-9]+([.,' ][0-9][0-9][0-9])+([.,][0-9]+)?$/)
+    stop(place_of(j, k) " has " text ": write it without signs of thousands")
   stop(place_of(j, k) " has \"" text "\": write a number alone, in the unit of the table")
 }
 
@@ -822,6 +839,7 @@ FNR == 1 {
 END {
   if (stopped) exit 1
   test_words()
+  test_head()
   find_separator()
   read_rows()
   test_title()

@@ -15,13 +15,14 @@ function stop(file, why) {
   exit 1
 }
 
-# Stops at a word NAME=VALUE whose name is not block: awk itself takes any.
-function test_words(    i, name) {
+# Stops at a word NAME=VALUE whose name is not block, or that stands twice: awk itself takes any, and the last one.
+function test_words(    i, name, words) {
   for (i = 1; i < ARGC; i++) {
     name = ARGV[i]
     if (name !~ /^[A-Za-z_][A-Za-z_0-9]*=/) continue
     sub(/=.*/, "", name)
     if (name != "block") stop("", "there is no word " name "=: the word is block=")
+    if (words++) stop("", "block= stands twice")
   }
 }
 
@@ -134,7 +135,10 @@ BEGIN { test_words() }
 
 FNR == 1 {
   files++
-  if (files == 1) shop = FILENAME
+  if (files == 1) {
+    shop = FILENAME
+    sub(/^\357\273\277/, "")
+  }
 }
 
 { sub(/\r$/, "") }

@@ -2,13 +2,18 @@
 be stopped, and say what went wrong. A word says which part is run: `local`, `dask` or `mpi`; `command EXECUTOR RUN..`,
 the commands by an executor, where other words than python3 run them; or `lost`, which does not end by itself."""
 
+import argparse
 import concurrent.futures
+import contextlib
+import csv
 import hashlib
 import io
 import json
 import os
 import pathlib
+import pty
 import random
+import re
 import signal
 import subprocess
 import sys
@@ -22,7 +27,8 @@ from counts import end, equal, refused
 from plain_search import PlainShop
 
 import flowshop
-from flowshop import Interrupted, Shop, _certify, _library, _parts, _spread, _texts
+from flowshop import Interrupted, Shop, _certify, _command_certify, _files, _library, _parts, _spread, _texts, _threads
+from flowshop import _waiting
 
 TOP = pathlib.Path(__file__).resolve().parent.parent
 BLOCKS = TOP / "examples" / "several_blocks.txt"
@@ -289,6 +295,16 @@ def show_progress():
         equal("how many lines there are", 2 <= len(lines) <= (8 if is_terminal else 4), True)
         equal("that they are ended", stream.getvalue().count("\n"), 1 if is_terminal else len(lines) + 1)
         equal("what is left of the last line", stream.getvalue().count("\x1b[K"), len(lines) if is_terminal else 0)
+        stream = Stream(is_terminal)
+        lines = _waiting.Lines(stream)
+        for write, line in [(lines.keep, "first"), (lines, "far"), (lines.keep, "other"), (lines, "farther")]:
+            write(line)
+        lines.close()
+        lines("farthest")
+        wanted = "first\nfar\nother\n"
+        if is_terminal:
+            wanted = "first\n\rfar\x1b[K\r\x1b[Kother\n\rfarther\x1b[K\r\x1b[K"
+        equal("lines between lines that say how far it is", stream.getvalue(), wanted)
 
 
 def interrupt(seconds, call):
@@ -340,6 +356,22 @@ def interrupt_runs(pool):
     error, seconds = interrupt(0.2, lambda: HARD.prove(HARD.neh().value - 60, budget=1_000_000_000))
     equal("an interrupt of prove", (type(error), seconds < 1), (KeyboardInterrupt, True))
     equal("a pool after that", list(pool.map(first, range(9))), list(range(9)))
+
+    for call, wanted in [
+        (lambda: HARD.certify(**LONG, time_limit=30), Interrupted),
+        (lambda: next(_threads.Threads(1).map(time.sleep, [5])), KeyboardInterrupt),
+    ]:
+        try:
+            error, seconds = interrupt(0.2, lambda: masked(call))
+        finally:
+            signal.pthread_sigmask(signal.SIG_UNBLOCK, {signal.SIGINT})
+        equal(f"an interrupt that a wait does not see: {seconds:.2f} s", (type(error), seconds < 1), (wanted, True))
+
+
+def masked(call):
+    """Makes a call in a thread that is not given the signal, as where it comes just before a wait begins."""
+    signal.pthread_sigmask(signal.SIG_BLOCK, {signal.SIGINT})
+    call()
 
 
 def stop_threads():
@@ -441,17 +473,24 @@ def use_command():
             searched = [row["seconds"] is not None for row in rows]
             equal(f"what is searched by {executor}", searched, [executor == "threads"] * 3)
         # The text of another block, one that is cut off, and one that is not there.
-        (out / names[0]).write_bytes(wanted[1].text)
-        (out / names[1]).write_bytes(wanted[1].text[:-1])
+        unlawful = [wanted[1].text, wanted[1].text[:-1]]
+        for name, text in zip(names, unlawful):
+            (out / name).write_bytes(text)
         os.remove(out / names[2])
+        (out / f"{names[1]}.old").write_bytes(b"an older text")
         run = command("check", BLOCKS, "--out", out)
         equal("a check of these", (run.returncode, len(run.stdout.splitlines())), (1, 1))
         said = [line.split(".certificate: ")[0].rsplit(".", 1)[1] for line in run.stderr.splitlines()]
         equal("what is said of each", said, ["1", "2", "3"])
         run = command("certify", BLOCKS, "--out", out, "--blocks", "1,2-2", "--csv", out / "table")
         equal("two blocks", (run.returncode, len((out / "table").read_text().splitlines())), (0, 3))
-        equal("what is said of them", run.stderr.count("the block is searched again"), 2)
+        olds = [f"{names[0]}.old", f"{names[1]}.old.2"]
+        said = [f"the block is searched again, and this text is kept as {name}\n" for name in olds]
+        equal("what is said of them", [line in run.stderr for line in said], [True, True])
         equal("the texts again", [(out / name).read_bytes() for name in names[:2]], [f.text for f in wanted[:2]])
+        equal("the texts that stood there", [(out / name).read_bytes() for name in olds], unlawful)
+        equal("an older one", (out / f"{names[1]}.old").read_bytes(), b"an older text")
+        equal("what else is there", sorted(os.listdir(out)), sorted([*names[:2], *olds, f"{names[1]}.old", "table"]))
         equal("a check of two", command("check", BLOCKS, "--out", out, "--blocks", "1-2").returncode, 0)
         # Bounds that differ are kept too, and a line says so.
         hard = pathlib.Path(folder, "hard.txt")
@@ -462,18 +501,91 @@ def use_command():
         equal("what is printed of them", runs[0].stdout.split()[-1], runs[1].stdout.split()[-1])
 
 
-def refuse_words():
-    """Words that are none, and files that are not read."""
+def keep_links_and_pipes():
+    """A table goes through a link and into a pipe, and both stay."""
     with tempfile.TemporaryDirectory() as folder:
+        file, link, pipe = (pathlib.Path(folder, name) for name in ("file", "link", "pipe"))
+        file.write_text("before")
+        link.symlink_to("file")
+        os.mkfifo(pipe)
+        words = ["certify", BLOCKS, "--out", pathlib.Path(folder, "out")]
+        equal("the status with a link", command(*words, "--csv", link).returncode, 0)
+        equal("a link that stays", (link.is_symlink(), file.is_symlink()), (True, False))
+        with subprocess.Popen(["timeout", "180", "cat", pipe], stdout=subprocess.PIPE, text=True) as reader:
+            equal("the status with a pipe", command(*words, "--json", pipe).returncode, 0)
+            rows = json.loads(reader.communicate()[0] or "[]")
+        equal("a pipe that stays", pipe.is_fifo(), True)
+        with open(file, newline="") as lines:
+            bounds = [(int(row["lower"]), int(row["upper"])) for row in csv.DictReader(lines)]
+        equal("what went into both", bounds, [(row["lower"], row["upper"]) for row in rows])
+        equal("the blocks of both", len(rows), 3)
+
+
+def keep_streams():
+    """A table goes into a stream that is open, whatever it is called, and a file that is not open for writing is
+    replaced, whatever it is called. All names lead to files of a folder that is deleted: a wrong body replaces no
+    more than these."""
+    with tempfile.TemporaryDirectory() as folder:
+        file, link, table = (pathlib.Path(folder, name) for name in ("file", "link", "table"))
+        link.symlink_to("/proc/self/fd/1")
+        words = [sys.executable, "-m", "flowshop", "certify", str(BLOCKS), "--out", folder, "--csv"]
+        shell = ["sh", "-c", '{ "$@"; echo after; } > file', "sh"]
+        run = {"cwd": folder, "timeout": 120, "check": False}
+        run.update(stdout=subprocess.DEVNULL, stderr=subprocess.DEVNULL)
+        subprocess.run([*words, table], **run)
+        for name in (str(link), "/proc/self/fd/1", "//proc/self/fd/1", str(file)):
+            subprocess.run([*shell, *words, name], **run)
+            *printed, last = file.read_text().splitlines(keepends=True)
+            commas = [line.count(",") for line in printed]
+            equal(f"what is in the file of {name}", (commas, last), ([0] * 4 + [8] * 4, "after\n"))
+            file.write_text("before\n")
+            with open(file, "a") as out:
+                status = subprocess.run([*words, name], **{**run, "stdout": out}).returncode
+            equal(f"what stood in {name}", (status, file.read_text()), (0, "".join(["before\n", *printed])))
+        equal("a link that stays", os.readlink(link), "/proc/self/fd/1")
+        for name in (table, "/proc/self/cwd/table"):
+            table.write_text("before\n")
+            with open(table) as read:
+                status = subprocess.run([*words, name], stdin=read, **run).returncode
+            equal(f"what is in {name}", (status, table.read_text()), (0, "".join(printed[4:])))
+        with mock.patch.object(os, "listdir", side_effect=FileNotFoundError), open(table, "w"):
+            _files.save(table, b"whole\n")
+        equal("a file, where no streams are listed", table.read_text(), "whole\n")
+
+
+def refuse_words():
+    """Words that are none, files that are not read, and files that would be overwritten: no file is written."""
+    with tempfile.TemporaryDirectory() as folder:
+        for name in ("t.txt", "a", "a.3.certificate", "other"):
+            pathlib.Path(folder, name).write_bytes(BLOCKS.read_bytes())
+        for name in ("link", "other.2.certificate"):
+            pathlib.Path(folder, name).symlink_to("t.txt")
+        before = {name: pathlib.Path(folder, name).read_bytes() for name in os.listdir(folder)}
         for words, status, said in [
-            ([BLOCKS, "--blocks", "4"], 2, "--blocks has 4, and "),
+            (["t.txt", "--blocks", "4"], 2, "--blocks has 4, and t.txt has the blocks 1 to 3\n"),
+            (["t.txt", "--blocks", "0"], 2, "--blocks has 0, and t.txt has the blocks 1 to 3\n"),
+            (["t.txt", "--blocks", "2-1"], 2, "--blocks has 2-1, and t.txt has the blocks 1 to 3; write the smaller"),
+            (["a", "--out", "t.txt"], 2, "--out is t.txt, which is a file, and has to be a folder\n"),
             ([BLOCKS, "--blocks", "x"], 2, "--blocks is x, and has to be all, or numbers such as 1,3-5"),
             ([BLOCKS, BLOCKS], 2, "two blocks would have the certificate "),
-            ([BLOCKS, "--seed", "0"], 2, "seed is 0, and has to be a whole number from 1"),
+            ([BLOCKS, "1"], 2, "there is no file 1; --blocks 1 is block 1 of the files"),
+            ([BLOCKS, "--seed", "0"], 2, "--seed is 0, and has to be a whole number from 1 to 2,147,483,646\n"),
+            ([BLOCKS, "--workers", "0"], 2, "--workers is 0, and has to be a whole number from 1 to 10,000\n"),
             ([BLOCKS, "--executor", "none"], 2, "--executor is none, and has to be threads, processes, mpi"),
-            ([BLOCKS, "--time-limit", "-1"], 2, "time_limit is -1.0, and has to be a number of seconds"),
+            ([BLOCKS, "--time-limit", "-1"], 2, "--time-limit is -1, and has to be a number of seconds from 0 on\n"),
+            ([BLOCKS, "--time-limit", "nan"], 2, "--time-limit is nan, and has to be a number of seconds from 0 on\n"),
             ([pathlib.Path(folder, "nothing")], 3, "[Errno 2] No such file or directory"),
             ([TOP / "VERSION"], 1, "line 1 of "),
+            (["t.txt", "--csv", "-"], 2, "--csv is -, and has to be a file; the table is printed anyway"),
+            (["t.txt", "--csv", "t.txt"], 2, "--csv is t.txt, a file that is read; the table has to have a file of"),
+            (["a", "t.txt", "--json", "./link"], 2, "--json is ./link, a file that is read; the table has to have"),
+            (["link", "--csv", "../" + pathlib.Path(folder).name + "/t.txt"], 2, "--csv is ../"),
+            (["t.txt", "--csv", "./t.txt.1.certificate"], 2, "--csv is ./t.txt.1.certificate, a file for a cert"),
+            (["t.txt", "--blocks", "1", "--json", "t.txt.2.certificate"], 2, "--json is t.txt.2.certificate, a file"),
+            (["t.txt", "--csv", "t.txt.1.certificate.old"], 2, "--csv is t.txt.1.certificate.old, a file for a cert"),
+            (["t.txt", "--csv", "t.txt.1.certificate.old.2"], 2, "--csv is t.txt.1.certificate.old.2, a file for a"),
+            (["a", "a.3.certificate"], 2, "the certificate of block 3 of a would be a.3.certificate, a file that is"),
+            (["t.txt", "other"], 2, "the certificate of block 2 of other would be other.2.certificate, a file that"),
             *([] if find_spec("mpi4py") else [([BLOCKS, "--executor", "mpi"], 2, "--executor needs a package")]),
         ]:
             run = command("certify", *words, cwd=folder)
@@ -482,47 +594,176 @@ def refuse_words():
         said = command("certify", TOP / "examples" / "table.csv", cwd=folder).stderr
         equal("what is said of a table", "examples/from_csv.awk makes such a file of a table" in said, True)
         equal("the status of no command", command().returncode, 2)
-        equal("that no file is written", os.listdir(folder), [])
+        after = {name: pathlib.Path(folder, name).read_bytes() for name in os.listdir(folder)}
+        equal("that no file is written", after, before)
+
+
+def shown(text):
+    """What a terminal shows of a text, line by line."""
+    lines = []
+    for line in text.split("\n"):
+        cells, place = [], 0
+        for sign in re.findall(r"\x1b\[K|.", line, re.DOTALL):
+            if sign == "\r":
+                place = 0
+            elif sign == "\x1b[K":
+                del cells[place:]
+            else:
+                cells[place : place + 1] = sign
+                place += 1
+        lines.append("".join(cells))
+    return lines
+
+
+def read_all(stream):
+    """What is written to a terminal until its last writer has ended."""
+    text = b""
+    try:
+        while piece := os.read(stream, 4096):
+            text += piece
+    except OSError:  # so a terminal says that it has ended
+        pass
+    return text.decode()
+
+
+@contextlib.contextmanager
+def on_terminal(words):
+    """Runs a command on a terminal, in a process group of its own. Gives the process, and a call for what was written,
+    once all have ended."""
+    ours, theirs = pty.openpty()
+    with subprocess.Popen(words, stdout=theirs, stderr=theirs, start_new_session=True) as run:
+        os.close(theirs)
+        with concurrent.futures.ThreadPoolExecutor(1) as pool:
+            try:
+                yield run, pool.submit(read_all, ours).result
+            finally:
+                with contextlib.suppress(ProcessLookupError):
+                    os.killpg(run.pid, signal.SIGKILL)
+    os.close(ours)
+
+
+def use_terminal():
+    """On a terminal a line says how far a block is, and rows and other lines have lines of their own: that of block 3
+    comes while block 1 is searched, and after block 2."""
+    with tempfile.TemporaryDirectory() as folder:
+        file, more = pathlib.Path(folder, "shops.txt"), pathlib.Path(folder, "more")
+        HARD.write(file)
+        Shop.generate(20, 10, 2).write(more)
+        file.write_bytes(file.read_bytes() + more.read_bytes() + BLOCKS.read_bytes())
+        pathlib.Path(folder, "shops.txt.3.certificate").write_text("none\n")
+        words = ["certify", file, "--out", folder, "--workers", "2", "--time-limit", "2", "--directions", "10000000"]
+        with on_terminal([sys.executable, "-m", "flowshop", *words]) as (_, written):
+            text = written(60)
+        *lines, last = shown(text)
+        rows = [line.split()[1] for line in lines if len(line.split()) == 9]
+        equal("the rows", rows, ["block", *"12345"])
+        others = [line for line in lines if len(line.split()) != 9]
+        equal("the other lines", [line.split(" ", 1)[0] for line in others], [f"{folder}/shops.txt.3.certificate:"])
+        equal("that the last line is ended", last, "")
+        equal("that a line says how far a block is", f"{file} 1: step " in text, True)
+        equal("that it is written anew", "\x1b[K" in text, True)
+        run = command(*words, "--blocks", "2,4")
+        equal("a run that is none on a terminal", ("\r" in run.stdout + run.stderr, run.returncode), (False, 0))
 
 
 def stop_command():
-    """An interrupt of the command leaves whole files alone, and the next run goes on."""
+    """An interrupt of the command leaves whole files alone, writes a table of what is done, and ends a loop of a shell;
+    the next run goes on."""
     with tempfile.TemporaryDirectory() as folder:
-        file = pathlib.Path(folder, "shops.txt")
+        file, table = pathlib.Path(folder, "shops.txt"), pathlib.Path(folder, "table")
         Shop.generate(100, 20, 7).write(file)
         wide = ["--width", "65536", "--work", "20000"]  # within a second it comes to a beam that takes ten seconds
-        file.write_bytes(BLOCKS.read_bytes() + file.read_bytes())
+        file.write_bytes(file.read_bytes() + BLOCKS.read_bytes())
         for executor in ("threads", "processes"):
             out = pathlib.Path(folder, executor)
-            words = ["certify", file, "--out", out, "--workers", "2", "--executor", executor]
-            run = subprocess.Popen(
-                [sys.executable, "-m", "flowshop", *words, *wide],
-                stdout=subprocess.PIPE,
-                stderr=subprocess.PIPE,
-                start_new_session=True,
-            )
-            third = out / "shops.txt.3.certificate"
-            ends = time.monotonic() + 60
-            while not third.exists() and time.monotonic() < ends:
-                time.sleep(0.05)
-            time.sleep(1)
-            begun = time.monotonic()
-            os.killpg(run.pid, signal.SIGINT)
-            said = run.communicate(timeout=60)
-            equal(f"the status of {executor}", run.returncode, 130)
-            equal(f"how soon {executor} end", time.monotonic() - begun < 1, True)
-            equal("that no trace of an error is left", b"Traceback" in said[1], False)
-            equal("the files", sorted(os.listdir(out)), [f"shops.txt.{number}.certificate" for number in (1, 2, 3)])
-            try:
-                os.killpg(run.pid, 0)
-                equal("that no process is left", True, False)
-            except ProcessLookupError:
-                pass
+            out.mkdir()
+            unlawful, last = (out / f"shops.txt.{number}.certificate" for number in (1, 4))
+            unlawful.write_text("none\n")
+            table.write_text("older rows\n")
+            words = [sys.executable, "-m", "flowshop", "certify", file, "--out", out, "--workers", "2", *wide]
+            words += ["--executor", executor, "--csv", table]
+            with on_terminal(["bash", "-c", 'for i in 1 2; do "$@"; done', "bash", *words]) as (run, written):
+                ends = time.monotonic() + 60
+                while not last.exists() and time.monotonic() < ends:
+                    time.sleep(0.05)
+                time.sleep(1)
+                begun = time.monotonic()
+                os.killpg(run.pid, signal.SIGINT)
+                time.sleep(0.002)
+                os.killpg(run.pid, signal.SIGINT)  # it makes no difference
+                with contextlib.suppress(subprocess.TimeoutExpired):
+                    run.wait(20)
+                equal(f"the status of a loop with {executor}", run.returncode, -signal.SIGINT)
+                equal(f"how soon {executor} end", time.monotonic() - begun < 1, True)
+                try:
+                    os.killpg(run.pid, 0)
+                    equal("that no process is left", True, False)
+                except ProcessLookupError:
+                    pass
+            head, again, *said = shown(written())
+            equal("the head of the table", head.split()[:2], ["file", "block"])
+            equal("a line on a text that is not lawful", again.endswith("is kept as shops.txt.1.certificate.old"), True)
+            stopped = "stopped: 3 of 4 blocks are done; the same command goes on with the others"
+            equal(f"what {executor} say", said, [stopped, ""])
+            equal("the files", sorted(os.listdir(out)), [f"shops.txt.{number}.certificate" for number in range(1, 5)])
+            equal("a text that is not replaced yet", unlawful.read_text(), "none\n")
+            rows = [line.split(",")[1] for line in table.read_text().splitlines()]
+            equal(f"the table of {executor}", rows, ["block", *"234"])
         go_on(file, out, wide)
 
 
+def stop_at_pipes():
+    """At an interrupt nothing waits for a pipe that is not read, a file that is not written makes a line, a stream for
+    lines that is gone is passed over, and a table on a terminal begins at the left."""
+    with tempfile.TemporaryDirectory() as folder:
+        pipe, said = pathlib.Path(folder, "pipe"), Stream(False)
+        os.mkfifo(pipe)
+        gone = mock.Mock(isatty=lambda: False, write=mock.Mock(side_effect=BrokenPipeError))
+        stopped = "stopped: 0 of 3 blocks are done; the same command goes on with the others\n"
+        for table, stream, wanted in [
+            (pipe, said, f"flowshop: the table is not written within 2 seconds\n{stopped}"),
+            (folder, said, f"flowshop: [Errno 21] Is a directory: '{folder}'\n{stopped}"),
+            (pathlib.Path(folder, "table"), gone, None),
+        ]:
+            begun = time.monotonic()
+            rows = _files.Table([], argparse.Namespace(csv=str(table), json=None), io.StringIO())
+            _command_certify._stop(rows, 3, _waiting.Lines(stream))
+            equal(f"how soon it ends with {table}", time.monotonic() - begun < 5, True)
+            if table == pipe:
+                read = subprocess.run(["timeout", "20", "cat", pipe], capture_output=True, check=False).stdout
+                equal("what is read later", read.split(b",")[:2], [b"file", b"block"])
+            equal(f"what is said with {table}", wanted is None or wanted in said.getvalue(), True)
+        screen = Stream(True)
+        lines = _waiting.Lines(screen)
+        lines("far")
+        with mock.patch.object(rows, "write", lambda: screen.write("the table\n")):
+            _command_certify._stop(rows, 0, lines)
+        equal("a table on a terminal", shown(screen.getvalue()), ["the table", "stopped: 0 of 0 blocks are done", ""])
+        stop_at_lines(rows)
+
+
+def stop_at_lines(rows):
+    """Nothing waits for a line that is being written, and a terminal that is gone is passed over."""
+    screen = Stream(True)
+    lines = _waiting.Lines(screen)
+    writing = threading.Thread(target=lines, args=("meanwhile",), daemon=True)
+    begun = time.monotonic()
+    with lines.taken_back():
+        writing.start()
+        writing.join(20)
+        equal("a search meanwhile", (writing.is_alive(), screen.getvalue()), (False, ""))
+        _command_certify._stop(rows, 3, lines)
+    equal("how soon it ends", time.monotonic() - begun < 20, True)
+    lines = _waiting.Lines(screen)
+    lines("far")
+    with mock.patch.object(screen, "write", side_effect=BrokenPipeError) as write:
+        _command_certify._stop(rows, 3, lines)
+        lines.close()
+    equal("that a line was to be taken back", write.called, True)
+
+
 def go_on(file, out, wide):
-    """A run with the words of a wide beam goes on with the last of four blocks, and ends soon after a limit of time."""
+    """A run with the words of a wide beam goes on with the first of four blocks, and ends soon after its limit."""
     words = [sys.executable, "-m", "flowshop", "certify", file, "--out", out, "--time-limit", "0.5", *wide]
     words += ["--executor", "processes", "--workers", "2"]
     with subprocess.Popen(words, stdout=subprocess.PIPE, stderr=subprocess.DEVNULL) as run:
@@ -530,7 +771,8 @@ def go_on(file, out, wide):
         begun = time.monotonic()
         run.wait(60)
     equal("how soon it ends after its last line", time.monotonic() - begun < 4, True)
-    equal("a run that goes on", seconds[:4], [b"seconds", *[b"-"] * 3])
+    equal("a run that goes on", [b"." in number for number in seconds], [False, True, False, False, False])
+    equal("what was done before", seconds[2:], [b"-"] * 3)
     equal("what it ends with", (run.returncode, command("check", file, "--out", out).returncode), (0, 0))
 
 
@@ -560,18 +802,26 @@ def kill_command():
 
 
 def end_writing():
-    """A file that is being written when the command is interrupted is there as a whole."""
+    """A file that is being written when the command is interrupted is there as a whole, also where it is interrupted
+    again. The signal ends the process, but where it is masked."""
     code = (
-        "import os, pathlib, threading, time\nfrom flowshop import _files, __main__ as command\n"
-        "real = os.fsync\nos.fsync = lambda file: (time.sleep(0.3), real(file))\n"
+        "import os, pathlib, signal, sys, threading, time\nfrom flowshop import _files, __main__ as command\n"
+        "signal.pthread_sigmask(signal.SIG_BLOCK, {signal.SIGINT} if sys.argv[1:] else set())\n"
+        "real, real_end = os.fsync, command.end_writing\n"
+        "begun = threading.Event()\n"
+        "os.fsync = lambda file: (begun.set(), time.sleep(0.3), real(file))\n"
         "words = pathlib.Path('certificate'), b'a text'\n"
         "threading.Thread(target=_files.save, args=words, daemon=True).start()\n"
-        "time.sleep(0.1)\ncommand.end(130)"
+        "begun.wait(20)\n"
+        "command.end_writing = lambda seconds: (os.kill(os.getpid(), signal.SIGINT), real_end(seconds))\n"
+        "command.end(130)"
     )
-    with tempfile.TemporaryDirectory() as folder:
-        run = subprocess.run([sys.executable, "-c", code], cwd=folder, capture_output=True, timeout=60, check=False)
-        equal("the end of an interrupted command", (run.returncode, run.stderr), (130, b""))
-        equal("what is written", os.listdir(folder), ["certificate"])
+    for words, status in (([], -signal.SIGINT), (["masked"], 130)):
+        with tempfile.TemporaryDirectory() as folder:
+            run = [sys.executable, "-c", code, *words]
+            run = subprocess.run(run, cwd=folder, capture_output=True, timeout=60, check=False)
+            equal(f"the end of an interrupted command {words}", (run.returncode, run.stderr), (status, b""))
+            equal("what is written", os.listdir(folder), ["certificate"])
 
 
 def use_page():
@@ -673,8 +923,12 @@ def use_local():
     stop_threads()
     use_eight_threads()
     use_command()
+    keep_links_and_pipes()
+    keep_streams()
     refuse_words()
+    use_terminal()
     stop_command()
+    stop_at_pipes()
     kill_command()
     end_writing()
     use_page()

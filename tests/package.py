@@ -2,10 +2,13 @@
 sentence."""
 
 import array
+import codecs
+import contextlib
 import copy
 import ctypes
 import doctest
 import inspect
+import io
 import json
 import mmap
 import os
@@ -22,6 +25,7 @@ from counts import end, equal, refused
 
 import flowshop
 from flowshop import Certificate, FlowshopError, Operation, Shop, _library, _options, _parts, _texts
+from flowshop import __main__ as command
 
 try:
     import numpy
@@ -232,6 +236,17 @@ def use_names():
         for table in (ROWS, Frame(ROWS, "abc", "def")):
             got = refused(lambda table=table, names=names: Shop.from_jobs(table, machine_names=names))
             equal(counted, got, wanted)
+    for kind, names, said in (
+        ("job", {"Bed"}, "{'Bed'}"),
+        ("machine", {"Cut"}, "{'Cut'}"),
+        ("job", frozenset(["Bed"]), "frozenset({'Bed'})"),
+        ("machine", {1: "Cut"}, "{1: 'Cut'}"),
+        ("job", 5, "5"),
+        ("machine", True, "True"),
+    ):
+        got = refused(lambda kind=kind, names=names: Shop.from_jobs(ROWS, **{f"{kind}_names": names}))
+        wanted = "NotAShop", "COUNT", 0, f"the names of {kind}s are a list, and this is {said}"
+        equal(f"names that are {said}", got, wanted)
 
 
 def use_arrays():
@@ -406,7 +421,7 @@ def use_labels():
     """Names and unit in the label lines of a block, in the form of docs/formats.md, and in others."""
     lines = ["jobs\tShelf\tDoor", "2 1 0 0 0", "machines, times in 1/4, decimal comma, separator tab\tCut, saw", "5 7"]
     wanted = ("Shelf", "Door"), ("Cut, saw",), 4
-    none = (1, 2), (1,), 1
+    no_jobs, plain = ((1, 2), *wanted[1:]), ((1, 2), (1,), 1)
     with tempfile.TemporaryDirectory() as folder:
         path = pathlib.Path(folder, "shop.txt")
         for at, old, new, names in [
@@ -416,18 +431,10 @@ def use_labels():
             (0, "Shelf\tDoor", "2\t1", (("2", "1"), *wanted[1:])),
             (2, "Cut, saw", "1", (wanted[0], (1,), 4)),
             (2, "1/4", "1/1000000", (*wanted[:2], 1_000_000)),
-            (0, "\tDoor", "", none),
-            (0, "Door", "Door\tBed", none),
-            (0, "Door", "", none),
-            (0, "jobs", "Jobs", none),
-            (0, "jobs", " jobs", none),
-            (2, "\tCut, saw", "", none),
-            (2, "Cut, saw", "Cut\tsaw", none),
-            (2, "1/4", "1/3", none),
-            (2, "1/4", "1/04", none),
-            (2, "1/4", "1/2000000", none),
-            (2, "comma,", "point comma,", none),
-            (2, "separator tab", "separator |", none),
+            (0, "jobs", "Jobs", no_jobs),
+            (0, "jobs", " jobs", no_jobs),
+            (0, "jobs\tShelf\tDoor", "jobs", no_jobs),
+            (0, "jobs\tShelf\tDoor", "jobs of plant A", no_jobs),
         ]:
             text = [line.replace(old, new, 1) if at == number else line for number, line in enumerate(lines)]
             for encoding, end_of_line in (("utf-8", "\n"), ("cp1252", "\r\n")):
@@ -437,6 +444,21 @@ def use_labels():
                 shop.write(path)
                 equal("a shop that is written and read", [block.shop for block in Shop.read(path)], [shop])
                 equal("the scale of a copy", pickle.loads(pickle.dumps(shop)).scale, names[2])
+        for first, second in [
+            ("words", "words"),
+            ("jobs", "times :"),
+            ("jobs\tShelf", "times :"),
+            ("jobs\tShelf\t", "times :"),
+            ("Jobs\tShelf\tDoor", "times :"),
+            ("times :", "machines"),
+            ("\ufeffnumber of jobs", "Machines, times in 1/4, decimal comma, separator tab\tCut"),
+        ]:
+            path.write_text(f"{first}\n2 1 0 0 0\n{second}\n5 7\n", encoding="utf-8")
+            (shop,) = (block.shop for block in Shop.read(path))
+            equal(f"the words {first!r}", (shop.job_names, shop.machine_names, shop.scale), plain)
+        path.write_bytes(codecs.BOM_UTF8 + "\r\n".join(lines).encode())
+        (shop,) = (block.shop for block in Shop.read(path))
+        equal("a byte order mark", (shop.job_names, shop.machine_names, shop.scale), wanted)
         path.write_bytes("\n".join([*lines, "jobs\tBed", "1 1 0 0 0", lines[2].replace("/4", "/2"), "3"]).encode())
         shops = [block.shop for block in Shop.read(path)]
         equal("the names of two blocks", [shop.job_names for shop in shops], [("Shelf", "Door"), ("Bed",)])
@@ -457,24 +479,93 @@ def use_labels():
         equal("that the file is as it was", Shop.read(path)[0].shop.jobs, 2)
 
 
+def refuse_labels():
+    """Label lines that have names or the unit in part, in the first block of a file and in the second, with the line of
+    the file. The commands refuse them too."""
+    jobs, unit = "jobs\tShelf\tDoor", "machines, times in 1/4, decimal comma, separator semicolon"
+    of_jobs, of_machines = "; write a tab and a name for each job", "; write a tab and a name for each machine"
+    words = ", or other words in this line"
+    as_here = f"and has to begin as '{unit}', with a tab before the name of each"
+    divide = "and this number has to divide 1,000,000, as 1, 4 or 10"
+    unknown = "has names of jobs, and the unit of the times is not known; write it here, as docs/formats.md says, or"
+    for first, second, line, sentence in [  # of the longest the first words
+        ("jobs\tShelf", f"{unit}\tCut", 1, f"has 1 name, and the block has 2 jobs{of_jobs}{words}"),
+        (f"{jobs}\tBed", f"{unit}\tCut", 1, f"has 3 names, and the block has 2 jobs{of_jobs}{words}"),
+        ("jobs\tShelf\t", f"{unit}\tCut", 1, f"has an empty name of job 2{of_jobs}{words}"),
+        ("jobs\t\tDoor", f"{unit}\tCut", 1, f"has an empty name of job 1{of_jobs}{words}"),
+        (jobs, unit, 3, f"has 0 names, and the block has 1 machine{of_machines}"),
+        ("jobs of plant A", f"{unit}\tCut\tSaw", 3, f"has 2 names, and the block has 1 machine{of_machines}"),
+        ("words", f"{unit}\t", 3, f"has an empty name of machine 1{of_machines}"),
+        (jobs, f"{unit.replace('4', '3')}\tCut", 3, f"has times in 1/3, {divide}"),
+        ("words", f"{unit.replace('4', '2000000')}\tCut", 3, f"has times in 1/2000000, {divide}"),
+        *[(begin, f"{wrong}\tCut", 3, f"is '{wrong}\\tCut', {as_here} machine")
+          for begin in (jobs, "words")
+          for wrong in (unit.replace("4", "04"), unit.replace("4", "10000000"), unit.replace("comma", "point comma"),
+                        unit.replace("semicolon", "|"), f" {unit}", f"{unit} ", "machines, times in minutes")],
+        ("words", f"\t{unit}\tCut", 3, f"is '\\t{unit}\\tCut', {as_here} machine"),
+        (jobs, "words", 3, f"is 'words': line 1 {unknown} other words in line 1"),
+        (jobs, "Machines, times\tCut", 3, f"is 'Machines, times\\tCut': line 1 {unknown} other words in line 1"),
+        (f"\ufeff{jobs}", "words", 3, f"is 'words': line 1 {unknown} other words in line 1"),
+    ]:
+        for before, more in [("", 0), ("a\n\n1 1 0 0 0\n\n b\n9\n \n", 7)]:
+            if more and first.startswith("\ufeff"):
+                continue
+            said = re.sub(r"\bline (\d)", lambda found, more=more: f"line {int(found[1]) + more}", sentence)
+            refuse_label(f"{before}{first}\n2 1 0 0 0\n{second}\n5 7\n", line + more, said)
+
+
+def refuse_label(text, line, said):
+    """A file with this text is refused with this line and this sentence, by the call and by the commands."""
+    with tempfile.TemporaryDirectory() as folder:
+        path = os.path.join(folder, "shop.txt")
+        pathlib.Path(path).write_text(text, encoding="utf-8")
+        sentence = f"line {line} of {path} {said}"
+        equal(f"the labels of {text!r}", refused(lambda: Shop.read(path)), ("TextError", "LABEL", line, sentence))
+        for name, out in [("certify", folder), ("check", folder), ("report", os.path.join(folder, "report.html"))]:
+            with contextlib.redirect_stderr(io.StringIO()) as errors, contextlib.redirect_stdout(io.StringIO()):
+                status = command.main([name, path, "--out", out])
+            equal(f"{name} of {text!r}", (status, errors.getvalue()), (1, f"flowshop: {sentence}\n"))
+
+
 def refuse_files():
-    """The first fault of a benchmark text, with its line."""
-    wanted = {
-        b"": ("NO_BLOCK", 0, " has no block: it is empty, or has blanks alone"),
-        b"1 2\n": ("LABEL", 1, "line 1 of * is '1 2': a line of words is wanted before the head of a block, and"),
-        b"a\n1;2\n": ("BYTE", 2, "line 2 of * is '1;2': a line of numbers has something that is neither a digit nor a"),
-        b"a\n4294967296": ("NUMBER", 2, "line 2 of * is '4294967296': a number is above 4,294,967,295"),
-        b"a\nb\n": ("HEAD", 2, "line 2 of * is 'b': the head of a block is five numbers: jobs, machines"),
-        b"a\n0 1 0 0 0\n": ("LIMITS", 2, "line 2 of * is '0 1 0 0 0': the jobs have to be 1 to 800, the"),
-        b"a\n2 1 0 0 0\nb\n7": ("TIMES", 5, "line 5 of * is missing: there has to be one time for each job"),
-    }
+    """The first fault of a benchmark text, with its line, and what to do. Certificates are no benchmark texts."""
+    words = "a line of words is wanted before the head of a block, and before its times"
+    head = "the head of a block is five numbers: jobs, machines, seed, upper bound and lower bound"
+    limits = "the jobs have to be 1 to 800, the machines 1 to 26, and each time 0 to 999,999"
+    byte = "a line of numbers has something that is neither a digit nor a blank"
+    number = "a number is above 4,294,967,295"
+    times, row = "there has to be one time for each job and machine", "a row before is short or missing"
+    tables = "examples/from_csv.awk makes such a file of a table, and examples/from_pairs.awk of pairs of machine and "
+    tables += "time"
+    other = "this text begins as a certificate does, and the file of the shop is wanted here"
     with tempfile.TemporaryDirectory() as folder:
         path = os.path.join(folder, "text")
-        for text, (name, line, sentence) in wanted.items():
+        for text, name, line, sentence in [
+            (b"", "NO_BLOCK", 0, "* has no block: it is empty, or has blanks alone"),
+            (b" \n\n", "NO_BLOCK", 0, "* has no block: it is empty, or has blanks alone"),
+            (b"1 2\n", "LABEL", 1, f"line 1 of * is '1 2': {words}; {tables}"),
+            (b"a\n1;2\n", "BYTE", 2, f"line 2 of * is '1;2': {byte}; {tables}"),
+            (b"a\n4294967296", "NUMBER", 2, f"line 2 of * is '4294967296': {number}; {tables}"),
+            (b"a\nb\n", "HEAD", 2, f"line 2 of * is 'b': {head}; {tables}"),
+            (b"a\n0 1 0 0 0\n", "LIMITS", 2, f"line 2 of * is '0 1 0 0 0': {limits}; {tables}"),
+            (b"a\n1 1 0 0 0\nb\n7 8\n", "TIMES", 4, f"line 4 of * is '7 8': {times}; {tables}"),
+            (b"a\n", "HEAD", 2, f"* ends after line 1: {head}; {tables}"),
+            (b"a\n2 1 0 0 0\n\n", "LABEL", 4, f"* ends after line 3: {words}; {tables}"),
+            (b"a\n2 1 0 0 0\nb\n7", "TIMES", 5, f"* ends after line 4: {times}; {row}"),
+            (b"a\n3 2 0 0 0\nb\n1 2 3\n4 5\n", "TIMES", 6, f"* ends after line 5: {times}; {row}"),
+            (b"a\n3 2 0 0 0\nb\n1 2 3\n4 5\n\n", "TIMES", 7, f"* ends after line 6: {times}; {row}"),
+            (b"a\n3 2 0 0 0\nb\n1 2 3\n c\n1 1 0 0 0\nd\n5\n", "TIMES", 5, f"line 5 of * is ' c': {times}; {row}"),
+            (b"flowshop instances\n5 x\n", "BYTE", 2, f"line 2 of * is '5 x': {byte}; {tables}"),
+            (LEAST, "HEAD", 4, f"line 4 of * is '3 1 2': {head}; {other}"),
+            (TREE, "HEAD", 4, f"line 4 of * is '3 1 2': {head}; {other}"),
+            (b"flowshop two-ended 1\n1 1\n5 5\n1\n\nend\n", "TIMES", 7, f"* ends after line 6: {times}; {other}"),
+        ]:
             pathlib.Path(path).write_bytes(text)
-            got = refused(lambda: Shop.read(path))
-            equal(f"the fault {name}", got[:3], ("TextError", name, line))
-            equal(f"what is said of {name}", sentence in got[3].replace(path, "*"), True)
+            for given in (path, pathlib.Path(path)):
+                got = refused(lambda given=given: Shop.read(given))
+                equal(f"the fault {name}", got, ("TextError", name, line, sentence.replace("*", path)))
+        pathlib.Path(path).write_bytes(b"flowshop of a text book\n1 1 0 0 0\nb\n7\n")
+        equal("a label that begins as a certificate", Shop.read(path)[0].shop.times, [[7]])
 
 
 def refuse_tables():
@@ -501,6 +592,9 @@ def refuse_tables():
         (Shop.from_jobs, ["12"], "COUNT", (1, 1), "row 1 is '12', and has to be a list of times"),
         (Shop.from_jobs, 5, "COUNT", 0, "a table has a list for each row, and this is 5"),
         (Shop.from_jobs, "a.csv", "COUNT", 0, "a table has a list for each row, and this is 'a.csv'"),
+        (Shop.from_jobs, [{1: 5, 2: 6}], "COUNT", (1, 1), "row 1 is {1: 5, 2: 6}, and has to be a list of times"),
+        (Shop.from_machines, [[1, 2], {3, 4}], "COUNT", (2, 1), "row 2 is {3, 4}, and has to be a list of times"),
+        (Shop.from_jobs, {1: [5]}, "COUNT", 0, "a table has a list for each row, and this is {1: [5]}"),
         (Shop.from_jobs, [[1, 2], [3, 4], [1_000_000, 5]], "TIME", (3, 1), f"is 1,000,000, {limit}"),
         (Shop.from_machines, [[1, 2], [3, 1_000_000]], "TIME", (2, 2), f"is 1,000,000, {limit}"),
         (Shop.from_jobs, [[1, -1]], "TIME", (1, 2), f"is -1, {limit}"),
@@ -533,6 +627,9 @@ def refuse_sequences():
         (["Door"], "JOB", 1, "place 1 of the sequence is 'Door', and has to be a job number from 1 to 3"),
         (5, "JOB", 0, "a sequence is a list of job numbers, and this is 5"),
         ("123", "JOB", 0, "a sequence is a list of job numbers, and this is '123'"),
+        ({1: 3, 2: 2, 3: 1}, "JOB", 0, "a sequence is a list of job numbers, and this is {1: 3, 2: 2, 3: 1}"),
+        ({1, 2, 3}, "JOB", 0, "a sequence is a list of job numbers, and this is {1, 2, 3}"),
+        (frozenset([1, 2, 3]), "JOB", 0, "a sequence is a list of job numbers, and this is frozenset({1, 2, 3})"),
         (b"\1\2\3", "JOB", 0, "a sequence is a list of job numbers, and this is b'\\x01\\x02\\x03'"),
     ]:
         for call in (SHOP.makespan, SHOP.schedule, SHOP.gantt, SHOP.improve, SHOP.solve, SHOP.certify):
@@ -542,6 +639,9 @@ def refuse_sequences():
         got = refused(lambda jobs=jobs: SHOP.makespans([[1, 2, 3], jobs]))
         equal(f"many with {jobs!r}", got[:3], ("NotASequence", name, (2, place)))
         equal(f"what is said of many with {jobs!r}", got[3][: len(sentence) + 12], f"sequence 2: {sentence}")
+    for many, said in ((5, "5"), ({(1, 2, 3)}, "{(1, 2, 3)}"), ({"a": [1, 2, 3]}, "{'a': [1, 2, 3]}")):
+        wanted = "NotASequence", "JOB", 0, f"many sequences are a list of lists of job numbers, and this is {said}"
+        equal(f"many that are {said}", refused(lambda many=many: SHOP.makespans(many)), wanted)
 
 
 def refuse_texts():
@@ -610,6 +710,14 @@ def refuse_options():
                 got = refused(lambda: call(**{**sizes, name: value}))
                 sentence = f"{name} is {shown}, and has to be a whole number from {least:,} to {most:,}"
                 equal(f"{name} as {value!r}", got, ("OptionError", name.upper(), 0, sentence))
+    equal("a search that tells nothing", SHOP.certify(progress=False), SHOP.certify())
+    executor = "that of an executor, or of a pool, such as pool.map, or None"
+    told = "True, or a function that takes a Progress, or None"
+    rows = ("map", 5, executor), ("map", True, executor), ("progress", 1, told), ("progress", "yes", told)
+    for name, value, wanted in rows:
+        got = refused(lambda name=name, value=value: SHOP.certify(**{name: value}))
+        sentence = f"{name} is {value!r}, and has to be {wanted}"
+        equal(f"{name} as {value!r}", got, ("OptionError", name.upper(), 0, sentence))
     one, hundred = Shop.from_jobs([[5]]), Shop.from_jobs([[5]] * 100)
     wanted = "OptionError", "PLAN_DEPTH", 0, "depth is 2, and the shop has 1 job"
     equal("a great depth", refused(lambda: one.solve(depth=2)), wanted)
@@ -747,6 +855,7 @@ def main():
     draw_timetables()
     use_files()
     use_labels()
+    refuse_labels()
     refuse_files()
     refuse_tables()
     refuse_sequences()

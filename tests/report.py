@@ -286,10 +286,12 @@ def show_times():
         ({"start": "07:30"}, "UNIT", "start needs unit: how long one unit of the table is, as 15min"),
         ({"unit": "1min"}, "START", "unit needs start: the time of day when the first job starts, as 07:30"),
         *[({"start": start, "unit": "1h"}, "START", f"start is {start!r}, and has to be a time of day, as 07:30")
-          for start in ("", "7", "24:00", "7:60", "07:30:00", "7.30", "-1:00", "١:٠٠")],
+          for start in ("", "7", "24:00", "7:60", "07:30:00", "7.30", "-1:00", "١:٠٠", 7, 0, b"07:30",
+                        datetime.time(7, 30))],
         *[({"start": "7:30", "unit": unit}, "UNIT",
            f"unit is {unit!r}, and has to be how long one unit of the table is, as 15min, 1h or 30s")
-          for unit in ("", "15", "min", "0min", "0.0h", "-1h", "1d", "1e3s", "1h30min", "1.h")],
+          for unit in ("", "15", "min", "0min", "0.0h", "-1h", "1d", "1e3s", "1h30min", "1.h", 60, 0, 0.5, b"1h",
+                       datetime.timedelta(0, 900))],
     ]:
         got = refused(lambda words=words: SHOP.report([1, 2, 3], **words))
         equal(f"a report with {words}", got, ("OptionError", name, 0, sentence))
@@ -313,10 +315,10 @@ def show_names():
     equal("two jobs of one name", [item.text() for item in root.all("li")], ["Door", "Bed (job 1)", "Bed (job 3)"])
     equal("their sheet", [row[1] for row in sheets_of(root)[2][2]], ["Bed (job 1)", "Bed (job 3)"])
     # Label lines with the names of another shop.
-    for job_names, machine_names in [(["Bed"], None), (None, ["Cut", "Weld"]), ("abcd", "Cut")]:
-        root = read(shop_of(ROWS, 1, "point", job_names, machine_names).report([2, 1, 3]))
-        equal("names of another shop", [item.text() for item in root.all("li")], ["Job 2", "Job 1", "Job 3"])
-        equal("its machines", [name for name, _, _ in sheets_of(root)], ["Machine 1", "Machine 2", "Machine 3"])
+    for job_names, machine_names, line in [(["Bed"], None, 1), (None, ["Cut", "Weld"], 3), ("abcd", "Cut", 1)]:
+        got = refused(lambda names=(job_names, machine_names): shop_of(ROWS, 1, "point", *names))
+        got = isinstance(got, tuple) and got[:3]
+        equal(f"names of another shop {job_names} {machine_names}", got, ("TextError", "LABEL", line))
     equal("a title of its own", next(root.all("h1")).text(), "Schedule of 3 jobs on 3 machines")
 
 
@@ -519,6 +521,31 @@ def keep_reports():
         equal("one that is not", refused(lambda: report.save(folder)), IsADirectoryError)
 
 
+def name_files():
+    """Names of files for pictures and reports: those with the suffix of another format are refused, and nothing is
+    written; all others are taken."""
+    taken = ["schedule", "a.b", "a.txt", "png", "a.png.b", "a.pdf "]
+    for kind, page, written, suffixes, names in [
+        ("picture", SHOP.gantt([2, 1, 3]), "SVG: give it the suffix .svg", "png jpg jpeg gif webp pdf html htm",
+         ["a.svg", "a.SVG", "a.docx", "c.pdf/a"]),
+        ("report", SHOP.report([2, 1, 3]), "HTML: give it the suffix .html", "pdf png jpg jpeg svg docx xlsx",
+         ["a.html", "a.htm", "a.gif", "c.pdf/a"]),
+    ]:
+        with tempfile.TemporaryDirectory() as folder:
+            os.mkdir(os.path.join(folder, "c.pdf"))
+            for suffix in suffixes.split():
+                for name in (f"a.{suffix}", f"a b.{suffix.upper()}", f"a.svg.html.{suffix.title()}"):
+                    sentence = f"the file is {name!r}, and a {kind} is written as {written}"
+                    for path in (os.path.join(folder, name), pathlib.Path(folder, name)):
+                        got = refused(lambda page=page, path=path: page.save(path))
+                        equal(f"a {kind} as {name}", got, ("OptionError", "PATH", 0, sentence))
+            equal(f"that no {kind} is written", os.listdir(folder), ["c.pdf"])
+            for name in taken + names:
+                path = pathlib.Path(folder, name)
+                equal(f"a {kind} as {name}", refused(lambda page=page, path=path: page.save(path)), None)
+                equal(f"that {name} is written", path.exists() and path.read_text(encoding="utf-8"), page)
+
+
 def run(*words, out=subprocess.PIPE):
     """Runs the command, and gives its status, and what it wrote; nothing of what it wrote to an `out` of its own."""
     command = [sys.executable, "-m", "flowshop", "report", *words]
@@ -539,6 +566,15 @@ FILES = {
     "other": "sequence 1 2 3\n12\n",
     "table.csv": "Job;Cut\nA;1\n",
     "pairs": "1 2\n0 5 1 7\n",
+    "plant": "jobs of plant A\n2 1 0 0 0\nmachines, times in 1/4, decimal comma, separator tab\tCut\n43 43\n",
+    "both": "sequence 1 2\nmakespan 86\n",
+    "numbers": "\n 3 1\t2 \n",
+    "many_numbers": f"{' '.join(map(str, range(1, 100)))}\n",
+    "commas": "3, 1, 2\n",
+    "colon": "sequence: 3 1 2\n",
+    "blank": " \n\n",
+    "empty": "",
+    "old": " flowshop two-ended 1\n",
 }
 
 
@@ -546,11 +582,14 @@ def write_by_the_command():
     """What the command `report` writes: what the call gives, of the file that is named, and of no other block."""
     one, clock = Shop.from_jobs([[5]]), {"start": "07:30", "unit": "15min"}
     least, title = SHOP.check(LEAST), {"title": "Schedule of shop.txt"}
+    plant = shop_of([[43], [43]], 4, "comma", None, ["Cut"]).report([1, 2], title="Schedule of plant")
+    equal("a unit with other words for the names of jobs", "No order finishes earlier than 21,5:" in plant, True)
     for words, report in [
         (["shop.txt", "1", "least"], SHOP.report(least, **title)),
         (["shop.txt", "bounds"], SHOP.report(SHOP.check(BOUNDS), **title)),
         (["shop.txt", "1", "best"], SHOP.report([3, 1, 2], **title)),
         (["shop.txt", "spaced", "--title", STRANGE], SHOP.report([3, 1, 2], title=STRANGE)),
+        (["plant", "both"], plant),
         (["shop.txt"], SHOP.report(SHOP.certify(width=1, work=1), **title)),
         (["two.txt", "1", "least"], SHOP.report(least, title="Schedule of two.txt")),
         (["two.txt", "2"], one.report(one.certify(work=1), title="Schedule of two.txt, block 2")),
@@ -565,14 +604,18 @@ def write_by_the_command():
 def refuse_by_the_command():
     """Each way in which the command is refused, with its status and its line on standard error."""
     blocks = "two.txt has 2 blocks: write the number of one behind it"
-    head = "line 2 of table.csv is 'A;1': the head of a block is five numbers: jobs, machines, seed, upper bound and"
+    head = "the head of a block is five numbers: jobs, machines, seed, upper bound and lower bound"
+    orders, give = "that of a certificate, such as 'flowshop two-ended 1', or the line", "give the report another name"
+    html = "and a report is written as HTML: give it the suffix .html"
     converters = "examples/from_csv.awk makes such a file of a table, and examples/from_pairs.awk of pairs of machine "
     converters += "and time"
+    os.symlink("shop.txt", "linked")
+    shop = pathlib.Path("shop.txt").read_text(encoding="utf-8")
     for words, status, said in [
         ("nothing", 3, "[Errno 2] No such file or directory: 'nothing'"),
         ("shop.txt 1 nothing", 3, "[Errno 2] No such file or directory: 'nothing'"),
         ("shop.txt 1 least --out nothing/a.html", 3, "[Errno 2] No such file or directory: 'nothing/a.html'"),
-        ("table.csv", 1, f"{head} lower bound; {converters}"),
+        ("table.csv", 1, f"line 2 of table.csv is 'A;1': {head}; {converters}"),
         ("pairs", 1, f"line 1 of pairs is '1 2': a line of words is wanted before the head of a block, and before its "
          f"times; {converters}"),
         ("two.txt", 2, blocks),
@@ -587,11 +630,33 @@ def refuse_by_the_command():
          "wrong: line 1 is 'sequence 1 x 3', and has to be the word sequence and the numbers of the jobs"),
         ("shop.txt 1 other", 1, "other: line 2 is '12', and has to be the word makespan and a number"),
         ("shop.txt 1 short", 1, "short: the sequence has 2 jobs, and the shop has 3; each job stands in it once"),
-        ("shop.txt 1 table.csv", 1,
-         "table.csv: line 1 is 'Job;Cut', and names no certificate, such as 'flowshop two-ended 1'"),
+        ("shop.txt 1 table.csv", 1, f"table.csv: line 1 is 'Job;Cut', and has to be {orders} 'sequence 3 1 2 ..'"),
+        ("shop.txt 1 numbers", 1, f"numbers: line 2 is ' 3 1\\t2 ', and has to be {orders} 'sequence 3 1 2'"),
+        ("shop.txt 1 many_numbers", 1, "many_numbers: line 1 is '1 2 3 4 5 6 7 8 9 10 11 12 13 14 15...', and has to "
+         f"be {orders} 'sequence 1 2 3 4 5 6 7 8 9 10 11 12...'"),
+        ("shop.txt 1 commas", 1, f"commas: line 1 is '3, 1, 2', and has to be {orders} 'sequence 3 1 2 ..'"),
+        ("shop.txt 1 colon", 1, f"colon: line 1 is 'sequence: 3 1 2', and has to be {orders} 'sequence 3 1 2 ..'"),
+        ("shop.txt 1 blank", 1, f"blank: line 1 is ' ', and has to be {orders} 'sequence 3 1 2 ..'"),
+        ("shop.txt 1 empty", 1, f"empty: line 1 is '', and has to be {orders} 'sequence 3 1 2 ..'"),
+        ("shop.txt 1 old", 1,
+         "old: line 1 is ' flowshop two-ended 1', and names no certificate, such as 'flowshop two-ended 1'"),
+        ("least 1 shop.txt", 1, f"line 4 of least is '3 1 2': {head}; this text begins as a certificate does, and the "
+         "file of the shop is wanted here"),
+        ("nothing 1 least --out r.pdf", 2, f"the file is 'r.pdf', {html}"),
+        ("nothing --out a/R.Docx", 2, f"the file is 'R.Docx', {html}"),
+        ("shop.txt 1 least --out shop.txt", 2, f"--out shop.txt is the file of the shop: {give}"),
+        ("shop.txt 1 least --out ./shop.txt", 2, f"--out ./shop.txt is the file of the shop: {give}"),
+        ("shop.txt --out linked", 2, f"--out linked is the file of the shop: {give}"),
+        ("linked 1 least --out shop.txt", 2, f"--out shop.txt is the file of the shop: {give}"),
+        ("shop.txt 1 least --out least", 2, f"--out least is the file of the certificate or the sequence: {give}"),
+        ("shop.txt best --out ../{}/best", 2,
+         f"--out ../{{}}/best is the file of the certificate or the sequence: {give}"),
         ("shop.txt 1 least --start 7", 2, "start needs unit: how long one unit of the table is, as 15min"),
     ]:
+        words, said = (text.replace("{}", os.path.basename(os.getcwd())) for text in (words, said))
         equal(f"report {words}", run(*words.split()), (status, "", f"flowshop: {said}\n"))
+    kept = {name: pathlib.Path(name).read_text(encoding="utf-8") for name in ("shop.txt", "least", "best")}
+    equal("that the files stay", kept, {"shop.txt": shop, "least": LEAST, "best": FILES["best"]})
     equal("report alone", run()[:2], (2, ""))
     reader, terminal = os.openpty()
     said = "flowshop: a report is a page for a browser, and this is a terminal: write --out report.html\n"
@@ -706,6 +771,7 @@ def main():
     compare_drawn_shops()
     write_the_greatest()
     keep_reports()
+    name_files()
     call_the_command()
     plan_tables()
     end("reports")

@@ -3,6 +3,7 @@
 import argparse
 import multiprocessing
 import os
+import signal
 import sys
 import time
 from typing import List, Optional
@@ -10,10 +11,11 @@ from typing import List, Optional
 from . import __version__, _command_certify, _command_check, _report
 from ._errors import FlowshopError, OptionError
 from ._files import WordError, end_writing
+from ._waiting import PATIENCE
 
 _COMMANDS = (_command_certify, _command_check, _report)
-# The status at an interrupt, and how many seconds the end of the process waits at most.
-_INTERRUPTED, _PATIENCE = 130, 0.5
+# What main gives at an interrupt: the status that a shell has then.
+_INTERRUPTED = 130
 
 
 def main(words: Optional[List[str]] = None) -> int:
@@ -43,7 +45,7 @@ def main(words: Optional[List[str]] = None) -> int:
 
 def _have_ended(workers: List[multiprocessing.process.BaseProcess]) -> bool:
     """Whether processes end soon."""
-    ends = time.monotonic() + _PATIENCE
+    ends = time.monotonic() + PATIENCE
     for worker in workers:
         worker.join(max(0, ends - time.monotonic()))
     return not any(worker.is_alive() for worker in workers)
@@ -51,16 +53,22 @@ def _have_ended(workers: List[multiprocessing.process.BaseProcess]) -> bool:
 
 def end(status: int) -> None:
     """Ends the process. Nothing waits for searches that an interrupt or a limit of time leaves behind, in threads or in
-    processes; but a file that is being written is waited for."""
+    processes; but a file that is being written is waited for. After an interrupt its signal ends the process, so that a
+    shell ends its loop too; another interrupt makes no difference."""
+    if status == _INTERRUPTED:
+        signal.signal(signal.SIGINT, signal.SIG_IGN)
     sys.stdout.flush()
-    end_writing(_PATIENCE)
+    end_writing(PATIENCE)
     workers = multiprocessing.active_children()
     if status != _INTERRUPTED and _have_ended(workers):
         sys.exit(status)
     for worker in workers:
         worker.terminate()
     _have_ended(workers)
-    os._exit(status)
+    if status == _INTERRUPTED:
+        signal.signal(signal.SIGINT, signal.SIG_DFL)
+        os.kill(os.getpid(), signal.SIGINT)
+    os._exit(status)  # also where the signal is masked
 
 
 if __name__ == "__main__":

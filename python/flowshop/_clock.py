@@ -88,6 +88,11 @@ class Clock:
 Times = Union[Plain, Clock]
 
 
+def _match(form: "re.Pattern[str]", given: object) -> Optional["re.Match[str]"]:
+    """The match of a text; None where it has another form, or is no text."""
+    return form.fullmatch(given) if isinstance(given, str) else None
+
+
 def times_of(unit: Unit, start: Optional[str], length: Optional[str]) -> Times:
     """How to show times of this unit: by the clock, where it is said when they start and how long the unit of the table
     is. OptionError where one of both is missing, or has another form."""
@@ -97,7 +102,7 @@ def times_of(unit: Unit, start: Optional[str], length: Optional[str]) -> Times:
         raise OptionError("UNIT", 0, "start needs unit: how long one unit of the table is, as 15min")
     if start is None:
         raise OptionError("START", 0, "unit needs start: the time of day when the first job starts, as 07:30")
-    begun, found = _START.fullmatch(start), _UNIT.fullmatch(length)
+    begun, found = _match(_START, start), _match(_UNIT, length)
     if not begun:
         raise OptionError("START", 0, f"start is {shown(start)}, and has to be a time of day, as 07:30")
     seconds = Fraction(found[1].replace(",", ".")) * _SECONDS[found[2]] if found else Fraction(0)

@@ -6,25 +6,29 @@ import importlib
 import os
 import signal
 import sys
+import threading
 import time
 from concurrent.futures import BrokenExecutor, ProcessPoolExecutor
-from contextlib import contextmanager
-from typing import Any, Callable, Iterator, List, NamedTuple, Optional
+from contextlib import closing, contextmanager, suppress
+from typing import Any, Dict, Iterator, List, NamedTuple, Optional, Tuple
 
 from ._certify import Effort
-from ._errors import NotLawful
-from ._files import Row, Table, WordError, Work, row_of, save, words_of_blocks, works_of
-from ._options import OF_PARTS, option, time_limit_of
+from ._errors import NotLawful, OptionError
+from ._files import Row, Table, WordError, Work, place_of_old, row_of, save_certificate, words_of_blocks, works_of
+from ._options import LIMITS, OF_PARTS, option
 from ._spread import Workers
 from ._threads import Threads
-from ._waiting import Lines, Progress, Watch
+from ._waiting import Lines, Running, Watch
 
 _EFFORT = {"width": 4096, "rounds": 10_000, "seed": 1, "work": 8500, "directions": 100_000_000}
 # PR_SET_PDEATHSIG of prctl
 _SIGNAL_AT_END_OF_PARENT = 1
+# How many seconds a table may take at an interrupt.
+_PATIENCE = 2.0
 _ABOUT = """Certifies all blocks of files. Each certificate is written to a file of the folder --out, and a line says
-what it proves. A block whose certificate is there and lawful is not searched again, also where its bounds differ, so
-that a run that was stopped goes on with the blocks that are left."""
+what it proves, with seconds that are by the clock, while several blocks share the workers. A block whose certificate is
+there and lawful is not searched again, also where its bounds differ, so that a run that was stopped goes on with the
+blocks that are left."""
 
 
 def words(parsers: "argparse._SubParsersAction[argparse.ArgumentParser]") -> None:
@@ -45,13 +49,13 @@ def words(parsers: "argparse._SubParsersAction[argparse.ArgumentParser]") -> Non
 
 
 class _Search(NamedTuple):
-    """How blocks are searched: by whom, with which numbers, and who is told how far it has come."""
+    """How blocks are searched: by whom, with which numbers, and the lines that say how far it has come."""
 
     workers: Workers
     effort: Effort
     directions: int
     time_limit: Optional[float]
-    tell: Callable[[Work, Progress], None]
+    lines: Lines
 
 
 def _begin_work() -> None:
@@ -99,45 +103,111 @@ def _certified(work: Work, search: _Search) -> Row:
     try:
         kept = work.shop.check(work.path)
         if not kept.optimal:
-            print(f"{work.path}: bounds that are there; remove it, and the block is searched anew", file=sys.stderr)
+            search.lines.keep(f"{work.path}: bounds that are there; remove it, and the block is searched anew")
         return row_of(work, kept, None)
     except FileNotFoundError:
         pass
     except NotLawful as error:
-        print(f"{work.path}: {error}; the block is searched again", file=sys.stderr)
+        again = f"the block is searched again, and this text is kept as {place_of_old(work.path).name}"
+        search.lines.keep(f"{work.path}: {error}; {again}")
     begun = time.monotonic()
-    watch = Watch(search.time_limit, lambda progress: search.tell(work, progress))
+    watch = Watch(search.time_limit, lambda progress: search.lines(f"{work.file} {work.block}: {progress}"))
     found = work.shop._certify(None, search.effort, search.directions, search.workers, watch)
-    save(work.path, found.text)
+    save_certificate(work.path, found.text)
     return row_of(work, found, time.monotonic() - begun)
 
 
+@contextmanager
+def _one_interrupt() -> Iterator[None]:
+    """The first interrupt is raised, and others make no difference until a handler is set anew."""
+
+    def interrupt(*_: object) -> None:
+        signal.signal(signal.SIGINT, signal.SIG_IGN)
+        raise KeyboardInterrupt
+
+    is_main = threading.current_thread() is threading.main_thread()
+    if not is_main or signal.getsignal(signal.SIGINT) is not signal.default_int_handler:
+        yield
+        return
+    signal.signal(signal.SIGINT, interrupt)
+    try:
+        yield
+    finally:
+        if signal.getsignal(signal.SIGINT) is interrupt:
+            signal.signal(signal.SIGINT, signal.default_int_handler)
+
+
+def _say_stopped(table: Table, count: int, lines: Lines) -> None:
+    """Writes the table at an interrupt, and says how many of so many blocks are done. A stream for lines that is gone
+    is passed over."""
+    done = len(table.rows)
+    said = f"stopped: {done} of {count} blocks are done"
+    with suppress(OSError):
+        lines.close()
+    writing = Running(table.write)
+    writing.start()
+    with suppress(OSError):
+        try:
+            if not writing.wait(_PATIENCE):
+                raise TimeoutError(f"the table is not written within {_PATIENCE:g} seconds")
+            writing.result()
+        except OSError as error:
+            lines.keep(f"flowshop: {error}")
+        lines.keep(said if done == count else f"{said}; the same command goes on with the others")
+
+
+def _stop(table: Table, count: int, lines: Lines) -> None:
+    """Does so, as far as it can: what is written and nobody reads does not keep the process from ending."""
+    saying = Running(lambda: _say_stopped(table, count, lines))
+    saying.start()
+    saying.wait(2 * _PATIENCE)
+
+
 def _all_certified(works: List[Work], table: Table, search: _Search) -> None:
-    """Certifies blocks, as many at once as there are workers, and prints their rows in order."""
+    """Certifies blocks, as many at once as there are workers, prints their rows in order, and writes the table. At an
+    interrupt it has the rows of the blocks that are done, also where they are not printed yet."""
     threads = Threads(max(1, min(len(works), search.workers.size)))
     at_once = max(1, min(4, search.workers.size // max(1, len(works))))
     search = search._replace(workers=search.workers._replace(at_once=at_once))
-    for row in threads.map(lambda work: _certified(work, search), works):
-        table.add(row)
+    done: Dict[int, Row] = {}
+
+    def certify(place: int) -> None:
+        done[place] = _certified(works[place], search)
+
+    try:
+        for place, _ in enumerate(threads.map(certify, range(len(works)))):
+            with search.lines.taken_back():
+                table.add(done[place])
+        table.write()
+    except KeyboardInterrupt:
+        table.rows = [done[place] for place in sorted(done)]
+        _stop(table, len(works), search.lines)
+        signal.signal(signal.SIGINT, signal.default_int_handler)  # another one ends a wait for workers elsewhere
+        raise
     threads.close()
+
+
+def _number(name: str, value: int, limits: Dict[str, Tuple[int, int]] = LIMITS) -> int:
+    """The number of a word. WordError where it is not within its limits."""
+    try:
+        return option(name, value, limits)
+    except OptionError as error:
+        raise WordError(f"--{error}") from None
 
 
 def run(options: argparse.Namespace) -> int:
     """Runs the command."""
-    *numbers, directions = (option(name, getattr(options, name)) for name in _EFFORT)
-    count = None if options.workers is None else option("workers", options.workers, OF_PARTS)
-    limit, works = time_limit_of(options.time_limit), works_of(options)
+    *numbers, directions = (_number(name, getattr(options, name)) for name in _EFFORT)
+    count = None if options.workers is None else _number("workers", options.workers, OF_PARTS)
+    limit = options.time_limit
+    if limit is not None and not limit >= 0:
+        raise WordError(f"--time-limit is {limit:g}, and has to be a number of seconds from 0 on")
+    works = works_of(options)
     os.makedirs(options.out, exist_ok=True)
-    lines = Lines(sys.stderr)
-
-    def tell(work: Work, progress: Progress) -> None:
-        lines(f"{work.file} {work.block}: {progress}")
-
     try:
-        with _workers(options.executor, count) as workers:
+        with _one_interrupt(), _workers(options.executor, count) as workers, closing(Lines(sys.stderr)) as lines:
             table = Table(works, options, sys.stdout)
-            _all_certified(works, table, _Search(workers, Effort(*numbers), directions, limit, tell))
-            table.write()
+            _all_certified(works, table, _Search(workers, Effort(*numbers), directions, limit, lines))
     except BrokenExecutor as error:
         print(f"flowshop: a worker has ended: {error}", file=sys.stderr)
         return 1

@@ -10,9 +10,9 @@ class FlowshopError(ValueError):
     """What was refused, and why: the base of all errors of this package.
 
     `str` of it is a sentence with the value at fault and its limit. `name` is that of a status of library/flowshop.h,
-    without FLOWSHOP_, or START or UNIT of a report. `place` is where the fault is: (row, column) of a table; the place
-    in a sequence, or (number of the sequence, place) where there are many; the line of a text; which tree, counted from
-    0; else 0.
+    without FLOWSHOP_, or of a word that the library does not have, as UNIT or PATH. `place` is where the fault is:
+    (row, column) of a table; the place in a sequence, or (number of the sequence, place) where there are many; the line
+    of a text; which tree, counted from 0; else 0.
 
     >>> try:
     ...     shop.makespan([2, 4, 3])
@@ -48,13 +48,15 @@ class NotLawful(FlowshopError):
 
 class TextError(FlowshopError):
     """A file that is no benchmark text: NO_BLOCK, LABEL, BYTE, NUMBER, HEAD, LIMITS or TIMES; a name that has no place
-    in one: LABEL; or, to the command `report`, a text of a sequence: SEQUENCE or NOT_ATTAINED."""
+    in one, or label lines with names or a unit that are not whole: LABEL; or, to the command `report`, a text of a
+    sequence: SEQUENCE or NOT_ATTAINED."""
 
 
 class OptionError(FlowshopError):
     """A number that a call does not take: JOBS, MACHINES, SEED, DEPTH, BUDGET, VERSION, WIDTH, ROUNDS, WORK,
-    DIRECTIONS, UPPER, LOWER, BOUND, WORKERS or TIME_LIMIT; or PLAN_DEPTH or PLAN_PREFIXES, where the shop has no lists
-    of so many jobs, or too many; START or UNIT of a report, and to the command `report` INDEX."""
+    DIRECTIONS, UPPER, LOWER, BOUND, WORKERS or TIME_LIMIT; what is no function, as MAP or PROGRESS; PLAN_DEPTH or
+    PLAN_PREFIXES, where the shop has no lists of so many jobs, or too many; START or UNIT of a report, PATH where it or
+    a picture is saved, and to the command `report` INDEX."""
 
 
 class OverBudget(FlowshopError):

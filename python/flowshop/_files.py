@@ -2,6 +2,7 @@
 
 import argparse
 import csv
+import fcntl
 import hashlib
 import json
 import os
@@ -11,17 +12,13 @@ from dataclasses import asdict, dataclass, fields
 from pathlib import Path
 from typing import Any, List, NamedTuple, Optional, TextIO
 
-from ._errors import TextError, counted
 from ._results import Certificate
-from ._shop import Block, Shop
-
-# What to do with a file that is no benchmark text.
-_CONVERTERS = (
-    "examples/from_csv.awk makes such a file of a table, and examples/from_pairs.awk of pairs of machine and time"
-)
+from ._shop import Shop
 
 # It is held while a file is written.
 _WRITING = threading.Lock()
+# How the names of certificates end, and of texts that these replaced.
+_OF_CERTIFICATE = re.compile(r"\.certificate(\.old(\.\d+)?)?$")
 
 
 class WordError(Exception):
@@ -39,8 +36,8 @@ class Work(NamedTuple):
 
 @dataclass(frozen=True)
 class Row:
-    """What a certificate proves of a block; how many directions it has, in how many seconds it was found where that was
-    now, and the SHA-256 of its text."""
+    """What a certificate proves of a block; how many directions it has, in how many seconds by the clock it was found
+    where that was now, and the SHA-256 of its text."""
 
     file: str
     block: int
@@ -86,24 +83,41 @@ def _numbers(words: str, count: int, file: str) -> List[int]:
             raise WordError(f"--blocks is {words}, and has to be all, or numbers such as 1,3-5")
         first, last = int(found[1]), int(found[2] or found[1])
         if not 1 <= first <= last <= count:
-            raise WordError(f"--blocks has {word}, and {file} has {counted(count, 'block')}")
+            order = "; write the smaller number first" if 1 <= last < first <= count else ""
+            blocks = f"the blocks 1 to {count}" if count > 1 else "1 block"
+            raise WordError(f"--blocks has {word}, and {file} has {blocks}{order}")
         numbers += [number for number in range(first, last + 1) if number not in numbers]
     return numbers
 
 
-def blocks_of_file(path: str) -> List[Block]:
-    """All blocks of a file. TextError, which says what to do, or OSError where it is not read."""
-    try:
-        return Shop.read(path)
-    except TextError as error:
-        raise TextError(error.name, error.place, f"{error}; {_CONVERTERS}") from None
+def _refuse_to_overwrite(works: List[Work], options: argparse.Namespace) -> None:
+    """WordError where a file would be written that is read, or a table in the place of a certificate."""
+    read = {os.path.realpath(file) for file in options.files}
+    certificates = {os.path.realpath(work.path): work for work in works}
+    for path, work in certificates.items():
+        if path in read or _stream(work.path) is not None:
+            where = f"{work.path}, a file that is {'read' if path in read else 'open'}"
+            sentence = f"the certificate of block {work.block} of {work.file} would be {where}"
+            raise WordError(f"{sentence}; give --out another folder")
+    for word, table in (("--csv", options.csv), ("--json", options.json)):
+        path = os.path.realpath(table or "")
+        if table == "-":
+            raise WordError(f"{word} is -, and has to be a file; the table is printed anyway")
+        if table and (path in read or path in certificates or _OF_CERTIFICATE.search(path)):
+            what = "a file that is read" if path in read else "a file for a certificate"
+            raise WordError(f"{word} is {table}, {what}; the table has to have a file of its own")
 
 
 def works_of(options: argparse.Namespace) -> List[Work]:
-    """The blocks that the words name, in their order. TextError or OSError where a file is not read."""
+    """The blocks that the words name, in their order. TextError or OSError where a file is not read, WordError where
+    one would be overwritten, or a word is none."""
+    if os.path.exists(options.out) and not os.path.isdir(options.out):
+        raise WordError(f"--out is {options.out}, which is a file, and has to be a folder")
     works = []
     for file in options.files:
-        blocks = blocks_of_file(file)
+        if re.fullmatch("[1-9][0-9]*", file) and not Path(file).exists():
+            raise WordError(f"there is no file {file}; --blocks {file} is block {file} of the files")
+        blocks = Shop.read(file)
         for number in _numbers(options.blocks, len(blocks), file):
             path = Path(options.out, f"{Path(file).name}.{number}.certificate")
             works.append(Work(file, number, blocks[number - 1].shop, path))
@@ -111,13 +125,39 @@ def works_of(options: argparse.Namespace) -> List[Work]:
     for path in names:
         if names.count(path) > 1:
             raise WordError(f"two blocks would have the certificate {path}; give each folder a run of its own")
+    _refuse_to_overwrite(works, options)
     return works
 
 
+def _stream(path: Path) -> Optional[int]:
+    """A stream of this process that is open for writing, and whose file a path names; None where there is none, or
+    where the system does not list what is open."""
+    try:
+        named, numbers = os.stat(path), os.listdir("/proc/self/fd")
+    except OSError:
+        return None
+    for number in map(int, numbers):
+        try:
+            is_written = fcntl.fcntl(number, fcntl.F_GETFL) & os.O_ACCMODE != os.O_RDONLY
+            if is_written and os.path.samestat(named, os.fstat(number)):
+                return number
+        except OSError:  # it is open no more, as the list itself
+            continue
+    return None
+
+
 def save(path: Path, text: bytes) -> None:
-    """Writes a file that is there as a whole or not at all."""
-    new = path.with_name(f".{path.name}.{os.getpid()}.new")
+    """Writes a file that is there as a whole or not at all. A link stays, and the file that it names is written. A
+    device, a pipe and the file of a stream that is open for writing stay too, and take the bytes where they are."""
     with _WRITING:
+        number = _stream(path)
+        if number is not None or (path.exists() and not path.is_file()):
+            taken = os.open(path, os.O_WRONLY) if number is None else os.dup(number)  # a copy goes on at one place
+            with open(taken, "wb") as stream:
+                stream.write(text)
+            return
+        path = Path(os.path.realpath(path))
+        new = path.with_name(f".{path.name}.{os.getpid()}.new")
         try:
             with open(new, "wb") as file:
                 file.write(text)
@@ -126,6 +166,23 @@ def save(path: Path, text: bytes) -> None:
             os.replace(new, path)
         finally:
             new.unlink(missing_ok=True)
+
+
+def place_of_old(path: Path) -> Path:
+    """Where the text of a file is kept that is replaced: NAME.old, or the first of NAME.old.2, .. that is not there."""
+    old, number = path.with_name(f"{path.name}.old"), 1
+    while os.path.lexists(old):
+        number += 1
+        old = path.with_name(f"{path.name}.old.{number}")
+    return old
+
+
+def save_certificate(path: Path, text: bytes) -> None:
+    """Writes the file of a certificate. Another text that is there is kept beside it."""
+    there = path.read_bytes() if path.is_file() else text
+    if there != text:
+        save(place_of_old(path), there)
+    save(path, text)
 
 
 def end_writing(seconds: float) -> None:
@@ -139,7 +196,7 @@ class Table:
     def __init__(self, works: List[Work], options: argparse.Namespace, stream: TextIO) -> None:
         self._stream, self._csv, self._json = stream, options.csv, options.json
         self._width = max(len("file"), *(len(work.file) for work in works)) if works else 4
-        self._rows: List[Row] = []
+        self.rows: List[Row] = []
         self._print(_NAMES)
 
     def _print(self, cells: List[Any]) -> None:
@@ -150,13 +207,13 @@ class Table:
 
     def add(self, row: Row) -> None:
         """Takes the next row."""
-        self._rows.append(row)
+        self.rows.append(row)
         seconds = "-" if row.seconds is None else f"{row.seconds:.1f}"
         self._print([seconds if name == "seconds" else getattr(row, name) for name in _NAMES])
 
     def write(self) -> None:
         """Writes the file."""
-        rows = [asdict(row) for row in self._rows]
+        rows = [asdict(row) for row in self.rows]
         if self._json:
             save(Path(self._json), (json.dumps(rows, indent=1) + "\n").encode())
         if self._csv:

@@ -2,10 +2,10 @@
 
 import re
 from dataclasses import dataclass, field
-from typing import List, Optional, Tuple
+from typing import List, NamedTuple, Optional, Tuple
 
-from ._errors import TextError, shown
-from ._results import Names
+from ._errors import TextError, counted, shown
+from ._results import Names, Path
 
 Labels = Tuple[str, str]
 # Those of a shop that has neither names nor a unit of its own.
@@ -13,7 +13,23 @@ PLAIN: Labels = (
     "number of jobs, number of machines, initial seed, upper bound and lower bound :",
     "processing times :",
 )
+# How a second label line with a unit begins, and what stands there before the names.
+_BEGIN = "machines, times in "
 _FORM = re.compile(r"machines, times in 1/([1-9]\d{0,6}), decimal (point|comma), separator (comma|semicolon|tab)", re.A)
+_EXAMPLE = "'machines, times in 1/4, decimal comma, separator semicolon'"
+_MOST_SHOWN = 80
+
+
+class Label(NamedTuple):
+    """A label line of a file, and its number there, counted from 1."""
+
+    path: Path
+    number: int
+    text: bytes
+
+    def fault(self, why: str) -> TextError:
+        """The refusal of this line."""
+        return TextError("LABEL", self.number, f"line {self.number} of {self.path} {why}")
 
 
 @dataclass(frozen=True)
@@ -42,25 +58,49 @@ def _decoded(lines: bytes) -> str:
         return lines.decode("cp1252", "replace")
 
 
-def _names(fields: List[str]) -> Optional[Names]:
-    """The names of jobs or machines; None where each is its number."""
-    return None if fields == [str(number) for number in range(1, len(fields) + 1)] else tuple(fields)
+def _named(line: Label, names: List[str], kind: str, count: int, advice: str) -> Optional[Names]:
+    """The names in a label line; None where each is its number. TextError where there are more or fewer than there are
+    jobs or machines, or one is empty."""
+    advice = f"write a tab and a name for each {kind}{advice}"
+    if len(names) != count:
+        named = counted(len(names), "name")
+        raise line.fault(f"has {named}, and the block has {counted(count, kind)}; {advice}")
+    if not all(names):
+        raise line.fault(f"has an empty name of {kind} {names.index('') + 1}; {advice}")
+    return None if names == [str(number) for number in range(1, count + 1)] else tuple(names)
+
+
+def _unit(line: Label, form: str) -> Unit:
+    """The unit that stands in a label line before the names. TextError where it has another form."""
+    found = _FORM.fullmatch(form)
+    if not found:
+        text = _decoded(line.text).rstrip("\r")[:_MOST_SHOWN]
+        advice = f"has to begin as {_EXAMPLE}, with a tab before the name of each machine"
+        raise line.fault(f"is {text!r}, and {advice}")
+    if 1_000_000 % int(found[1]):
+        raise line.fault(f"has times in 1/{found[1]}, and this number has to divide 1,000,000, as 1, 4 or 10")
+    return Unit(int(found[1]), found[2], found[3])
 
 
 def read_labels(
-    first: bytes, second: bytes, jobs: int, machines: int
+    first: Label, second: Label, jobs: int, machines: int
 ) -> Tuple[Optional[Names], Optional[Names], Unit]:
-    """The names and the unit that the two label lines of a shop have. None, and the unit of the times, where a line has
-    another form, or not as many names as there are jobs or machines."""
-    lines = [line[:-1] if line.endswith("\r") else line for line in _decoded(first + b"\n" + second).split("\n")]
+    """The names and the unit that the two label lines of a block have. None, and the unit of the times, where they are
+    other words. TextError where they have the unit in another form, or names without it, or not as many names as there
+    are jobs or machines."""
+    lines = [line.removesuffix("\r") for line in _decoded(first.text + b"\n" + second.text).split("\n")]
     (begin, *job_names), (form, *machine_names) = (line.split("\t") for line in lines)
-    found = _FORM.fullmatch(form)
-    counts = len(job_names), len(machine_names)
-    if begin != "jobs" or counts != (jobs, machines) or not all(job_names + machine_names):
+    has_names = begin == "jobs" and job_names != []
+    if not lines[1].lstrip(" \t").startswith(_BEGIN):
+        if has_names and len(job_names) == jobs and all(job_names):
+            why = f"line {first.number} has names of jobs, and the unit of the times is not known"
+            advice = f"write it here, as docs/formats.md says, or other words in line {first.number}"
+            raise second.fault(f"is {shown(lines[1])}: {why}; {advice}")
         return None, None, Unit()
-    if not found or 1_000_000 % int(found[1]):
-        return None, None, Unit()
-    return _names(job_names), _names(machine_names), Unit(int(found[1]), found[2], found[3])
+    unit = _unit(second, form)
+    of_machines = _named(second, machine_names, "machine", machines, "")
+    of_jobs = _named(first, job_names, "job", jobs, ", or other words in this line") if has_names else None
+    return of_jobs, of_machines, unit
 
 
 def _line(begin: str, kind: str, names: Optional[Names], count: int) -> str:

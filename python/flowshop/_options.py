@@ -56,3 +56,9 @@ def time_limit_of(value: Any) -> Optional[float]:
         return seconds
     sentence = f"time_limit is {shown(value)}, and has to be a number of seconds from 0 on, or None"
     raise OptionError("TIME_LIMIT", 0, sentence)
+
+
+def function_of(name: str, value: Any, wanted: str) -> None:
+    """Refuses what is neither a function nor None. OptionError, which says what is wanted."""
+    if value is not None and not callable(value):
+        raise OptionError(name.upper(), 0, f"{name} is {shown(value)}, and has to be {wanted}")

@@ -1,12 +1,13 @@
 """The command `report`: a schedule as one file of HTML, with names, a picture, and a sheet for each machine."""
 
 import argparse
+import os
 import sys
 from typing import Optional
 
 from ._errors import NotASequence, NotLawful, OptionError, TextError, counted, shown
-from ._files import WordError, blocks_of_file
-from ._results import Certificate
+from ._files import WordError
+from ._results import Certificate, require_suffix
 from ._sequences import Jobs
 from ._shop import Shop
 from ._texts import sequence_of
@@ -40,7 +41,7 @@ def words(parsers: "argparse._SubParsersAction[argparse.ArgumentParser]") -> Non
 
 def _picked(path: str, index: Optional[str]) -> Shop:
     """The shop of a block of a file. OptionError where the index is none of the file."""
-    blocks = blocks_of_file(path)
+    blocks = Shop.read(path)
     if index is None and len(blocks) == 1:
         return blocks[0].shop
     if index is None:
@@ -67,17 +68,33 @@ def _order(shop: Shop, path: Optional[str]) -> Jobs:
         return shop.certify(work=100, directions=1_000_000)
     with open(path, "rb") as file:
         text = file.read()
-    return _sequence(shop, text) if text.split(None, 1)[:1] == [b"sequence"] else Certificate(0, 0, (), text)
+    return Certificate(0, 0, (), text) if text.split(None, 1)[:1] == [b"flowshop"] else _sequence(shop, text)
+
+
+def _are_one(path: str, other: str) -> bool:
+    """Whether two names are those of one file."""
+    return os.path.exists(path) and os.path.exists(other) and os.path.samefile(path, other)
+
+
+def _test_out(out: str, shop: str, text: Optional[str]) -> None:
+    """OptionError where the report would have the suffix of another format, WordError where it would replace a file
+    that is read."""
+    require_suffix(out, "report")
+    for path, what in ((shop, "shop"), (text, "certificate or the sequence")):
+        if path is not None and _are_one(path, out):
+            raise WordError(f"--out {out} is the file of the {what}: give the report another name")
 
 
 def run(options: argparse.Namespace) -> int:
-    """Writes the report. OptionError where a word is none, WordError where a page would come to a terminal; the other
-    errors are those of the calls."""
+    """Writes the report. OptionError where a word is none, WordError where a page would come to a terminal or replace a
+    file that is read; the other errors are those of the calls."""
     if options.out is None and sys.stdout.isatty():
         raise WordError("a report is a page for a browser, and this is a terminal: write --out report.html")
     index, text = options.index, options.text
     if index is not None and text is None and not index.isdecimal():
         index, text = None, index
+    if options.out is not None:
+        _test_out(options.out, options.shop, text)
     shop = _picked(options.shop, index)
     title = options.title or f"Schedule of {options.shop}{f', block {index}' if index not in (None, '1') else ''}"
     try:

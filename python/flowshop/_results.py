@@ -7,11 +7,25 @@ import re
 from dataclasses import dataclass, field
 from typing import Any, Dict, Hashable, Iterator, List, NamedTuple, Optional, Sequence, Tuple, Union, overload
 
-from ._errors import counted
+from ._errors import OptionError, counted, shown
 
 Names = Tuple[Hashable, ...]
 Path = Union[str, "os.PathLike[str]"]
 _MOST_SHOWN = 8
+# As what a picture and a report are written, the suffix of that, and suffixes of other formats.
+_WRITTEN = {
+    "picture": ("SVG", ".svg", "png jpg jpeg gif webp pdf html htm"),
+    "report": ("HTML", ".html", "pdf png jpg jpeg svg docx xlsx"),
+}
+
+
+def require_suffix(path: Path, kind: str) -> None:
+    """OptionError where the file for a picture or a report has the suffix of another format."""
+    form, suffix, others = _WRITTEN[kind]
+    name = os.path.basename(os.fsdecode(path))
+    if os.path.splitext(name)[1][1:].lower() in others.split():
+        sentence = f"the file is {shown(name)}, and a {kind} is written as {form}: give it the suffix {suffix}"
+        raise OptionError("PATH", 0, sentence)
 
 
 def listed(names: Sequence[Hashable], most: int = _MOST_SHOWN) -> str:
@@ -177,10 +191,12 @@ class Picture(str):
         return f"Picture({self.partition('<title>')[2].partition('</title>')[0]})"
 
     def save(self, path: Path) -> None:
-        """Writes the text to a file. OSError where that fails.
+        """Writes the text to a file. OSError where that fails, OptionError where the file has the suffix of another
+        format, as .png.
 
         >>> shop.gantt([2, 1, 3]).save("schedule.svg")
         """
+        require_suffix(path, "picture")
         with open(path, "wb") as file:
             file.write(self.encode())
 
@@ -206,10 +222,12 @@ class Report(str):
         return f"Report({html.unescape(self._title())})"
 
     def save(self, path: Path) -> None:
-        """Writes the page to a file. OSError where that fails.
+        """Writes the page to a file. OSError where that fails, OptionError where the file has the suffix of another
+        format, as .pdf.
 
         >>> shop.report([2, 1, 3]).save("schedule.html")
         """
+        require_suffix(path, "report")
         with open(path, "wb") as file:
             file.write(self.encode("utf-8", "replace"))
 

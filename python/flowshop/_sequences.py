@@ -7,16 +7,17 @@ from typing import Any, Iterable, List, Sequence, SupportsIndex, Union
 from ._errors import NotASequence, counted, shown
 from ._library import Refused
 from ._results import Certificate, Start, Timetable
-from ._tables import Array
+from ._tables import UNORDERED, Array
 
 Jobs = Union[Iterable[SupportsIndex], Array, Start, Certificate, Timetable]
 Many = Union[Iterable[Jobs], Array]
 
 
-def items_of(given: Any) -> List[Any]:
-    """The items of a list, an array or what else is given in its place. NotASequence where it has none."""
+def items_of(given: Any, wanted: str) -> List[Any]:
+    """The items of a list, an array or what else is given in its place. NotASequence, which says what is wanted, where
+    it has none in an order."""
     try:
-        if isinstance(given, (str, bytes, bytearray)):
+        if isinstance(given, (str, bytes, bytearray, *UNORDERED)):
             raise TypeError
         if isinstance(given, (Start, Certificate, Timetable)):
             return list(given.sequence)
@@ -24,12 +25,13 @@ def items_of(given: Any) -> List[Any]:
         items = items.tolist() if hasattr(items, "tolist") else items
         return items if isinstance(items, list) else list(items)
     except TypeError:
-        raise NotASequence("JOB", 0, f"a sequence is a list of job numbers, and this is {shown(given)}") from None
+        raise NotASequence("JOB", 0, f"{wanted}, and this is {shown(given)}") from None
 
 
 def packed(sequence: Any, count: int) -> bytes:
     """A sequence of a shop with so many jobs, as 16-bit numbers. NotASequence where it has something else."""
-    jobs = sequence if type(sequence) in (list, tuple) else items_of(sequence)
+    wanted = "a sequence is a list of job numbers"
+    jobs = sequence if type(sequence) in (list, tuple) else items_of(sequence, wanted)
     try:
         return array("H", jobs).tobytes()
     except (TypeError, OverflowError):

@@ -14,7 +14,7 @@ from ._found import Below, Over, Proved, numbers_of, part_of
 from ._labels import Unit, label_lines
 from ._library import BoundsRoom, EffortNumbers, Plan, ReachedRoom, Refused, ShopNumbers, SpansRoom
 from ._library import byref, call, size, u16, u32, u64
-from ._options import MOST_TREES, OF_PARTS, STATED, option, time_limit_of
+from ._options import MOST_TREES, OF_PARTS, STATED, function_of, option, time_limit_of
 from ._page import MOST_BARS, Facts, page
 from ._parts import BELOW, PROVED, Instance, Rooms, parts_of
 from ._results import Certificate, Names, Path, Picture, Report, Start, Timetable, listed, with_names
@@ -122,7 +122,8 @@ class Shop:
     def read(cls, path: Path) -> List[Block]:
         """All blocks of a benchmark text in a file, in their order. A shop has the names and the unit that the label
         lines of its block have in the form of docs/formats.md, as examples/from_csv.awk writes them. OSError where the
-        file is not read, TextError with the first fault of the text and its line.
+        file is not read, TextError with the first fault of the text and its line, or with the first label line that has
+        names or the unit, and not all of that form.
 
         >>> shop.write("shop.txt")
         >>> Shop.read("shop.txt")[0].shop == shop
@@ -264,7 +265,7 @@ class Shop:
         array('Q', [15, 13, 12])
         """
         values = array("Q")
-        for number, sequence in enumerate(items_of(sequences), 1):
+        for number, sequence in enumerate(items_of(sequences, "many sequences are a list of lists of job numbers"), 1):
             try:
                 values.append(self.makespan(sequence))
             except NotASequence as error:
@@ -536,8 +537,11 @@ class Shop:
         """
         effort = Effort(option("width", width), option("rounds", rounds), option("seed", seed), option("work", work))
         most, count = option("directions", directions), option("workers", workers, OF_PARTS)
-        limit, begun = time_limit_of(time_limit), self._begun(start)
-        at_once = min(4, count) if map is None else 4
+        limit = time_limit_of(time_limit)
+        function_of("map", map, "that of an executor, or of a pool, such as pool.map, or None")
+        if not isinstance(progress, bool):
+            function_of("progress", progress, "True, or a function that takes a Progress, or None")
+        begun, at_once = self._begun(start), min(4, count) if map is None else 4
         found = self._certify(begun, effort, most, Workers(map, count, at_once), Watch(limit, progress))
         return self._read(found) if map is None and limit is None else found
 

@@ -3,11 +3,15 @@
 from array import array
 from itertools import chain
 from operator import index, itemgetter
-from typing import Any, Hashable, Iterable, List, NamedTuple, Optional, Protocol, SupportsIndex, Tuple, Union
+from typing import Any, Hashable, Iterable, List, Mapping, NamedTuple, Optional, Protocol, SupportsIndex, Tuple, Union
 
 from ._errors import NotAShop, counted, shown
 from ._library import MOST_JOBS, MOST_MACHINES, MOST_TIME, Refused, ShopNumbers, byref, call, size, u64
 from ._results import Names
+
+
+# What gives its keys in place of its entries, or gives its entries in no order of the caller's.
+UNORDERED = (Mapping, set, frozenset)
 
 
 class Array(Protocol):
@@ -97,6 +101,15 @@ def _names_of(labels: Any) -> Optional[Names]:
     return None if names == tuple(range(len(names))) else names
 
 
+def _given_names(kind: str, names: Any) -> Optional[Names]:
+    """The names that a caller gives. NotAShop where they have no order, or are no list."""
+    if names is None:
+        return None
+    if isinstance(names, UNORDERED) or not (hasattr(names, "__iter__") or hasattr(names, "__getitem__")):
+        raise NotAShop("COUNT", 0, f"the names of {kind}s are a list, and this is {shown(names)}")
+    return tuple(names)
+
+
 def _quoted(names: Optional[Names], number: int) -> str:
     """The name of a row or a column in a sentence, where it has one."""
     return f" ({names[number - 1]})" if names and number <= len(names) else ""
@@ -166,8 +179,8 @@ def _rows_of(given: _Given) -> List[List[Any]]:
 
 
 def _list_of(items: Any) -> List[Any]:
-    """The rows of a table, or the times of a row. TypeError where they are a text, or nothing that has items."""
-    if isinstance(items, (str, bytes)):
+    """The rows of a table, or the times of a row. TypeError where they are a text, or have no items in an order."""
+    if isinstance(items, (str, bytes, *UNORDERED)):
         raise TypeError
     return list(items)
 
@@ -245,8 +258,7 @@ def read_table(
     machine_names: Optional[Iterable[Hashable]],
 ) -> Contents:
     """The shop that a table states, with a row for each job, or for each machine. NotAShop where it is none."""
-    chosen = [None if names is None else tuple(names) for names in (job_names, machine_names)]
-    given = _Given(table, has_job_rows, *chosen)
+    given = _Given(table, has_job_rows, _given_names("job", job_names), _given_names("machine", machine_names))
     rows, columns, times = _packed_array(given) or _packed_buffer(given) or _packed_rows(given)
     jobs, machines = given.turned(rows, columns)
     _test_times(given, jobs, machines, times)

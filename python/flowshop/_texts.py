@@ -5,10 +5,11 @@ import mmap
 import os
 import re
 import resource
+from codecs import BOM_UTF8
 from typing import Callable, Dict, Iterable, Iterator, List, Optional, Tuple, Union
 
 from ._errors import NotLawful, TextError, shown
-from ._labels import Labels, Unit, read_labels
+from ._labels import Label, Labels, Unit, read_labels
 from ._library import MOST_TIMES, BlockRoom, Refused, TextRoom, call, u8, u32
 from ._results import Certificate, Names, Path
 
@@ -17,6 +18,7 @@ Text = Union[bytes, bytearray, memoryview, str, "os.PathLike[str]", Certificate]
 # Memory of which no page is reserved before it is written. Older versions of Python have no name for it.
 _NO_RESERVE = getattr(mmap, "MAP_NORESERVE", 0x4000)
 _LEAST_ROOM = 1 << 16
+_CERTIFICATE = re.compile(rb"flowshop (certificate|two-ended) ")
 _LABEL_LINE = re.compile(rb"^[ \t\r]*[^ \t\r\n0-9]", re.MULTILINE)
 
 
@@ -101,6 +103,11 @@ def _line(text: bytes, number: int) -> str:
     return shown(lines[number - 1][:80].decode("utf-8", "replace")) if 1 <= number <= len(lines) else "missing"
 
 
+def _count_of_lines(text: bytes) -> int:
+    """How many lines a text has. The bytes after the last end of a line are one."""
+    return text.count(b"\n") + bool(text.rpartition(b"\n")[2])
+
+
 def not_lawful(refused: Refused, given: Text, text: bytes, jobs: int, machines: int) -> NotLawful:
     """The refusal of a text that is no certificate of a shop of these sizes."""
     only, form = _UNLAWFUL[refused.name]
@@ -115,10 +122,17 @@ def not_lawful(refused: Refused, given: Text, text: bytes, jobs: int, machines: 
 _SEQUENCE = re.compile(rb"[ \t\r]*sequence((?:[ \t\r]+[0-9]{1,20})+)[ \t\r]*")
 _MAKESPAN = re.compile(rb"[ \t\r]*makespan[ \t\r]+([0-9]{1,20})[ \t\r]*")
 _NOTHING = re.compile(rb"()")
+_NUMBERS = re.compile(rb"[ \t\r0-9]+")
 _SEQUENCE_LINES = [
     (_SEQUENCE, "the word sequence and the numbers of the jobs"),
     (_MAKESPAN, "the word makespan and a number"),
 ]
+
+
+def _first_of_orders(line: bytes) -> str:
+    """What the first line of a text has to be that is neither a certificate nor a sequence."""
+    numbers = " ".join(line.decode().split()) if _NUMBERS.fullmatch(line) else "3 1 2 .."
+    return f"that of a certificate, such as 'flowshop two-ended 1', or the line {shown(f'sequence {numbers}')}"
 
 
 def sequence_of(text: bytes) -> Tuple[List[int], Optional[int], int]:
@@ -126,16 +140,14 @@ def sequence_of(text: bytes) -> Tuple[List[int], Optional[int], int]:
     with the first line that has another form."""
     found, number = [], 0
     lines = [(number, line) for number, line in enumerate(text.split(b"\n"), 1) if line.strip(b" \t\r")]
-    for at, (number, line) in enumerate(lines):
+    for at, (number, line) in enumerate(lines or [(_count_of_lines(text) + 1, b"")]):
         form, wanted = _SEQUENCE_LINES[at] if at < 2 else (_NOTHING, "blank")
         match = form.fullmatch(line)
         if not match:
-            sentence = f"line {number} is {_line(text, number)}, and has to be {wanted}"
-            raise TextError("SEQUENCE", number, sentence)
+            if at == 0 and line.split()[:1] != [b"sequence"]:
+                wanted = _first_of_orders(line)
+            raise TextError("SEQUENCE", number, f"line {number} is {_line(text, number)}, and has to be {wanted}")
         found.append([int(word) for word in match[1].split()])
-    if not found:
-        number = text.count(b"\n") + bool(text.rpartition(b"\n")[2]) + 1
-        raise TextError("SEQUENCE", number, f"there is no line with {_SEQUENCE_LINES[0][1]}")
     return found[0], found[1][0] if len(found) == 2 else None, number
 
 
@@ -150,13 +162,24 @@ _MISREAD: Dict[str, str] = {
 }
 
 
+# What to do with a file that is none.
+_CONVERTERS = (
+    "examples/from_csv.awk makes such a file of a table, and examples/from_pairs.awk of pairs of machine and time"
+)
+
+
 def _misread(refused: Refused, path: Path, text: bytes) -> TextError:
     """The refusal of a file that is no benchmark text."""
     if refused.name not in _MISREAD:
         return TextError(refused.name, refused.place, f"{path} has no block: it is empty, or has blanks alone")
-    line = refused.place
-    sentence = f"line {line} of {path} is {_line(text, line)}: {_MISREAD[refused.name]}"
-    return TextError(refused.name, line, sentence)
+    line, is_over = refused.place, refused.place > _count_of_lines(text)
+    fault = f"{path} ends after line {line - 1}" if is_over else f"line {line} of {path} is {_line(text, line)}"
+    advice = _CONVERTERS
+    if _CERTIFICATE.match(text):
+        advice = "this text begins as a certificate does, and the file of the shop is wanted here"
+    elif refused.name == "TIMES" and (is_over or _LABEL_LINE.match(text.split(b"\n", line)[line - 1])):
+        advice = "a row before is short or missing"
+    return TextError(refused.name, line, f"{fault}: {_MISREAD[refused.name]}; {advice}")
 
 
 def blocks_of(
@@ -171,11 +194,26 @@ def blocks_of(
     except Refused as refused:
         raise _misread(refused, path, text) from None
     # The text has no fault, so it has two label lines for each block.
-    begun = [found.start() for found in _LABEL_LINE.finditer(text)]
-    lines = [text[start : text.find(b"\n", start)] for start in begun]
+    begun, lines = _labels_of(path, text)
     for at, end in zip(range(0, len(begun), 2), [*begun[2::2], len(text)]):
         jobs, machines, times, seed, upper, lower = _block(text[begun[at] : end], 1)
         yield (jobs, machines, times, *read_labels(lines[at], lines[at + 1], jobs, machines), seed, upper, lower)
+
+
+def _labels_of(path: Path, text: bytes) -> Tuple[List[int], List[Label]]:
+    """Where the label lines of a benchmark text begin, and these lines. A byte order mark before the text is left
+    out."""
+    begun: List[int] = []
+    lines: List[Label] = []
+    number, before = 1, 0
+    for found in _LABEL_LINE.finditer(text):
+        start = found.start()
+        number += text.count(b"\n", before, start)
+        before = start
+        line = text[start : text.find(b"\n", start)]
+        begun.append(start)
+        lines.append(Label(path, number, line if start else line.removeprefix(BOM_UTF8)))
+    return begun, lines
 
 
 def _block(text: bytes, number: int) -> Tuple[int, int, bytes, int, int, int]:

@@ -5,6 +5,8 @@ import threading
 from collections import deque
 from typing import Any, Callable, Iterable, Iterator, Optional
 
+from ._waiting import has_come
+
 
 class _Task:
     """A call, what it gave, and whether anybody wants it."""
@@ -65,7 +67,7 @@ class _Results:
         if not self._tasks:
             raise StopIteration
         task = self._tasks.popleft()
-        task.ended.wait()
+        has_come(task.ended)
         if task.error is not None:
             raise task.error
         return task.result

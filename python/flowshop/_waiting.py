@@ -1,14 +1,18 @@
 """Waiting for a search that runs in a thread of its own, so that it can be stopped."""
 
+import math
 import sys
 import threading
 import time
+from contextlib import contextmanager
 from dataclasses import dataclass
-from typing import Callable, Generic, Optional, TextIO, TypeVar, Union
+from typing import Callable, Generic, Iterator, Optional, TextIO, TypeVar, Union
 
 _T = TypeVar("_T")
 # How many seconds lie between two looks at a search, and between two lines where no terminal shows them.
 _LOOK, _BETWEEN_LINES = 0.25, 0.5
+# How many seconds the end of a process waits at most for what is under way.
+PATIENCE = 0.5
 
 
 @dataclass(frozen=True)
@@ -32,6 +36,16 @@ class Progress:
         """The same in words."""
         bounds = f"optimal {self.upper}" if self.lower == self.upper else f"bounds {self.lower} to {self.upper}"
         return f"step {self.step} of 8: {bounds}, {self.directions:,} directions, {self.seconds:.0f} s"
+
+
+def has_come(event: threading.Event, seconds: Optional[float] = None) -> bool:
+    """Waits for an event, or so many seconds. Whether it has come. A signal interrupts the wait. It waits a little at a
+    time, since a signal that comes just before a wait begins is seen only when that wait ends."""
+    ends = math.inf if seconds is None else time.monotonic() + seconds
+    while not event.wait(max(0.0, min(_LOOK, ends - time.monotonic()))):
+        if time.monotonic() >= ends:
+            return False
+    return True
 
 
 class Stopped(Exception):
@@ -61,7 +75,7 @@ class Running(Generic[_T]):
 
     def wait(self, seconds: Optional[float] = None) -> bool:
         """Waits until the call has ended, or so many seconds have. A signal interrupts it. Whether the call has."""
-        return self._ended.wait(seconds)
+        return has_come(self._ended, seconds)
 
     def result(self) -> _T:
         """What the call gave, or its error."""
@@ -80,25 +94,46 @@ def waited(call: Callable[[], _T]) -> _T:
 
 class Lines:
     """Lines on a stream that say how far something has come: one that is written anew where a terminal shows it, else
-    several, at most two in a second. Any thread may write them."""
+    several, at most two in a second. Other lines may come between them. Any thread may write them."""
 
     def __init__(self, stream: TextIO) -> None:
         self._stream, self._is_terminal = stream, stream.isatty()
         self._lock = threading.Lock()
         self._written = -_BETWEEN_LINES
+        self._stands, self._is_closed = False, False
 
     def __call__(self, line: object) -> None:
-        """Writes a line, where the last one was not written just now."""
-        with self._lock:
+        """Writes a line that says how far it is, where the last one was not written just now, and no other is being
+        written: a search does not wait for whoever reads the lines."""
+        if not self._lock.acquire(blocking=False):
+            return
+        try:
             now = time.monotonic()
-            if self._is_terminal or now - self._written >= _BETWEEN_LINES:
+            if not self._is_closed and (self._is_terminal or now - self._written >= _BETWEEN_LINES):
+                self._stands, self._written = self._is_terminal, now
                 self._write(f"\r{line}\x1b[K" if self._is_terminal else f"{line}\n")
-                self._written = now
+        finally:
+            self._lock.release()
 
-    def end(self, line: object) -> None:
-        """Writes the last line."""
+    @contextmanager
+    def taken_back(self) -> Iterator[None]:
+        """Takes back the line that a terminal shows. Meanwhile no other thread writes one."""
         with self._lock:
-            self._write(f"\r{line}\x1b[K\n" if self._is_terminal else f"{line}\n")
+            stands, self._stands = self._stands, False
+            if stands:
+                self._write("\r\x1b[K")
+            yield
+
+    def keep(self, line: object) -> None:
+        """Writes a line that stays."""
+        with self.taken_back():
+            self._write(f"{line}\n")
+
+    def close(self) -> None:
+        """Takes back the line that a terminal shows. No line that says how far it is comes after it."""
+        self._is_closed = True
+        with self.taken_back():
+            pass
 
     def _write(self, text: str) -> None:
         self._stream.write(text)
@@ -150,9 +185,9 @@ class Watch:
         except BaseException:
             self._stop.set()
             if self._lines:
-                self._lines.end(state(self._seconds()))
+                self._lines.keep(state(self._seconds()))
             raise
         if self._lines:
-            self._lines.end(state(self._seconds()))
+            self._lines.keep(state(self._seconds()))
         elif self._tell:
             self._tell(state(self._seconds()))
