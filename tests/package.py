@@ -648,8 +648,8 @@ def refuse_texts():
     """Texts that are no lawful certificate, with the line at fault."""
     changed = "the text was cut off or changed, or is of another shop"
     for text, old, new, name, place, sentence in [
-        (BOUNDS, BOUNDS, b"", "HEADER", 1, "line 1 is '', and names no certificate, such as 'flowshop two-ended 1'"),
-        (BOUNDS, b"two-ended 1", b"two-ended 2", "HEADER", 1, "line 1 is 'flowshop two-ended 2', and names no"),
+        (BOUNDS, BOUNDS, b"", "HEADER", 1, "line 1 is missing, and has to name a certificate, as in 'flowshop t"),
+        (BOUNDS, b"two-ended 1", b"two-ended 2", "HEADER", 1, "line 1 is 'flowshop two-ended 2', and has to name"),
         (BOUNDS, b"3 3", b"3 2", "SIZE", 2, "line 2 is '3 2', which is not of a shop with jobs 3 and machines 3"),
         (BOUNDS, b"11 13", b"11", "VALUE", 3, "line 3 is '11', and has to be the value that is proved, or both bounds"),
         (BOUNDS, b"2 1 3", b"2 1 2", "SEQUENCE", 4, "line 4 is '2 1 2', and has to have each job from 1 to 3 once"),

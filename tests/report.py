@@ -636,10 +636,10 @@ def refuse_by_the_command():
          f"be {orders} 'sequence 1 2 3 4 5 6 7 8 9 10 11 12...'"),
         ("shop.txt 1 commas", 1, f"commas: line 1 is '3, 1, 2', and has to be {orders} 'sequence 3 1 2 ..'"),
         ("shop.txt 1 colon", 1, f"colon: line 1 is 'sequence: 3 1 2', and has to be {orders} 'sequence 3 1 2 ..'"),
-        ("shop.txt 1 blank", 1, f"blank: line 1 is ' ', and has to be {orders} 'sequence 3 1 2 ..'"),
-        ("shop.txt 1 empty", 1, f"empty: line 1 is '', and has to be {orders} 'sequence 3 1 2 ..'"),
+        ("shop.txt 1 blank", 1, f"blank: line 3 is missing, and has to be {orders} 'sequence 3 1 2 ..'"),
+        ("shop.txt 1 empty", 1, f"empty: line 1 is missing, and has to be {orders} 'sequence 3 1 2 ..'"),
         ("shop.txt 1 old", 1,
-         "old: line 1 is ' flowshop two-ended 1', and names no certificate, such as 'flowshop two-ended 1'"),
+         "old: line 1 is ' flowshop two-ended 1', and has to name a certificate, as in 'flowshop two-ended 1'"),
         ("least 1 shop.txt", 1, f"line 4 of least is '3 1 2': {head}; this text begins as a certificate does, and the "
          "file of the shop is wanted here"),
         ("nothing 1 least --out r.pdf", 2, f"the file is 'r.pdf', {html}"),

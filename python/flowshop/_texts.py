@@ -85,7 +85,7 @@ _CHANGED = "the text was cut off or changed, or is of another shop"
 # What is wrong with a certificate, by the name of the status, and which line is at fault where it is always the same.
 # {line} is its number, {text} the line; {jobs} and {machines} are those of the shop.
 _UNLAWFUL: Dict[str, Tuple[int, str]] = {
-    "HEADER": (1, "line 1 is {text}, and names no certificate, such as 'flowshop two-ended 1'"),
+    "HEADER": (1, "line 1 is {text}, and has to name a certificate, as in 'flowshop two-ended 1'"),
     "SIZE": (2, "line 2 is {text}, which is not of a shop with jobs {jobs} and machines {machines}"),
     "VALUE": (3, "line 3 is {text}, and has to be the value that is proved, or both bounds"),
     "SEQUENCE": (4, "line 4 is {text}, and has to have each job from 1 to {jobs} once"),
@@ -99,13 +99,14 @@ _UNLAWFUL: Dict[str, Tuple[int, str]] = {
 
 def _line(text: bytes, number: int) -> str:
     """A line of a text, as it stands in a sentence."""
-    lines = text.split(b"\n", number)
-    return shown(lines[number - 1][:80].decode("utf-8", "replace")) if 1 <= number <= len(lines) else "missing"
+    if not 1 <= number <= _count_of_lines(text):
+        return "missing"
+    return shown(text.split(b"\n", number)[number - 1][:80].decode("utf-8", "replace"))
 
 
 def _count_of_lines(text: bytes) -> int:
     """How many lines a text has. The bytes after the last end of a line are one."""
-    return text.count(b"\n") + bool(text.rpartition(b"\n")[2])
+    return text.count(b"\n") + (not text.endswith(b"\n") if text else 0)
 
 
 def not_lawful(refused: Refused, given: Text, text: bytes, jobs: int, machines: int) -> NotLawful:
