@@ -303,7 +303,9 @@ def show_progress():
         lines("farthest")
         wanted = "first\nfar\nother\n"
         if is_terminal:
-            wanted = "first\n\rfar\x1b[K\r\x1b[Kother\n\rfarther\x1b[K\r\x1b[K"
+            # A terminal shows each in one row, however long it is.
+            far, farther = (f"\r\x1b[?7l{word}\x1b[K\x1b[?7h" for word in ("far", "farther"))
+            wanted = f"first\n{far}\r\x1b[Kother\n{farther}\r\x1b[K"
         equal("lines between lines that say how far it is", stream.getvalue(), wanted)
 
 
@@ -561,6 +563,7 @@ def refuse_words():
         for name in ("link", "other.2.certificate"):
             pathlib.Path(folder, name).symlink_to("t.txt")
         before = {name: pathlib.Path(folder, name).read_bytes() for name in os.listdir(folder)}
+        here = os.path.realpath(folder)
         for words, status, said in [
             (["t.txt", "--blocks", "4"], 2, "--blocks has 4, and t.txt has the blocks 1 to 3\n"),
             (["t.txt", "--blocks", "0"], 2, "--blocks has 0, and t.txt has the blocks 1 to 3\n"),
@@ -585,6 +588,10 @@ def refuse_words():
             (["t.txt", "--csv", "t.txt.1.certificate.old"], 2, "--csv is t.txt.1.certificate.old, a file for a cert"),
             (["t.txt", "--csv", "t.txt.1.certificate.old.2"], 2, "--csv is t.txt.1.certificate.old.2, a file for a"),
             (["a", "a.3.certificate"], 2, "the certificate of block 3 of a would be a.3.certificate, a file that is"),
+            (["t.txt", "--csv", "b/c"], 2, f"--csv is b/c, and there is no folder {here}/b\n"),
+            (["t.txt", "--out", "b/c", "--json", "b/d/e"], 2, f"--json is b/d/e, and there is no folder {here}/b/d\n"),
+            (["t.txt", "--out", "b/cd", "--csv", "b/c/e"], 2, f"--csv is b/c/e, and there is no folder {here}/b/c\n"),
+            (["t.txt", "--json", "."], 2, "--json is ., which is a folder, and has to be a file\n"),
             (["t.txt", "other"], 2, "the certificate of block 2 of other would be other.2.certificate, a file that"),
             *([] if find_spec("mpi4py") else [([BLOCKS, "--executor", "mpi"], 2, "--executor needs a package")]),
         ]:
@@ -603,12 +610,12 @@ def shown(text):
     lines = []
     for line in text.split("\n"):
         cells, place = [], 0
-        for sign in re.findall(r"\x1b\[K|.", line, re.DOTALL):
+        for sign in re.findall(r"\x1b\[(?:K|\?7[hl])|.", line, re.DOTALL):
             if sign == "\r":
                 place = 0
             elif sign == "\x1b[K":
                 del cells[place:]
-            else:
+            elif sign[0] != "\x1b":
                 cells[place : place + 1] = sign
                 place += 1
         lines.append("".join(cells))

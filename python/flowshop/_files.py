@@ -10,7 +10,7 @@ import re
 import threading
 from dataclasses import asdict, dataclass, fields
 from pathlib import Path
-from typing import Any, List, NamedTuple, Optional, TextIO
+from typing import Any, List, NamedTuple, Optional, TextIO, Tuple
 
 from ._results import Certificate
 from ._shop import Shop
@@ -90,6 +90,23 @@ def _numbers(words: str, count: int, file: str) -> List[int]:
     return numbers
 
 
+def _tables(options: argparse.Namespace) -> List[Tuple[str, str]]:
+    """The words that name a file for the table, with that file."""
+    return [(word, table) for word, table in (("--csv", options.csv), ("--json", options.json)) if table]
+
+
+def _refuse_no_place(options: argparse.Namespace) -> None:
+    """WordError where the file of the table could not be written at the end: it is a folder, or stands in none, nor in
+    one that is made for the certificates."""
+    made = os.path.join(os.path.realpath(options.out), "")
+    for word, table in _tables(options):
+        folder = os.path.dirname(os.path.realpath(table))
+        if os.path.isdir(table):
+            raise WordError(f"{word} is {table}, which is a folder, and has to be a file")
+        if not os.path.isdir(folder) and not made.startswith(os.path.join(folder, "")):
+            raise WordError(f"{word} is {table}, and there is no folder {folder}")
+
+
 def _refuse_to_overwrite(works: List[Work], options: argparse.Namespace) -> None:
     """WordError where a file would be written that is read, or a table in the place of a certificate."""
     read = {os.path.realpath(file) for file in options.files}
@@ -99,18 +116,18 @@ def _refuse_to_overwrite(works: List[Work], options: argparse.Namespace) -> None
             where = f"{work.path}, a file that is {'read' if path in read else 'open'}"
             sentence = f"the certificate of block {work.block} of {work.file} would be {where}"
             raise WordError(f"{sentence}; give --out another folder")
-    for word, table in (("--csv", options.csv), ("--json", options.json)):
-        path = os.path.realpath(table or "")
+    for word, table in _tables(options):
+        path = os.path.realpath(table)
         if table == "-":
             raise WordError(f"{word} is -, and has to be a file; the table is printed anyway")
-        if table and (path in read or path in certificates or _OF_CERTIFICATE.search(path)):
+        if path in read or path in certificates or _OF_CERTIFICATE.search(path):
             what = "a file that is read" if path in read else "a file for a certificate"
             raise WordError(f"{word} is {table}, {what}; the table has to have a file of its own")
 
 
 def works_of(options: argparse.Namespace) -> List[Work]:
     """The blocks that the words name, in their order. TextError or OSError where a file is not read, WordError where
-    one would be overwritten, or a word is none."""
+    one would be overwritten, or none could be written, or a word is none."""
     if os.path.exists(options.out) and not os.path.isdir(options.out):
         raise WordError(f"--out is {options.out}, which is a file, and has to be a folder")
     works = []
@@ -125,6 +142,7 @@ def works_of(options: argparse.Namespace) -> List[Work]:
     for path in names:
         if names.count(path) > 1:
             raise WordError(f"two blocks would have the certificate {path}; give each folder a run of its own")
+    _refuse_no_place(options)
     _refuse_to_overwrite(works, options)
     return works
 

@@ -92,6 +92,10 @@ def waited(call: Callable[[], _T]) -> _T:
     return running.result()
 
 
+# What a terminal shows of a line: no more than stands in one row of it, in the place of what stood there.
+_ANEW = "\r\x1b[?7l{}\x1b[K\x1b[?7h"
+
+
 class Lines:
     """Lines on a stream that say how far something has come: one that is written anew where a terminal shows it, else
     several, at most two in a second. Other lines may come between them. Any thread may write them."""
@@ -111,7 +115,7 @@ class Lines:
             now = time.monotonic()
             if not self._is_closed and (self._is_terminal or now - self._written >= _BETWEEN_LINES):
                 self._stands, self._written = self._is_terminal, now
-                self._write(f"\r{line}\x1b[K" if self._is_terminal else f"{line}\n")
+                self._write(_ANEW.format(line) if self._is_terminal else f"{line}\n")
         finally:
             self._lock.release()
 
