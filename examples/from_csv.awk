@@ -134,7 +134,7 @@ function keep_lines(text,    part, parts, i) {
 # for each job.
 function test_head(    head, time, i) {
   if (line[2] line[4] ~ /[^0-9 \t]/ || split(line[2], head, " ") != 5 || line[3] !~ /^[^0-9]/) return
-  for (i = 4; i < 4 + head[2] && line[i] !~ /[^0-9 \t]/ && split(line[i], time, " ") == head[1]; i++);
+  for (i = 4; i <= lines && i < 4 + head[2] && line[i] !~ /[^0-9 \t]/ && split(line[i], time, " ") == head[1]; i++);
   if (i > 4 && i == 4 + head[2]) stop("this is a benchmark text and no table: certify takes it as it is")
 }
 

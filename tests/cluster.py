@@ -480,19 +480,21 @@ def use_command():
             (out / name).write_bytes(text)
         os.remove(out / names[2])
         (out / f"{names[1]}.old").write_bytes(b"an older text")
+        (out / f"{names[1]}.old.2").symlink_to("nothing")
+        there = [f"{names[1]}.old", f"{names[1]}.old.2"]
         run = command("check", BLOCKS, "--out", out)
         equal("a check of these", (run.returncode, len(run.stdout.splitlines())), (1, 1))
         said = [line.split(".certificate: ")[0].rsplit(".", 1)[1] for line in run.stderr.splitlines()]
         equal("what is said of each", said, ["1", "2", "3"])
         run = command("certify", BLOCKS, "--out", out, "--blocks", "1,2-2", "--csv", out / "table")
         equal("two blocks", (run.returncode, len((out / "table").read_text().splitlines())), (0, 3))
-        olds = [f"{names[0]}.old", f"{names[1]}.old.2"]
+        olds = [f"{names[0]}.old", f"{names[1]}.old.3"]
         said = [f"the block is searched again, and this text is kept as {name}\n" for name in olds]
         equal("what is said of them", [line in run.stderr for line in said], [True, True])
         equal("the texts again", [(out / name).read_bytes() for name in names[:2]], [f.text for f in wanted[:2]])
         equal("the texts that stood there", [(out / name).read_bytes() for name in olds], unlawful)
         equal("an older one", (out / f"{names[1]}.old").read_bytes(), b"an older text")
-        equal("what else is there", sorted(os.listdir(out)), sorted([*names[:2], *olds, f"{names[1]}.old", "table"]))
+        equal("what else is there", sorted(os.listdir(out)), sorted([*names[:2], *olds, *there, "table"]))
         equal("a check of two", command("check", BLOCKS, "--out", out, "--blocks", "1-2").returncode, 0)
         # Bounds that differ are kept too, and a line says so.
         hard = pathlib.Path(folder, "hard.txt")
@@ -501,6 +503,21 @@ def use_command():
         kept = "bounds that are there; remove it, and the block is searched anew"
         equal("bounds that are kept", [run.stderr.count(kept) for run in runs], [0, 1])
         equal("what is printed of them", runs[0].stdout.split()[-1], runs[1].stdout.split()[-1])
+
+
+def use_odd_names():
+    """Names of files that are no UTF-8, or as long as those of their certificates may be."""
+    for name, shown_as in ((os.fsdecode(b"shop\xff.txt"), "shop\\udcff.txt"), (f"{'n' * 236}.txt", f"{'n' * 236}.txt")):
+        with tempfile.TemporaryDirectory() as folder:
+            file, table = pathlib.Path(folder, name), pathlib.Path(folder, "table")
+            Shop.from_machines([[1, 2]]).write(file)
+            strict = {**os.environ, "PYTHONIOENCODING": "utf-8:strict"}
+            run = command("certify", file, "--out", folder, "--csv", table, env=strict)
+            equal(f"the status of {shown_as}", run.returncode, 0)
+            row = [f"{folder}/{shown_as}", "1", "2", "1", "3", "3", "0"]
+            equal(f"the table of {shown_as}", table.read_text().splitlines()[1].split(",")[:7], row)
+            equal(f"what is printed of {shown_as}", run.stdout.splitlines()[1].split()[:7], row)
+            equal("the files", sorted(os.listdir(folder)), sorted([name, f"{name}.1.certificate", "table"]))
 
 
 def keep_links_and_pipes():
@@ -558,8 +575,11 @@ def keep_streams():
 def refuse_words():
     """Words that are none, files that are not read, and files that would be overwritten: no file is written."""
     with tempfile.TemporaryDirectory() as folder:
-        for name in ("t.txt", "a", "a.3.certificate", "other"):
+        for name in ("t.txt", "a", "a.3.certificate", "other", "z"):
             pathlib.Path(folder, name).write_bytes(BLOCKS.read_bytes())
+        for name in ("7", "table"):
+            pathlib.Path(folder, name).write_text("7\n")
+        pathlib.Path(folder, "z.2.certificate").symlink_to("table")
         for name in ("link", "other.2.certificate"):
             pathlib.Path(folder, name).symlink_to("t.txt")
         before = {name: pathlib.Path(folder, name).read_bytes() for name in os.listdir(folder)}
@@ -572,6 +592,7 @@ def refuse_words():
             ([BLOCKS, "--blocks", "x"], 2, "--blocks is x, and has to be all, or numbers such as 1,3-5"),
             ([BLOCKS, BLOCKS], 2, "two blocks would have the certificate "),
             ([BLOCKS, "1"], 2, "there is no file 1; --blocks 1 is block 1 of the files"),
+            (["7"], 1, "line 1 of 7 is '7'"),
             ([BLOCKS, "--seed", "0"], 2, "--seed is 0, and has to be a whole number from 1 to 2,147,483,646\n"),
             ([BLOCKS, "--workers", "0"], 2, "--workers is 0, and has to be a whole number from 1 to 10,000\n"),
             ([BLOCKS, "--executor", "none"], 2, "--executor is none, and has to be threads, processes, mpi"),
@@ -588,6 +609,9 @@ def refuse_words():
             (["t.txt", "--csv", "t.txt.1.certificate.old"], 2, "--csv is t.txt.1.certificate.old, a file for a cert"),
             (["t.txt", "--csv", "t.txt.1.certificate.old.2"], 2, "--csv is t.txt.1.certificate.old.2, a file for a"),
             (["a", "a.3.certificate"], 2, "the certificate of block 3 of a would be a.3.certificate, a file that is"),
+            (["z", "--csv", "table"], 2, "--csv is table, a file for a certificate"),
+            (["t.txt", "--csv", ""], 2, "--csv is empty, and has to be the name of a file\n"),
+            (["t.txt", "--out", "/proc"], 2, "--out is /proc, where no file can be written: "),
             (["t.txt", "--csv", "b/c"], 2, f"--csv is b/c, and there is no folder {here}/b\n"),
             (["t.txt", "--out", "b/c", "--json", "b/d/e"], 2, f"--json is b/d/e, and there is no folder {here}/b/d\n"),
             (["t.txt", "--out", "b/cd", "--csv", "b/c/e"], 2, f"--csv is b/c/e, and there is no folder {here}/b/c\n"),
@@ -598,6 +622,15 @@ def refuse_words():
             run = command("certify", *words, cwd=folder)
             equal(f"the status of {words}", run.returncode, status)
             equal(f"what is said of {words}", run.stderr.startswith(f"flowshop: {said}"), True)
+        with open(pathlib.Path(folder, "a.1.certificate"), "w") as out:
+            words = [sys.executable, "-m", "flowshop", "certify", "a", "--blocks", "1"]
+            run = subprocess.run(words, cwd=folder, stdout=out, stderr=subprocess.PIPE, text=True, check=False)
+            said = "flowshop: the certificate of block 1 of a would be a.1.certificate, a file that is open; give --out"
+            equal("a certificate in the place of what is printed", (run.returncode, run.stderr[: len(said)]), (2, said))
+        os.remove(out.name)
+        run = command("check", "t.txt", "--out", "b", "--csv", "b/c", cwd=folder)
+        said = f"flowshop: --csv is b/c, and there is no folder {here}/b\n"
+        equal("a folder that a check does not make", (run.returncode, run.stderr), (2, said))
         said = command("certify", TOP / "examples" / "table.csv", cwd=folder).stderr
         equal("what is said of a table", "examples/from_csv.awk makes such a file of a table" in said, True)
         equal("the status of no command", command().returncode, 2)
@@ -721,12 +754,14 @@ def stop_command():
 
 def stop_at_pipes():
     """At an interrupt nothing waits for a pipe that is not read, a file that is not written makes a line, a stream for
-    lines that is gone is passed over, and a table on a terminal begins at the left."""
+    lines that is gone is passed over, and a table on a terminal begins at the left. Where no block is done, the file
+    of the table stays as it is."""
+    row = _files.Row("shop.txt", 1, 1, 1, 1, 1, 0, None, "")
     with tempfile.TemporaryDirectory() as folder:
         pipe, said = pathlib.Path(folder, "pipe"), Stream(False)
         os.mkfifo(pipe)
         gone = mock.Mock(isatty=lambda: False, write=mock.Mock(side_effect=BrokenPipeError))
-        stopped = "stopped: 0 of 3 blocks are done; the same command goes on with the others\n"
+        stopped = "stopped: 1 of 3 blocks are done; the same command goes on with the others\n"
         for table, stream, wanted in [
             (pipe, said, f"flowshop: the table is not written within 2 seconds\n{stopped}"),
             (folder, said, f"flowshop: [Errno 21] Is a directory: '{folder}'\n{stopped}"),
@@ -734,18 +769,25 @@ def stop_at_pipes():
         ]:
             begun = time.monotonic()
             rows = _files.Table([], argparse.Namespace(csv=str(table), json=None), io.StringIO())
+            rows.add(row)
             _command_certify._stop(rows, 3, _waiting.Lines(stream))
             equal(f"how soon it ends with {table}", time.monotonic() - begun < 5, True)
             if table == pipe:
                 read = subprocess.run(["timeout", "20", "cat", pipe], capture_output=True, check=False).stdout
                 equal("what is read later", read.split(b",")[:2], [b"file", b"block"])
             equal(f"what is said with {table}", wanted is None or wanted in said.getvalue(), True)
+        equal("a table that is written", len(table.read_text().splitlines()), 2)
+        rows.rows.clear()
+        _command_certify._stop(rows, 3, _waiting.Lines(said))
+        equal("a table of no block", len(table.read_text().splitlines()), 2)
+        equal("what is said of no block", said.getvalue().endswith("s\n" + stopped.replace("1", "0", 1)), True)
+        rows.add(row)
         screen = Stream(True)
         lines = _waiting.Lines(screen)
         lines("far")
         with mock.patch.object(rows, "write", lambda: screen.write("the table\n")):
-            _command_certify._stop(rows, 0, lines)
-        equal("a table on a terminal", shown(screen.getvalue()), ["the table", "stopped: 0 of 0 blocks are done", ""])
+            _command_certify._stop(rows, 1, lines)
+        equal("a table on a terminal", shown(screen.getvalue()), ["the table", "stopped: 1 of 1 blocks are done", ""])
         stop_at_lines(rows)
 
 
@@ -767,6 +809,72 @@ def stop_at_lines(rows):
         _command_certify._stop(rows, 3, lines)
         lines.close()
     equal("that a line was to be taken back", write.called, True)
+
+
+def full_pipe():
+    """A pipe that takes no more bytes: where it is read, and where it is written."""
+    read, written = os.pipe()
+    os.set_blocking(written, False)
+    with contextlib.suppress(BlockingIOError):
+        while True:
+            os.write(written, bytes(4096))
+    os.set_blocking(written, True)
+    return read, written
+
+
+def write_to_full_pipes():
+    """Where nobody reads standard error, a limit of time and an interrupt end the command as ever; an interrupt does
+    too where nobody reads what it prints."""
+    with tempfile.TemporaryDirectory() as folder:
+        file, table = pathlib.Path(folder, "shops.txt"), pathlib.Path(folder, "table")
+        Shop.generate(100, 20, 7).write(file)
+        file.write_bytes(file.read_bytes() + BLOCKS.read_bytes())
+        words = [sys.executable, "-m", "flowshop", "certify", file, "--csv", table, "--workers", "2"]
+        hard = ["--width", "65536", "--work", "20000"]
+        read, written = full_pipe()
+        streams = {"stdout": subprocess.DEVNULL, "stderr": written}
+        run = subprocess.run([*words, *hard, "--out", folder, "--time-limit", "1"], timeout=60, check=False, **streams)
+        equal("a run with a limit", (run.returncode, len(table.read_text().splitlines())), (0, 5))
+        for number, both in enumerate((False, True)):
+            out = pathlib.Path(folder, f"out {number}")
+            table.write_text("older rows\n")
+            streams["stdout"] = written if both else subprocess.DEVNULL
+            with subprocess.Popen([*words, *hard, "--out", out], **streams) as run:
+                ends = time.monotonic() + 60
+                while not (both and out.exists()) and time.monotonic() < ends:
+                    if pathlib.Path(out, "shops.txt.4.certificate").exists():
+                        break
+                    time.sleep(0.05)
+                time.sleep(1)
+                run.send_signal(signal.SIGINT)
+                with contextlib.suppress(subprocess.TimeoutExpired):
+                    run.wait(10)
+                equal(f"a run that nobody reads, {both}", run.poll(), -signal.SIGINT)
+                run.kill()
+            rows = [line.split(",")[1] for line in table.read_text().splitlines()[1:]]
+            equal(f"the table of a run that nobody reads, {both}", rows, [] if both else [*"234"])
+        os.close(read)
+        limit = ["--blocks", "1", "--out", pathlib.Path(folder, "out 2"), "--time-limit", "1"]
+        run = subprocess.run([*words, *limit], timeout=60, check=False, stdout=subprocess.DEVNULL, stderr=written)
+        equal("a run whose lines go nowhere", run.returncode, 0)
+        os.close(written)
+
+
+def restore_handler():
+    """Without an interrupt the handler afterwards is the one before; after one others make no difference."""
+    for is_interrupted, wanted in ((False, signal.default_int_handler), (True, signal.SIG_IGN)):
+        ended = False
+        try:
+            with _command_certify._one_interrupt():
+                if is_interrupted:
+                    os.kill(os.getpid(), signal.SIGINT)
+                    time.sleep(10)
+                ended = True
+        except KeyboardInterrupt:
+            pass
+        after = signal.getsignal(signal.SIGINT)
+        signal.signal(signal.SIGINT, signal.default_int_handler)
+        equal("the handler afterwards", (ended, after), (not is_interrupted, wanted))
 
 
 def go_on(file, out, wide):
@@ -930,12 +1038,15 @@ def use_local():
     stop_threads()
     use_eight_threads()
     use_command()
+    use_odd_names()
     keep_links_and_pipes()
     keep_streams()
     refuse_words()
     use_terminal()
     stop_command()
     stop_at_pipes()
+    write_to_full_pipes()
+    restore_handler()
     kill_command()
     end_writing()
     use_page()

@@ -503,6 +503,7 @@ def refuse_labels():
           for wrong in (unit.replace("4", "04"), unit.replace("4", "10000000"), unit.replace("comma", "point comma"),
                         unit.replace("semicolon", "|"), f" {unit}", f"{unit} ", "machines, times in minutes")],
         ("words", f"\t{unit}\tCut", 3, f"is '\\t{unit}\\tCut', {as_here} machine"),
+        ("words", f"\r{unit}\tCut", 3, f"is '\\r{unit}\\tCut', {as_here} machine"),
         (jobs, "words", 3, f"is 'words': line 1 {unknown} other words in line 1"),
         (jobs, "Machines, times\tCut", 3, f"is 'Machines, times\\tCut': line 1 {unknown} other words in line 1"),
         (f"\ufeff{jobs}", "words", 3, f"is 'words': line 1 {unknown} other words in line 1"),
@@ -537,6 +538,7 @@ def refuse_files():
     times, row = "there has to be one time for each job and machine", "a row before is short or missing"
     tables = "examples/from_csv.awk makes such a file of a table, and examples/from_pairs.awk of pairs of machine and "
     tables += "time"
+    word = f"{row}, or this line does not begin with a digit; {tables}"
     other = "this text begins as a certificate does, and the file of the shop is wanted here"
     with tempfile.TemporaryDirectory() as folder:
         path = os.path.join(folder, "text")
@@ -554,7 +556,8 @@ def refuse_files():
             (b"a\n2 1 0 0 0\nb\n7", "TIMES", 5, f"* ends after line 4: {times}; {row}"),
             (b"a\n3 2 0 0 0\nb\n1 2 3\n4 5\n", "TIMES", 6, f"* ends after line 5: {times}; {row}"),
             (b"a\n3 2 0 0 0\nb\n1 2 3\n4 5\n\n", "TIMES", 7, f"* ends after line 6: {times}; {row}"),
-            (b"a\n3 2 0 0 0\nb\n1 2 3\n c\n1 1 0 0 0\nd\n5\n", "TIMES", 5, f"line 5 of * is ' c': {times}; {row}"),
+            (b"a\n3 2 0 0 0\nb\n1 2 3\n c\n1 1 0 0 0\nd\n5\n", "TIMES", 5, f"line 5 of * is ' c': {times}; {word}"),
+            (b"a\n3 2 0 0 0\nb\n1 2 3\n-4 5 6\n", "TIMES", 5, f"line 5 of * is '-4 5 6': {times}; {word}"),
             (b"flowshop instances\n5 x\n", "BYTE", 2, f"line 2 of * is '5 x': {byte}; {tables}"),
             (LEAST, "HEAD", 4, f"line 4 of * is '3 1 2': {head}; {other}"),
             (TREE, "HEAD", 4, f"line 4 of * is '3 1 2': {head}; {other}"),

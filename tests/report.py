@@ -287,11 +287,11 @@ def show_times():
         ({"unit": "1min"}, "START", "unit needs start: the time of day when the first job starts, as 07:30"),
         *[({"start": start, "unit": "1h"}, "START", f"start is {start!r}, and has to be a time of day, as 07:30")
           for start in ("", "7", "24:00", "7:60", "07:30:00", "7.30", "-1:00", "١:٠٠", 7, 0, b"07:30",
-                        datetime.time(7, 30))],
+                        datetime.time(7, 30), pathlib.Path("7:30"))],
         *[({"start": "7:30", "unit": unit}, "UNIT",
            f"unit is {unit!r}, and has to be how long one unit of the table is, as 15min, 1h or 30s")
           for unit in ("", "15", "min", "0min", "0.0h", "-1h", "1d", "1e3s", "1h30min", "1.h", 60, 0, 0.5, b"1h",
-                       datetime.timedelta(0, 900))],
+                       datetime.timedelta(0, 900), pathlib.Path("1h"))],
     ]:
         got = refused(lambda words=words: SHOP.report([1, 2, 3], **words))
         equal(f"a report with {words}", got, ("OptionError", name, 0, sentence))
@@ -561,6 +561,7 @@ FILES = {
     "spaced": "\r\n sequence 03\t1 2 \r\n\n",
     "worse": "\nsequence 3 1 2\nmakespan 11\n",
     "many": "sequence 1 2 3\n\nmakespan 15\nsequence 1\n",
+    "more": "sequence 3 1 2\nmakespan 12\nmakespan 11\n",
     "wrong": "sequence 1 x 3\n",
     "short": "sequence 1 2\nmakespan 2\n",
     "other": "sequence 1 2 3\n12\n",
@@ -626,6 +627,7 @@ def refuse_by_the_command():
         ("two.txt 2 least", 1, "least: line 2 is '3 3', which is not of a shop with jobs 1 and machines 1"),
         ("shop.txt 1 worse", 1, "worse: line 3 says that the makespan is 11, and that of these jobs is 12"),
         ("shop.txt 1 many", 1, "many: line 4 is 'sequence 1', and has to be blank"),
+        ("shop.txt 1 more", 1, "more: line 3 is 'makespan 11', and has to be blank"),
         ("shop.txt 1 wrong", 1,
          "wrong: line 1 is 'sequence 1 x 3', and has to be the word sequence and the numbers of the jobs"),
         ("shop.txt 1 other", 1, "other: line 2 is '12', and has to be the word makespan and a number"),

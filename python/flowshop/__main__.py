@@ -11,7 +11,7 @@ from typing import List, Optional
 from . import __version__, _command_certify, _command_check, _report
 from ._errors import FlowshopError, OptionError
 from ._files import WordError, end_writing
-from ._waiting import PATIENCE
+from ._waiting import PATIENCE, Running
 
 _COMMANDS = (_command_certify, _command_check, _report)
 # What main gives at an interrupt: the status that a shell has then.
@@ -54,10 +54,13 @@ def _have_ended(workers: List[multiprocessing.process.BaseProcess]) -> bool:
 def end(status: int) -> None:
     """Ends the process. Nothing waits for searches that an interrupt or a limit of time leaves behind, in threads or in
     processes; but a file that is being written is waited for. After an interrupt its signal ends the process, so that a
-    shell ends its loop too; another interrupt makes no difference."""
+    shell ends its loop too, also where nobody reads what was printed; another interrupt makes no difference."""
     if status == _INTERRUPTED:
         signal.signal(signal.SIGINT, signal.SIG_IGN)
-    sys.stdout.flush()
+    flushing = Running(sys.stdout.flush)
+    flushing.start()
+    if flushing.wait(PATIENCE if status == _INTERRUPTED else None):
+        flushing.result()
     end_writing(PATIENCE)
     workers = multiprocessing.active_children()
     if status != _INTERRUPTED and _have_ended(workers):

@@ -9,12 +9,14 @@ import sys
 import threading
 import time
 from concurrent.futures import BrokenExecutor, ProcessPoolExecutor
-from contextlib import closing, contextmanager, suppress
+from contextlib import closing, contextmanager
 from typing import Any, Dict, Iterator, List, NamedTuple, Optional, Tuple
 
 from ._certify import Effort
 from ._errors import NotLawful, OptionError
-from ._files import Row, Table, WordError, Work, place_of_old, row_of, save_certificate, words_of_blocks, works_of
+from ._files import (
+    Row, Table, WordError, Work, make_folder, place_of_old, row_of, save_certificate, words_of_blocks, works_of
+)
 from ._options import LIMITS, OF_PARTS, option
 from ._spread import Workers
 from ._threads import Threads
@@ -137,23 +139,26 @@ def _one_interrupt() -> Iterator[None]:
             signal.signal(signal.SIGINT, signal.default_int_handler)
 
 
-def _say_stopped(table: Table, count: int, lines: Lines) -> None:
-    """Writes the table at an interrupt, and says how many of so many blocks are done. A stream for lines that is gone
-    is passed over."""
-    done = len(table.rows)
-    said = f"stopped: {done} of {count} blocks are done"
-    with suppress(OSError):
-        lines.close()
+def _write_soon(table: Table, lines: Lines) -> None:
+    """Writes the table, or says why it is not written."""
     writing = Running(table.write)
     writing.start()
-    with suppress(OSError):
-        try:
-            if not writing.wait(_PATIENCE):
-                raise TimeoutError(f"the table is not written within {_PATIENCE:g} seconds")
-            writing.result()
-        except OSError as error:
-            lines.keep(f"flowshop: {error}")
-        lines.keep(said if done == count else f"{said}; the same command goes on with the others")
+    try:
+        if not writing.wait(_PATIENCE):
+            raise TimeoutError(f"the table is not written within {_PATIENCE:g} seconds")
+        writing.result()
+    except OSError as error:
+        lines.keep(f"flowshop: {error}")
+
+
+def _say_stopped(table: Table, count: int, lines: Lines) -> None:
+    """Writes the table at an interrupt, where a block is done, and says how many of so many are."""
+    done = len(table.rows)
+    said = f"stopped: {done} of {count} blocks are done"
+    lines.close()
+    if done:
+        _write_soon(table, lines)
+    lines.keep(said if done == count else f"{said}; the same command goes on with the others")
 
 
 def _stop(table: Table, count: int, lines: Lines) -> None:
@@ -202,8 +207,8 @@ def run(options: argparse.Namespace) -> int:
     limit = options.time_limit
     if limit is not None and not limit >= 0:
         raise WordError(f"--time-limit is {limit:g}, and has to be a number of seconds from 0 on")
-    works = works_of(options)
-    os.makedirs(options.out, exist_ok=True)
+    works = works_of(options, is_made=True)
+    make_folder(options.out)
     try:
         with _one_interrupt(), _workers(options.executor, count) as workers, closing(Lines(sys.stderr)) as lines:
             table = Table(works, options, sys.stdout)

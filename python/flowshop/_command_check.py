@@ -17,7 +17,7 @@ def words(parsers: "argparse._SubParsersAction[argparse.ArgumentParser]") -> Non
 
 def run(options: argparse.Namespace) -> int:
     """Runs the command. Its status is 1 where a certificate is not lawful, or not there."""
-    works = works_of(options)
+    works = works_of(options, is_made=False)
     table = Table(works, options, sys.stdout)
     status = 0
     for work in works:

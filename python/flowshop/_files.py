@@ -7,10 +7,12 @@ import hashlib
 import json
 import os
 import re
+import tempfile
 import threading
+from collections import Counter
 from dataclasses import asdict, dataclass, fields
 from pathlib import Path
-from typing import Any, List, NamedTuple, Optional, TextIO, Tuple
+from typing import Any, Dict, List, NamedTuple, Optional, TextIO, Tuple
 
 from ._results import Certificate
 from ._shop import Shop
@@ -76,7 +78,7 @@ def _numbers(words: str, count: int, file: str) -> List[int]:
     """The numbers of the blocks that words name, of a file with so many. WordError where it has no such block."""
     if words == "all":
         return list(range(1, count + 1))
-    numbers: List[int] = []
+    numbers: Dict[int, None] = {}
     for word in words.split(","):
         found = re.fullmatch(r"([0-9]{1,9})(?:-([0-9]{1,9}))?", word)
         if not found:
@@ -86,21 +88,23 @@ def _numbers(words: str, count: int, file: str) -> List[int]:
             order = "; write the smaller number first" if 1 <= last < first <= count else ""
             blocks = f"the blocks 1 to {count}" if count > 1 else "1 block"
             raise WordError(f"--blocks has {word}, and {file} has {blocks}{order}")
-        numbers += [number for number in range(first, last + 1) if number not in numbers]
-    return numbers
+        numbers.update(dict.fromkeys(range(first, last + 1)))
+    return list(numbers)
 
 
 def _tables(options: argparse.Namespace) -> List[Tuple[str, str]]:
     """The words that name a file for the table, with that file."""
-    return [(word, table) for word, table in (("--csv", options.csv), ("--json", options.json)) if table]
+    return [(word, table) for word, table in (("--csv", options.csv), ("--json", options.json)) if table is not None]
 
 
-def _refuse_no_place(options: argparse.Namespace) -> None:
-    """WordError where the file of the table could not be written at the end: it is a folder, or stands in none, nor in
-    one that is made for the certificates."""
-    made = os.path.join(os.path.realpath(options.out), "")
+def _refuse_no_place(options: argparse.Namespace, is_made: bool) -> None:
+    """WordError where the file of the table could not be written at the end: it has no name, or is a folder, or stands
+    in none; the folder of the certificates may be made before."""
+    made = os.path.join(os.path.realpath(options.out), "") if is_made else ""
     for word, table in _tables(options):
         folder = os.path.dirname(os.path.realpath(table))
+        if not table:
+            raise WordError(f"{word} is empty, and has to be the name of a file")
         if os.path.isdir(table):
             raise WordError(f"{word} is {table}, which is a folder, and has to be a file")
         if not os.path.isdir(folder) and not made.startswith(os.path.join(folder, "")):
@@ -125,9 +129,10 @@ def _refuse_to_overwrite(works: List[Work], options: argparse.Namespace) -> None
             raise WordError(f"{word} is {table}, {what}; the table has to have a file of its own")
 
 
-def works_of(options: argparse.Namespace) -> List[Work]:
+def works_of(options: argparse.Namespace, is_made: bool) -> List[Work]:
     """The blocks that the words name, in their order. TextError or OSError where a file is not read, WordError where
-    one would be overwritten, or none could be written, or a word is none."""
+    one would be overwritten, or none could be written, or a word is none. The folder of the certificates may be made
+    afterwards."""
     if os.path.exists(options.out) and not os.path.isdir(options.out):
         raise WordError(f"--out is {options.out}, which is a file, and has to be a folder")
     works = []
@@ -138,13 +143,21 @@ def works_of(options: argparse.Namespace) -> List[Work]:
         for number in _numbers(options.blocks, len(blocks), file):
             path = Path(options.out, f"{Path(file).name}.{number}.certificate")
             works.append(Work(file, number, blocks[number - 1].shop, path))
-    names = [work.path for work in works]
-    for path in names:
-        if names.count(path) > 1:
+    for path, count in Counter(work.path for work in works).items():
+        if count > 1:
             raise WordError(f"two blocks would have the certificate {path}; give each folder a run of its own")
-    _refuse_no_place(options)
+    _refuse_no_place(options, is_made)
     _refuse_to_overwrite(works, options)
     return works
+
+
+def make_folder(out: str) -> None:
+    """Makes the folder of the certificates, where it is not there. WordError where no file can be made in it."""
+    os.makedirs(out, exist_ok=True)
+    try:
+        tempfile.TemporaryFile(dir=out).close()
+    except OSError as error:
+        raise WordError(f"--out is {out}, where no file can be written: {error.strerror}") from None
 
 
 def _stream(path: Path) -> Optional[int]:
@@ -175,7 +188,7 @@ def save(path: Path, text: bytes) -> None:
                 stream.write(text)
             return
         path = Path(os.path.realpath(path))
-        new = path.with_name(f".{path.name}.{os.getpid()}.new")
+        new = path.with_name(f".{path.name[:40]}.{os.getpid()}.new")  # no longer than a name may be
         try:
             with open(new, "wb") as file:
                 file.write(text)
@@ -220,7 +233,9 @@ class Table:
     def _print(self, cells: List[Any]) -> None:
         """Prints a line of the table."""
         numbers = " ".join(f"{cell:>{width}}" for cell, width in zip(cells[1:-1], _WIDTHS))
-        self._stream.write(f"{cells[0]:<{self._width}} {numbers} {cells[-1]}\n")
+        encoding = self._stream.encoding or "utf-8"
+        name = cells[0].encode(encoding, "backslashreplace").decode(encoding)
+        self._stream.write(f"{name:<{self._width}} {numbers} {cells[-1]}\n")
         self._stream.flush()
 
     def add(self, row: Row) -> None:
@@ -239,7 +254,7 @@ class Table:
             writer = csv.DictWriter(_Lines(lines), _NAMES, lineterminator="\n")
             writer.writeheader()
             writer.writerows(rows)
-            save(Path(self._csv), "".join(lines).encode())
+            save(Path(self._csv), "".join(lines).encode("utf-8", "backslashreplace"))
 
 
 class _Lines:

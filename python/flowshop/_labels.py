@@ -91,7 +91,7 @@ def read_labels(
     lines = [line.removesuffix("\r") for line in _decoded(first.text + b"\n" + second.text).split("\n")]
     (begin, *job_names), (form, *machine_names) = (line.split("\t") for line in lines)
     has_names = begin == "jobs" and job_names != []
-    if not lines[1].lstrip(" \t").startswith(_BEGIN):
+    if not lines[1].lstrip(" \t\r").startswith(_BEGIN):
         if has_names and len(job_names) == jobs and all(job_names):
             why = f"line {first.number} has names of jobs, and the unit of the times is not known"
             advice = f"write it here, as docs/formats.md says, or other words in line {first.number}"

@@ -167,6 +167,7 @@ _MISREAD: Dict[str, str] = {
 _CONVERTERS = (
     "examples/from_csv.awk makes such a file of a table, and examples/from_pairs.awk of pairs of machine and time"
 )
+_SHORT = "a row before is short or missing"
 
 
 def _misread(refused: Refused, path: Path, text: bytes) -> TextError:
@@ -178,8 +179,10 @@ def _misread(refused: Refused, path: Path, text: bytes) -> TextError:
     advice = _CONVERTERS
     if _CERTIFICATE.match(text):
         advice = "this text begins as a certificate does, and the file of the shop is wanted here"
-    elif refused.name == "TIMES" and (is_over or _LABEL_LINE.match(text.split(b"\n", line)[line - 1])):
-        advice = "a row before is short or missing"
+    elif refused.name == "TIMES" and is_over:
+        advice = _SHORT
+    elif refused.name == "TIMES" and _LABEL_LINE.match(text.split(b"\n", line)[line - 1]):
+        advice = f"{_SHORT}, or this line does not begin with a digit; {_CONVERTERS}"
     return TextError(refused.name, line, f"{fault}: {_MISREAD[refused.name]}; {advice}")
 
 

@@ -1,10 +1,11 @@
 """Waiting for a search that runs in a thread of its own, so that it can be stopped."""
 
 import math
+import select
 import sys
 import threading
 import time
-from contextlib import contextmanager
+from contextlib import contextmanager, suppress
 from dataclasses import dataclass
 from typing import Callable, Generic, Iterator, Optional, TextIO, TypeVar, Union
 
@@ -98,7 +99,8 @@ _ANEW = "\r\x1b[?7l{}\x1b[K\x1b[?7h"
 
 class Lines:
     """Lines on a stream that say how far something has come: one that is written anew where a terminal shows it, else
-    several, at most two in a second. Other lines may come between them. Any thread may write them."""
+    several, at most two in a second. Other lines may come between them. Any thread may write them. A stream that is
+    gone is passed over."""
 
     def __init__(self, stream: TextIO) -> None:
         self._stream, self._is_terminal = stream, stream.isatty()
@@ -107,13 +109,14 @@ class Lines:
         self._stands, self._is_closed = False, False
 
     def __call__(self, line: object) -> None:
-        """Writes a line that says how far it is, where the last one was not written just now, and no other is being
-        written: a search does not wait for whoever reads the lines."""
+        """Writes a line that says how far it is, where the last one was not written just now, no other is being
+        written, and the stream takes it at once: a search does not wait for whoever reads the lines."""
         if not self._lock.acquire(blocking=False):
             return
         try:
             now = time.monotonic()
-            if not self._is_closed and (self._is_terminal or now - self._written >= _BETWEEN_LINES):
+            is_due = self._is_terminal or now - self._written >= _BETWEEN_LINES
+            if is_due and not self._is_closed and self._takes_a_line():
                 self._stands, self._written = self._is_terminal, now
                 self._write(_ANEW.format(line) if self._is_terminal else f"{line}\n")
         finally:
@@ -123,9 +126,7 @@ class Lines:
     def taken_back(self) -> Iterator[None]:
         """Takes back the line that a terminal shows. Meanwhile no other thread writes one."""
         with self._lock:
-            stands, self._stands = self._stands, False
-            if stands:
-                self._write("\r\x1b[K")
+            self._take_back()
             yield
 
     def keep(self, line: object) -> None:
@@ -134,14 +135,35 @@ class Lines:
             self._write(f"{line}\n")
 
     def close(self) -> None:
-        """Takes back the line that a terminal shows. No line that says how far it is comes after it."""
+        """Takes back the line that a terminal shows, unless another is being written that nobody reads. No line that
+        says how far it is comes after it."""
         self._is_closed = True
-        with self.taken_back():
-            pass
+        if self._lock.acquire(timeout=PATIENCE):
+            try:
+                self._take_back()
+            finally:
+                self._lock.release()
+
+    def _takes_a_line(self) -> bool:
+        """Whether the stream takes a line at once: not a pipe that is full, nor a terminal that was stopped."""
+        ready = select.poll()
+        try:
+            ready.register(self._stream, select.POLLOUT)
+        except (OSError, TypeError, ValueError):  # it has no file
+            return True
+        return ready.poll(0) != []
+
+    def _take_back(self) -> None:
+        """Takes back the line that a terminal shows."""
+        stands, self._stands = self._stands, False
+        if stands:
+            self._write("\r\x1b[K")
 
     def _write(self, text: str) -> None:
-        self._stream.write(text)
-        self._stream.flush()
+        """Writes a text at once."""
+        with suppress(OSError):
+            self._stream.write(text)
+            self._stream.flush()
 
 
 class Watch:
