@@ -227,6 +227,7 @@ function test_words() {
   test_word("totals", totals, "drop", "keep")
   test_word("decimal", decimal, "point", "comma")
   if (from !~ /^([1-9][0-9]*)?$/) stop("the word after from= is the number of a line")
+  if (NR && from "" != from_then "") stop("from= stands behind the name of the table: write it before")
 }
 
 # Whether a list of skip= or keep= has this name, or this number of a column. A name that is a number does not count.
@@ -662,7 +663,8 @@ function refuse_field(j, k, text,    i, row, ends) {
   row = turned ? machine_at[k] : job_at[j]
   ends = last_of[row] < (turned ? job_at[j] : machine_at[k])
   if (has_words_alone(row))
-    stop(row_place(row) " has no times: take it out of the table, if it is no " (turned ? "machine" : "job"))
+    stop(row_place(row) " has no times: take it out of the table, if it is no " (turned ? "machine" : "job") \
+      (row == 2 ? ", or write from=" at[2] " before the name of the table, if line " at[1] " is a title" : ""))
   for (i = 1; i <= machines && field_of(j, i) == ""; i++);
   if (i > machines) stop(job_place(j) " has no times: take it out of the table, or write 0 where it skips a machine")
   for (i = 1; i <= jobs && field_of(i, k) == ""; i++);
@@ -830,6 +832,7 @@ BEGIN { test_names_of_words() }
 
 FNR == 1 {
   if (NR > 1) stop("there may be one table")
+  from_then = from
   sub(/^\357\273\277/, "")
   test_kind($0)
 }

@@ -482,10 +482,15 @@ def use_command():
         (out / f"{names[1]}.old").write_bytes(b"an older text")
         (out / f"{names[1]}.old.2").symlink_to("nothing")
         there = [f"{names[1]}.old", f"{names[1]}.old.2"]
-        run = command("check", BLOCKS, "--out", out)
+        run = command("check", BLOCKS, "--out", out, "--json", out / "table")
         equal("a check of these", (run.returncode, len(run.stdout.splitlines())), (1, 1))
-        said = [line.split(".certificate: ")[0].rsplit(".", 1)[1] for line in run.stderr.splitlines()]
+        *lines, last = run.stderr.splitlines()
+        said = [line.split(".certificate: ")[0].rsplit(".", 1)[1] for line in lines]
         equal("what is said of each", said, ["1", "2", "3"])
+        absent = f"{out / names[2]}: it is not there; --out names the folder of the certificates"
+        equal("what is said of the one that is not there", lines[2], absent)
+        equal("what is said of the table", last, f"{out}/table: it is not written, since a row would be missing")
+        equal("the table that stays", json.loads((out / "table").read_text()), rows)
         run = command("certify", BLOCKS, "--out", out, "--blocks", "1,2-2", "--csv", out / "table")
         equal("two blocks", (run.returncode, len((out / "table").read_text().splitlines())), (0, 3))
         olds = [f"{names[0]}.old", f"{names[1]}.old.3"]
@@ -500,7 +505,7 @@ def use_command():
         hard = pathlib.Path(folder, "hard.txt")
         Shop.generate(20, 20, 479340445).write(hard)
         runs = [command("certify", hard, "--out", out, "--work", 1, "--directions", 1000) for _ in range(2)]
-        kept = "bounds that are there; remove it, and the block is searched anew"
+        kept = "its bounds differ; remove this file, and the block is searched anew"
         equal("bounds that are kept", [run.stderr.count(kept) for run in runs], [0, 1])
         equal("what is printed of them", runs[0].stdout.split()[-1], runs[1].stdout.split()[-1])
 
@@ -580,9 +585,12 @@ def refuse_words():
         for name in ("7", "table"):
             pathlib.Path(folder, name).write_text("7\n")
         pathlib.Path(folder, "z.2.certificate").symlink_to("table")
+        more = pathlib.Path(folder, "more")
+        more.mkdir()
+        (more / "a").write_bytes(BLOCKS.read_bytes())
         for name in ("link", "other.2.certificate"):
             pathlib.Path(folder, name).symlink_to("t.txt")
-        before = {name: pathlib.Path(folder, name).read_bytes() for name in os.listdir(folder)}
+        before = {name: pathlib.Path(folder, name).read_bytes() for name in os.listdir(folder) if name != "more"}
         here = os.path.realpath(folder)
         for words, status, said in [
             (["t.txt", "--blocks", "4"], 2, "--blocks has 4, and t.txt has the blocks 1 to 3\n"),
@@ -590,7 +598,9 @@ def refuse_words():
             (["t.txt", "--blocks", "2-1"], 2, "--blocks has 2-1, and t.txt has the blocks 1 to 3; write the smaller"),
             (["a", "--out", "t.txt"], 2, "--out is t.txt, which is a file, and has to be a folder\n"),
             ([BLOCKS, "--blocks", "x"], 2, "--blocks is x, and has to be all, or numbers such as 1,3-5"),
-            ([BLOCKS, BLOCKS], 2, "two blocks would have the certificate "),
+            (["a", "./a"], 2, "./a is given twice\n"),
+            (["a", "t.txt", "more/a"], 2, "a and more/a would have the certificate a.1.certificate; give each a run "
+             "with a folder --out of its own\n"),
             ([BLOCKS, "1"], 2, "there is no file 1; --blocks 1 is block 1 of the files"),
             (["7"], 1, "line 1 of 7 is '7'"),
             ([BLOCKS, "--seed", "0"], 2, "--seed is 0, and has to be a whole number from 1 to 2,147,483,646\n"),
@@ -628,14 +638,14 @@ def refuse_words():
             said = "flowshop: the certificate of block 1 of a would be a.1.certificate, a file that is open; give --out"
             equal("a certificate in the place of what is printed", (run.returncode, run.stderr[: len(said)]), (2, said))
         os.remove(out.name)
-        run = command("check", "t.txt", "--out", "b", "--csv", "b/c", cwd=folder)
-        said = f"flowshop: --csv is b/c, and there is no folder {here}/b\n"
+        run = command("check", "t.txt", "--out", "b", cwd=folder)
+        said = "flowshop: --out is b, and there is no such folder\n"
         equal("a folder that a check does not make", (run.returncode, run.stderr), (2, said))
         said = command("certify", TOP / "examples" / "table.csv", cwd=folder).stderr
         equal("what is said of a table", "examples/from_csv.awk makes such a file of a table" in said, True)
         equal("the status of no command", command().returncode, 2)
-        after = {name: pathlib.Path(folder, name).read_bytes() for name in os.listdir(folder)}
-        equal("that no file is written", after, before)
+        after = {name: pathlib.Path(folder, name).read_bytes() for name in os.listdir(folder) if name != "more"}
+        equal("that no file is written", (after, os.listdir(more)), (before, ["a"]))
 
 
 def shown(text):

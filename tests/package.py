@@ -232,7 +232,7 @@ def use_names():
         picture.gantt([2, 1, 3]).save(os.path.join(folder, "picture.svg"))
         equal("one that is saved", "Wë" in read(os.path.join(folder, "picture.svg")).decode(), True)
     for names, counted in (([], "0 names"), (["a"], "1 name"), ("abcd", "4 names")):
-        wanted = "NotAShop", "COUNT", 0, f"the table has 3 machines, and {counted} of machines are given"
+        wanted = "NotAShop", "COUNT", 0, f"the table has 3 machines, and machine_names has {counted}"
         for table in (ROWS, Frame(ROWS, "abc", "def")):
             got = refused(lambda table=table, names=names: Shop.from_jobs(table, machine_names=names))
             equal(counted, got, wanted)
@@ -535,6 +535,7 @@ def refuse_files():
     limits = "the jobs have to be 1 to 800, the machines 1 to 26, and each time 0 to 999,999"
     byte = "a line of numbers has something that is neither a digit nor a blank"
     number = "a number is above 4,294,967,295"
+    empty = "it is empty, or has blanks alone, as where the command that was to write it was refused"
     times, row = "there has to be one time for each job and machine", "a row before is short or missing"
     tables = "examples/from_csv.awk makes such a file of a table, and examples/from_pairs.awk of pairs of machine and "
     tables += "time"
@@ -543,8 +544,8 @@ def refuse_files():
     with tempfile.TemporaryDirectory() as folder:
         path = os.path.join(folder, "text")
         for text, name, line, sentence in [
-            (b"", "NO_BLOCK", 0, "* has no block: it is empty, or has blanks alone"),
-            (b" \n\n", "NO_BLOCK", 0, "* has no block: it is empty, or has blanks alone"),
+            (b"", "NO_BLOCK", 0, f"* has no block: {empty}"),
+            (b" \n\n", "NO_BLOCK", 0, f"* has no block: {empty}"),
             (b"1 2\n", "LABEL", 1, f"line 1 of * is '1 2': {words}; {tables}"),
             (b"a\n1;2\n", "BYTE", 2, f"line 2 of * is '1;2': {byte}; {tables}"),
             (b"a\n4294967296", "NUMBER", 2, f"line 2 of * is '4294967296': {number}; {tables}"),
@@ -575,7 +576,7 @@ def refuse_tables():
     """Tables that are no shop, each with its place, and a sentence with the value, the limit and what to do."""
     jobs = "one for each job, and a shop has 1 to 800 jobs"
     machines = "one for each machine, and a shop has 1 to 26 machines"
-    turn = "; this table would fit with {0} as rows: Shop.from_{0}".format
+    turn = "; if its rows are {0}, it is a table for Shop.from_{0}".format
     whole = "and has to be a whole number; choose a unit in which all are whole, and convert them to int"
     skip = "write 0 where a job skips a machine"
     limit = "and has to be from 0 to 999,999"

@@ -105,7 +105,7 @@ def _certified(work: Work, search: _Search) -> Row:
     try:
         kept = work.shop.check(work.path)
         if not kept.optimal:
-            search.lines.keep(f"{work.path}: bounds that are there; remove it, and the block is searched anew")
+            search.lines.keep(f"{work.path}: its bounds differ; remove this file, and the block is searched anew")
         return row_of(work, kept, None)
     except FileNotFoundError:
         pass
@@ -207,7 +207,7 @@ def run(options: argparse.Namespace) -> int:
     limit = options.time_limit
     if limit is not None and not limit >= 0:
         raise WordError(f"--time-limit is {limit:g}, and has to be a number of seconds from 0 on")
-    works = works_of(options, is_made=True)
+    works = works_of(options)
     make_folder(options.out)
     try:
         with _one_interrupt(), _workers(options.executor, count) as workers, closing(Lines(sys.stderr)) as lines:

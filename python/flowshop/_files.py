@@ -9,7 +9,6 @@ import os
 import re
 import tempfile
 import threading
-from collections import Counter
 from dataclasses import asdict, dataclass, fields
 from pathlib import Path
 from typing import Any, Dict, List, NamedTuple, Optional, TextIO, Tuple
@@ -97,10 +96,22 @@ def _tables(options: argparse.Namespace) -> List[Tuple[str, str]]:
     return [(word, table) for word, table in (("--csv", options.csv), ("--json", options.json)) if table is not None]
 
 
-def _refuse_no_place(options: argparse.Namespace, is_made: bool) -> None:
+def _refuse_same_names(works: List[Work]) -> None:
+    """WordError where two blocks would have the same certificate."""
+    seen: Dict[Path, Work] = {}
+    for work in works:
+        other = seen.setdefault(work.path, work)
+        if other is not work and os.path.samefile(other.file, work.file):
+            raise WordError(f"{work.file} is given twice")
+        if other is not work:
+            clash = f"{other.file} and {work.file} would have the certificate {work.path}"
+            raise WordError(f"{clash}; give each a run with a folder --out of its own")
+
+
+def _refuse_no_place(options: argparse.Namespace) -> None:
     """WordError where the file of the table could not be written at the end: it has no name, or is a folder, or stands
-    in none; the folder of the certificates may be made before."""
-    made = os.path.join(os.path.realpath(options.out), "") if is_made else ""
+    in none, nor in one that is made for the certificates."""
+    made = os.path.join(os.path.realpath(options.out), "")
     for word, table in _tables(options):
         folder = os.path.dirname(os.path.realpath(table))
         if not table:
@@ -129,10 +140,9 @@ def _refuse_to_overwrite(works: List[Work], options: argparse.Namespace) -> None
             raise WordError(f"{word} is {table}, {what}; the table has to have a file of its own")
 
 
-def works_of(options: argparse.Namespace, is_made: bool) -> List[Work]:
+def works_of(options: argparse.Namespace) -> List[Work]:
     """The blocks that the words name, in their order. TextError or OSError where a file is not read, WordError where
-    one would be overwritten, or none could be written, or a word is none. The folder of the certificates may be made
-    afterwards."""
+    one would be overwritten, or none could be written, or a word is none."""
     if os.path.exists(options.out) and not os.path.isdir(options.out):
         raise WordError(f"--out is {options.out}, which is a file, and has to be a folder")
     works = []
@@ -143,10 +153,8 @@ def works_of(options: argparse.Namespace, is_made: bool) -> List[Work]:
         for number in _numbers(options.blocks, len(blocks), file):
             path = Path(options.out, f"{Path(file).name}.{number}.certificate")
             works.append(Work(file, number, blocks[number - 1].shop, path))
-    for path, count in Counter(work.path for work in works).items():
-        if count > 1:
-            raise WordError(f"two blocks would have the certificate {path}; give each folder a run of its own")
-    _refuse_no_place(options, is_made)
+    _refuse_same_names(works)
+    _refuse_no_place(options)
     _refuse_to_overwrite(works, options)
     return works
 

@@ -91,7 +91,7 @@ class _Given:
         sentence = f"this table has {counted(count, side)}, one for each {kind}, and a shop has 1 to {most} {kind}s"
         if 1 <= machines <= MOST_JOBS and 1 <= jobs <= MOST_MACHINES:
             other = "machines" if self.has_job_rows else "jobs"
-            sentence += f"; this table would fit with {other} as rows: Shop.from_{other}"
+            sentence += f"; if its rows are {other}, it is a table for Shop.from_{other}"
         raise NotAShop(name, 0, sentence)
 
 
@@ -236,7 +236,7 @@ def _packed_buffer(given: _Given) -> Optional[Tuple[int, int, bytes]]:
 def _tested(kind: str, count: int, names: Optional[Names]) -> Optional[Names]:
     """The names of the jobs or of the machines; None where they are the numbers from 1."""
     if names is not None and len(names) != count:
-        sentence = f"the table has {counted(count, kind)}, and {counted(len(names), 'name')} of {kind}s are given"
+        sentence = f"the table has {counted(count, kind)}, and {kind}_names has {counted(len(names), 'name')}"
         raise NotAShop("COUNT", 0, sentence)
     return None if names == tuple(range(1, count + 1)) else names
 

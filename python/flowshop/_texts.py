@@ -173,7 +173,8 @@ _SHORT = "a row before is short or missing"
 def _misread(refused: Refused, path: Path, text: bytes) -> TextError:
     """The refusal of a file that is no benchmark text."""
     if refused.name not in _MISREAD:
-        return TextError(refused.name, refused.place, f"{path} has no block: it is empty, or has blanks alone")
+        why = "it is empty, or has blanks alone, as where the command that was to write it was refused"
+        return TextError(refused.name, refused.place, f"{path} has no block: {why}")
     line, is_over = refused.place, refused.place > _count_of_lines(text)
     fault = f"{path} ends after line {line - 1}" if is_over else f"line {line} of {path} is {_line(text, line)}"
     advice = _CONVERTERS
