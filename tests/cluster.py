@@ -14,6 +14,7 @@ import pathlib
 import pty
 import random
 import re
+import shutil
 import signal
 import subprocess
 import sys
@@ -29,6 +30,7 @@ from plain_search import PlainShop
 import flowshop
 from flowshop import Interrupted, Shop, _certify, _command_certify, _files, _library, _parts, _spread, _texts, _threads
 from flowshop import _waiting
+from flowshop.__main__ import main
 
 TOP = pathlib.Path(__file__).resolve().parent.parent
 BLOCKS = TOP / "examples" / "several_blocks.txt"
@@ -501,6 +503,12 @@ def use_command():
         equal("an older one", (out / f"{names[1]}.old").read_bytes(), b"an older text")
         equal("what else is there", sorted(os.listdir(out)), sorted([*names[:2], *olds, *there, "table"]))
         equal("a check of two", command("check", BLOCKS, "--out", out, "--blocks", "1-2").returncode, 0)
+        said = f"flowshop: --out is {out}, where no file can be written: Read-only file system\n"
+        for blocks, ended in (("1-2", (0, "")), ("1-3", (2, said))):
+            with mock.patch.object(_files.tempfile, "TemporaryFile", side_effect=OSError(30, "Read-only file system")):
+                with contextlib.redirect_stderr(io.StringIO()) as stderr, contextlib.redirect_stdout(io.StringIO()):
+                    status = main(["certify", str(BLOCKS), "--out", str(out), "--blocks", blocks])
+            equal(f"the blocks {blocks} in a folder that takes no file", (status, stderr.getvalue()), ended)
         # Bounds that differ are kept too, and a line says so.
         hard = pathlib.Path(folder, "hard.txt")
         Shop.generate(20, 20, 479340445).write(hard)
@@ -575,6 +583,17 @@ def keep_streams():
         with mock.patch.object(os, "listdir", side_effect=FileNotFoundError), open(table, "w"):
             _files.save(table, b"whole\n")
         equal("a file, where no streams are listed", table.read_text(), "whole\n")
+        (inner := pathlib.Path(folder, "inner")).mkdir()
+        with open(inner / "table", "w+") as out:
+            shutil.rmtree(inner)
+            name, passed = f"/proc/self/fd/{out.fileno()}", [out.fileno()]
+            status = subprocess.run([*words, name], pass_fds=passed, **run).returncode
+            out.seek(0)
+            equal("a file whose folder is gone", (status, out.read()), (0, "".join(printed[4:])))
+        with mock.patch.object(os, "replace") as moved:
+            for number in (1, 2):
+                _files.save(pathlib.Path(folder, f"{'n' * 100}.{number}"), b"")
+        equal("names until a file is whole", len({call.args[0] for call in moved.call_args_list}), 2)
 
 
 def refuse_words():
@@ -621,7 +640,6 @@ def refuse_words():
             (["a", "a.3.certificate"], 2, "the certificate of block 3 of a would be a.3.certificate, a file that is"),
             (["z", "--csv", "table"], 2, "--csv is table, a file for a certificate"),
             (["t.txt", "--csv", ""], 2, "--csv is empty, and has to be the name of a file\n"),
-            (["t.txt", "--out", "/proc"], 2, "--out is /proc, where no file can be written: "),
             (["t.txt", "--csv", "b/c"], 2, f"--csv is b/c, and there is no folder {here}/b\n"),
             (["t.txt", "--out", "b/c", "--json", "b/d/e"], 2, f"--json is b/d/e, and there is no folder {here}/b/d\n"),
             (["t.txt", "--out", "b/cd", "--csv", "b/c/e"], 2, f"--csv is b/c/e, and there is no folder {here}/b/c\n"),

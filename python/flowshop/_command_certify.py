@@ -208,7 +208,8 @@ def run(options: argparse.Namespace) -> int:
     if limit is not None and not limit >= 0:
         raise WordError(f"--time-limit is {limit:g}, and has to be a number of seconds from 0 on")
     works = works_of(options)
-    make_folder(options.out)
+    if not all(work.path.is_file() for work in works):
+        make_folder(options.out)
     try:
         with _one_interrupt(), _workers(options.executor, count) as workers, closing(Lines(sys.stderr)) as lines:
             table = Table(works, options, sys.stdout)

@@ -118,7 +118,8 @@ def _refuse_no_place(options: argparse.Namespace) -> None:
             raise WordError(f"{word} is empty, and has to be the name of a file")
         if os.path.isdir(table):
             raise WordError(f"{word} is {table}, which is a folder, and has to be a file")
-        if not os.path.isdir(folder) and not made.startswith(os.path.join(folder, "")):
+        has_folder = os.path.isdir(folder) or os.path.exists(table)  # an open file may have none that is seen here
+        if not has_folder and not made.startswith(os.path.join(folder, "")):
             raise WordError(f"{word} is {table}, and there is no folder {folder}")
 
 
@@ -196,7 +197,8 @@ def save(path: Path, text: bytes) -> None:
                 stream.write(text)
             return
         path = Path(os.path.realpath(path))
-        new = path.with_name(f".{path.name[:40]}.{os.getpid()}.new")  # no longer than a name may be
+        key = hashlib.sha256(os.fsencode(path.name)).hexdigest()[:40]  # the name itself may be as long as names may be
+        new = path.with_name(f".{key}.{os.getpid()}.new")
         try:
             with open(new, "wb") as file:
                 file.write(text)
