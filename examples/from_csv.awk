@@ -10,9 +10,32 @@ function table() {
   return FILENAME == "" || FILENAME == "-" ? "table" : FILENAME
 }
 
+# A line as a terminal may show it: a sign that steers it, or turns the direction of writing, stands there as \x1b.
+function shown(text,    code, i, part, parts) {
+  for (code in control) {
+    if (!index(text, control[code])) continue
+    parts = split(text, part, control[code])
+    text = part[1]
+    for (i = 2; i <= parts; i++) text = text code part[i]
+  }
+  return text
+}
+
+# Those signs: of ASCII, of the next 32, where some kinds of awk see two bytes, and of the direction.
+BEGIN {
+  for (i = 1; i < 32; i++) control[sprintf("\\x%02x", i)] = sprintf("%c", i)
+  control["\\x7f"] = "\177"
+  for (i = 128; i < 160; i++)
+    control[sprintf("\\x%02x", i)] = length("\302\200") == 1 ? sprintf("%c", i) : sprintf("%c%c", 194, i)
+  i = split("2028 \342\200\250 2029 \342\200\251 202a \342\200\252 202b \342\200\253 202c \342\200\254" \
+    " 202d \342\200\255 202e \342\200\256 2066 \342\201\246 2067 \342\201\247 2068 \342\201\250" \
+    " 2069 \342\201\251", part, " ")
+  for (; i > 1; i -= 2) control["\\u" part[i - 1]] = part[i]
+}
+
 # Says what is wrong, and ends.
 function stop(why) {
-  print table() ": " why >"/dev/stderr"
+  print shown(table() ": " why) >"/dev/stderr"
   stopped = 1
   exit 1
 }
@@ -802,7 +825,7 @@ function report(    k, text, several) {
   several = names_of_several()
   if (several != "") text = text "; name of several jobs: " several
   if (left_out != "") text = text "; left out: " left_out
-  print table() ": " text >"/dev/stderr"
+  print shown(table() ": " text) >"/dev/stderr"
 }
 
 # The label lines of the shop.

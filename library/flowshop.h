@@ -11,22 +11,24 @@
  *
  * Each call but flowshop_version returns its outcome: a status, which is FLOWSHOP_DONE or the number of what is wrong,
  * the first fault in the order that the call lists; and a place. FLOWSHOP_MEMORY, where memory ran out, can come in the
- * place of any later fault. A call that is not done changes nothing. The place is that of the fault: which time or
- * which job of the list, counted from 1; which line of a text; which prefix is over the budget, counted from 0; how
- * many entries a slice needs (FLOWSHOP_ROOM); how many blocks a text has (FLOWSHOP_INDEX); else 0.
+ * place of any later fault. On a processor that lacks something of x86-64-v2, for which the library is compiled, each
+ * outcome is FLOWSHOP_CPU. A call that is not done changes nothing. The place is that of the fault: which time or which
+ * job of the list, counted from 1; which line of a text; which prefix is over the budget, counted from 0; how many
+ * entries a slice needs (FLOWSHOP_ROOM); how many blocks a text has (FLOWSHOP_INDEX); else 0.
  *
  * Results stand in records, whose slices are room for lists and texts. A call writes entries of them, and the numbers
  * beside them; it never changes where a slice is, nor how many entries it has. Where there are more entries than a
  * result needs, the others stay as they were. A record can begin as {0}, before its slices are set.
  *
- * The calls keep no state, so that any number of threads may call them at once. They start no thread and take no
- * lock. They use malloc, realloc and free. No call may come from a signal handler.
+ * The calls keep no state, but that the processor was tested, so that any number of threads may call them at once. They
+ * start no thread and take no lock. They use malloc, realloc and free. No call may come from a signal handler.
  *
  * What is proved: each call, for all arguments that are passed as said above, reads and writes only what it is lent,
  * returns, and gives what its comment says: the status, the value, the sequence, the certificate. The contracts stand
  * in crates/flow_c/src, and the numbers of the statuses in crates/flow_c/specs/Statuses.antt. Not proved are how
  * the searches of flowshop_improve, flowshop_beam and flowshop_rounds go, and so how good what they reach is, and what
- * `whole` says of them; this header, the compiler, the C library, and how much time or memory a call takes. */
+ * `whole` says of a makespan above Taillard's bound; this header, the test of the processor (library/cpu.s), the
+ * compiler, the C library, and how much time or memory a call takes. */
 #ifndef FLOWSHOP_H
 #define FLOWSHOP_H
 
@@ -73,10 +75,19 @@ enum flowshop_limit {
     FLOWSHOP_MAX_VERSION = 2
 };
 
+/* How many bytes of stack the thread of a call needs, whatever the shop is; with less a call may end the process by
+ * SIGSEGV. With the most jobs and machines flowshop_certify took 1.3 MB and flowshop_prove 1.2 MB, some 1500 bytes for
+ * each job; of the other calls none took more than 81 kB. */
+enum flowshop_stack {
+    FLOWSHOP_STACK = 2097152, /* of flowshop_certify and flowshop_prove */
+    FLOWSHOP_SMALL_STACK = 131072 /* of each other call */
+};
+
 enum flowshop_status {
     FLOWSHOP_DONE = 0,
     FLOWSHOP_MEMORY = 1, /* memory ran out */
     FLOWSHOP_ROOM = 2, /* a slice for results is too short; place: the entries that it needs */
+    FLOWSHOP_CPU = 3, /* the processor lacks something of x86-64-v2, such as SSE4.2 or POPCNT */
 
     /* The numbers are no shop. */
     FLOWSHOP_JOBS = 10, /* the jobs are not 1 to 800 */
@@ -176,8 +187,8 @@ typedef struct flowshop_reached {
     uint16_t *sequence;
     size_t sequence_count;
     uint64_t makespan;
-    uint32_t whole; /* 1 where the search ended because the makespan has Taillard's bound, or because a pass dropped
-                     * nothing; else 0. Nothing proves that no sequence has a smaller makespan then. */
+    uint32_t whole; /* 1 where the makespan has Taillard's bound, so that no sequence has a smaller one, or where the
+                     * search ended because a pass dropped nothing, of which nothing proves that; else 0. */
 } flowshop_reached;
 
 /* Room for a sequence, and bounds between which the least makespan lies. Bounds that are equal are the least makespan;
@@ -262,6 +273,7 @@ static inline const char *flowshop_status_name(uint32_t status) {
     case FLOWSHOP_DONE: return "DONE";
     case FLOWSHOP_MEMORY: return "MEMORY";
     case FLOWSHOP_ROOM: return "ROOM";
+    case FLOWSHOP_CPU: return "CPU";
     case FLOWSHOP_JOBS: return "JOBS";
     case FLOWSHOP_MACHINES: return "MACHINES";
     case FLOWSHOP_COUNT: return "COUNT";
@@ -302,7 +314,7 @@ static inline const char *flowshop_status_name(uint32_t status) {
 }
 
 /* The version of the library as one number: a million for each major version, a thousand for each minor one, and the
- * patches. It is no outcome. */
+ * patches. It is no outcome, and every x86-64 processor gives it. */
 uint32_t flowshop_version(void) FLOWSHOP_NOEXCEPT;
 
 /* The shop of a seed, by Taillard's generator: each time is drawn from 1 to 99. The first jobs * machines entries of
@@ -396,8 +408,7 @@ FLOWSHOP_CALL flowshop_outcome flowshop_certify(const flowshop_shop *shop, const
  * many jobs follow, and an end; then the first list, the last list and the jobs. Where the end is 0 the part is the
  * node of the two lists, and no jobs follow. Else it is some children of that node, one after the other, or none: those
  * that put these jobs at the front (1), behind the first list, or at the back (2), before the last list. No part needs
- * more than jobs + 4 entries. (jobs + 4) * (jobs + 1) entries have been enough for all parts; that they always are,
- * nothing proves.
+ * more than jobs + 4 entries, and there are no more parts than jobs: jobs * (jobs + 4) entries are enough for all.
  * The directions of a search are those of its parts, joined in order, up to the first part that has a sequence below
  * the number; and what one of them comes to does not depend on the others. So parts can be searched at once, and
  * elsewhere. What a call does not write stays as it was. `rest` is tested when the search has ended.

@@ -25,6 +25,7 @@ METADATA = f"""Metadata-Version: 2.1
 Name: flowshop
 Version: {VERSION}
 Summary: Exact permutation flow shops, with certificates that a proved checker reads
+Supported-Platform: linux-x86-64-v2
 Author: the Rikuembo authors
 License: MIT OR Apache-2.0
 {"".join(f"License-File: {name}" + chr(10) for name in LICENSES)}\

@@ -39,6 +39,8 @@ HARD = Shop.generate(30, 15, 7)
 SOME = Shop.generate(20, 10, 1)
 FEW = {"width": 20, "rounds": 20, "seed": 3, "work": 7, "directions": 30_000}
 LONG = {"width": 16, "rounds": 10, "work": 1, "directions": 1_000_000_000}
+# A table of an earlier run.
+OLD = "file,block,jobs,machines,lower,upper,directions,seconds,sha256\nolder,0,1,1,1,1,0,,\n"
 
 
 def shuffled(seed):
@@ -186,8 +188,9 @@ def follow_manual():
             equal("what is taken", SOME.certify(**choice).upper, upper - 2)
         rounds = [words for words in Traced.asked if words[0] == "rounds"]
         equal("rounds after that", rounds, [("rounds", 30, 3, 1_000_000), ("rounds", 0, 3, 4_000_000)])
-    long = Shop.from_jobs([[9, 9, 9], [1, 1, 1]])._parts[:3]
-    equal("bounds without a search", (_certify.root_bound(long), _certify.taillard_bound(long)), (12, 27))
+    long = Shop.from_jobs([[9, 9, 9], [1, 1, 1]])
+    bounds = long.bound(), _certify.taillard_bound(long._parts[:3], 12), _certify.taillard_bound(long._parts[:3], 30)
+    equal("bounds without a search", bounds, (12, 27, 30))
 
 
 def compare_searches():
@@ -476,6 +479,8 @@ def use_command():
             equal("the texts", [(out / name).read_bytes() for name in names], [found.text for found in wanted])
             searched = [row["seconds"] is not None for row in rows]
             equal(f"what is searched by {executor}", searched, [executor == "threads"] * 3)
+            places = [len(str(row["seconds"]).partition(".")[2]) for row in rows]
+            equal("the decimals of the seconds", max(places) < 4, True)
         # The text of another block, one that is cut off, and one that is not there.
         unlawful = [wanted[1].text, wanted[1].text[:-1]]
         for name, text in zip(names, unlawful):
@@ -489,7 +494,7 @@ def use_command():
         *lines, last = run.stderr.splitlines()
         said = [line.split(".certificate: ")[0].rsplit(".", 1)[1] for line in lines]
         equal("what is said of each", said, ["1", "2", "3"])
-        absent = f"{out / names[2]}: it is not there; --out names the folder of the certificates"
+        absent = f"{out / names[2]}: it is not there; --out names the folder, and certify gives the files these names"
         equal("what is said of the one that is not there", lines[2], absent)
         equal("what is said of the table", last, f"{out}/table: it is not written, since a row would be missing")
         equal("the table that stays", json.loads((out / "table").read_text()), rows)
@@ -503,7 +508,8 @@ def use_command():
         equal("an older one", (out / f"{names[1]}.old").read_bytes(), b"an older text")
         equal("what else is there", sorted(os.listdir(out)), sorted([*names[:2], *olds, *there, "table"]))
         equal("a check of two", command("check", BLOCKS, "--out", out, "--blocks", "1-2").returncode, 0)
-        said = f"flowshop: --out is {out}, where no file can be written: Read-only file system\n"
+        why = "where no file can be written: Read-only file system; name a folder that you may write in"
+        said = f"flowshop: --out is {out}, {why}\n"
         for blocks, ended in (("1-2", (0, "")), ("1-3", (2, said))):
             with mock.patch.object(_files.tempfile, "TemporaryFile", side_effect=OSError(30, "Read-only file system")):
                 with contextlib.redirect_stderr(io.StringIO()) as stderr, contextlib.redirect_stdout(io.StringIO()):
@@ -537,7 +543,7 @@ def keep_links_and_pipes():
     """A table goes through a link and into a pipe, and both stay."""
     with tempfile.TemporaryDirectory() as folder:
         file, link, pipe = (pathlib.Path(folder, name) for name in ("file", "link", "pipe"))
-        file.write_text("before")
+        file.write_text(OLD)
         link.symlink_to("file")
         os.mkfifo(pipe)
         words = ["certify", BLOCKS, "--out", pathlib.Path(folder, "out")]
@@ -576,7 +582,7 @@ def keep_streams():
             equal(f"what stood in {name}", (status, file.read_text()), (0, "".join(["before\n", *printed])))
         equal("a link that stays", os.readlink(link), "/proc/self/fd/1")
         for name in (table, "/proc/self/cwd/table"):
-            table.write_text("before\n")
+            table.write_text(OLD)
             with open(table) as read:
                 status = subprocess.run([*words, name], stdin=read, **run).returncode
             equal(f"what is in {name}", (status, table.read_text()), (0, "".join(printed[4:])))
@@ -609,6 +615,9 @@ def refuse_words():
         (more / "a").write_bytes(BLOCKS.read_bytes())
         for name in ("link", "other.2.certificate"):
             pathlib.Path(folder, name).symlink_to("t.txt")
+        pathlib.Path(folder, "orders.csv").write_text("file,block,jobs\nShelf,1,2\n")
+        pathlib.Path(folder, "rows.json").write_text("[]\n")
+        pathlib.Path(folder, "to orders").symlink_to("orders.csv")
         before = {name: pathlib.Path(folder, name).read_bytes() for name in os.listdir(folder) if name != "more"}
         here = os.path.realpath(folder)
         for words, status, said in [
@@ -643,7 +652,11 @@ def refuse_words():
             (["t.txt", "--csv", "b/c"], 2, f"--csv is b/c, and there is no folder {here}/b\n"),
             (["t.txt", "--out", "b/c", "--json", "b/d/e"], 2, f"--json is b/d/e, and there is no folder {here}/b/d\n"),
             (["t.txt", "--out", "b/cd", "--csv", "b/c/e"], 2, f"--csv is b/c/e, and there is no folder {here}/b/c\n"),
-            (["t.txt", "--json", "."], 2, "--json is ., which is a folder, and has to be a file\n"),
+            *[(["t.txt", "--json", name], 2, f"--json is {name}, which is a folder, and has to be a file\n")
+              for name in (".", "new/", "new/.", "new/..", "more/../new/")],
+            *[(["t.txt", f"--{kind}", name], 2, f"--{kind} is {name}, a file that is no table of this command and would"
+               " be replaced; name another file, or remove this one\n") for kind in ("csv", "json")
+              for name in ("orders.csv", "to orders", "./more/../orders.csv", "rows.json")],
             (["t.txt", "other"], 2, "the certificate of block 2 of other would be other.2.certificate, a file that"),
             *([] if find_spec("mpi4py") else [([BLOCKS, "--executor", "mpi"], 2, "--executor needs a package")]),
         ]:
@@ -747,7 +760,7 @@ def stop_command():
             out.mkdir()
             unlawful, last = (out / f"shops.txt.{number}.certificate" for number in (1, 4))
             unlawful.write_text("none\n")
-            table.write_text("older rows\n")
+            table.write_text(OLD)
             words = [sys.executable, "-m", "flowshop", "certify", file, "--out", out, "--workers", "2", *wide]
             words += ["--executor", executor, "--csv", table]
             with on_terminal(["bash", "-c", 'for i in 1 2; do "$@"; done', "bash", *words]) as (run, written):
@@ -865,7 +878,7 @@ def write_to_full_pipes():
         equal("a run with a limit", (run.returncode, len(table.read_text().splitlines())), (0, 5))
         for number, both in enumerate((False, True)):
             out = pathlib.Path(folder, f"out {number}")
-            table.write_text("older rows\n")
+            table.write_text(OLD)
             streams["stdout"] = written if both else subprocess.DEVNULL
             with subprocess.Popen([*words, *hard, "--out", out], **streams) as run:
                 ends = time.monotonic() + 60
@@ -880,7 +893,7 @@ def write_to_full_pipes():
                 equal(f"a run that nobody reads, {both}", run.poll(), -signal.SIGINT)
                 run.kill()
             rows = [line.split(",")[1] for line in table.read_text().splitlines()[1:]]
-            equal(f"the table of a run that nobody reads, {both}", rows, [] if both else [*"234"])
+            equal(f"the table of a run that nobody reads, {both}", rows, ["0"] if both else [*"234"])
         os.close(read)
         limit = ["--blocks", "1", "--out", pathlib.Path(folder, "out 2"), "--time-limit", "1"]
         run = subprocess.run([*words, *limit], timeout=60, check=False, stdout=subprocess.DEVNULL, stderr=written)

@@ -16,6 +16,9 @@ import pathlib
 import pickle
 import random
 import re
+import resource
+import subprocess
+import sys
 import tempfile
 import warnings
 import xml.etree.ElementTree
@@ -24,7 +27,8 @@ from unittest import mock
 from counts import end, equal, refused
 
 import flowshop
-from flowshop import Certificate, FlowshopError, Operation, Shop, _library, _options, _parts, _texts
+from flowshop import Certificate, FlowshopError, Operation, Shop, Start
+from flowshop import _library, _options, _parts, _stack, _texts
 from flowshop import __main__ as command
 
 try:
@@ -133,6 +137,7 @@ def compare_header():
         wanted = numbers.get(f"MIN_{name.upper()}", 0 if name in ("width", "rounds", "work", "depth") else 1)
         equal(f"the least of {name}", least, wanted)
     equal("the most trees", _options.MOST_TREES, numbers["MAX_PREFIXES"])
+    equal("room for calls on a stack", _stack.STACK >= numbers["STACK"] > numbers["SMALL_STACK"], True)
     equal("the greatest time", _library.MOST_TIME, numbers["MAX_TIME"])
 
 
@@ -210,7 +215,7 @@ def use_names():
     picture = Shop.from_jobs(ROWS, job_names=["Shelf", "D", "<T&>\n"], machine_names=["Cut", "Wë", "Painting shop"])
     drawing = xml.etree.ElementTree.fromstring(picture.gantt([2, 1, 3]))
     titles = [element.text for element in drawing.iter("{http://www.w3.org/2000/svg}title")]
-    equal("the names in a picture", (titles[1], titles[4]), ("D, Wë, start 0, end 8", "<T&> , Wë, start 8, end 10"))
+    equal("the names in a picture", (titles[1], titles[4]), ("D, Wë, start 0, end 8", "<T&>\\n, Wë, start 8, end 10"))
     labels = [element.text for element in drawing.iter("{http://www.w3.org/2000/svg}text")]
     named = [label in labels for label in ("Cut", "Wë", "Painting shop", "machine 1")]
     equal("before its rows", named, [True, True, True, False])
@@ -301,6 +306,29 @@ def use_frames():
     frame = pandas.DataFrame({"Job": ["Shelf"], "Cut": [1]})
     wanted = "the time in row 1, column 1 (Job) is the text 'Shelf', and has to be a whole number; convert it to int"
     equal("names in a column", refused(lambda: Shop.from_jobs(frame))[3].startswith(wanted), True)
+
+
+def escape_names():
+    """Of a name, what is not seen or moves what stands beside it is printed and drawn as in a text of Python; the rest
+    as it is."""
+    svg = "{http://www.w3.org/2000/svg}"
+    hidden = [chr(code) for code in (*range(32), *range(127, 160), *range(0x2028, 0x202F), *range(0x2066, 0x206A))]
+    hidden += ["\ud800", "\udfff", "\ufffe", "\uffff"]
+    for sign in [*hidden, " ", "\xa0", "\xad", "\u200d", "\u3000", "é", "𝓍", "\\"]:
+        name, wanted = f"a{sign}b", f"a{repr(sign)[1:-1] if sign in hidden else sign}b"
+        shop = Shop.from_jobs([[9, 9]], job_names=[name], machine_names=[name, 7])
+        equal(f"{name!r} of a shop", repr(shop), f"Shop(1 job: {wanted}; 2 machines: {wanted}, 7)")
+        results = [shop.neh(), shop.prove(19), Start((1,), 18, (name,))]
+        said = [f"{kind}(makespan 18: {wanted})" for kind in ("Start", "Below", "Start")]
+        equal(f"{name!r} of a start", [*map(repr, results)], said)
+        drawing = xml.etree.ElementTree.fromstring(shop.gantt([1]))
+        titles = [each.text for each in drawing.iter(f"{svg}title")][1:]
+        bars = [f"{wanted}, {wanted}, start 0, end 9", f"{wanted}, 7, start 9, end 18"]
+        equal(f"{name!r} in a picture", titles, bars)
+        labels = [each.text for each in drawing.iter(f"{svg}text")]
+        equal(f"{name!r} in bars and rows", labels.count(wanted), 3)
+    # A name with a comma stands in quotation marks, where Python writes it.
+    equal("with a comma", repr(Shop.from_jobs([[1]], job_names=["\x1b,"])), "Shop(1 job: '\\x1b,'; 1 machine)")
 
 
 def use_results():
@@ -522,9 +550,14 @@ def refuse_label(text, line, said):
         pathlib.Path(path).write_text(text, encoding="utf-8")
         sentence = f"line {line} of {path} {said}"
         equal(f"the labels of {text!r}", refused(lambda: Shop.read(path)), ("TextError", "LABEL", line, sentence))
-        for name, out in [("certify", folder), ("check", folder), ("report", os.path.join(folder, "report.html"))]:
+        block = "2" if line > 3 else "1"
+        for name, *words in [
+            ("certify", path, "--out", folder),
+            ("check", path, "--out", folder),
+            ("report", path, block, "--out", os.path.join(folder, "report.html")),
+        ]:
             with contextlib.redirect_stderr(io.StringIO()) as errors, contextlib.redirect_stdout(io.StringIO()):
-                status = command.main([name, path, "--out", out])
+                status = command.main([name, *words])
             equal(f"{name} of {text!r}", (status, errors.getvalue()), (1, f"flowshop: {sentence}\n"))
 
 
@@ -648,18 +681,55 @@ def refuse_sequences():
         equal(f"many that are {said}", refused(lambda many=many: SHOP.makespans(many)), wanted)
 
 
+def check_bounds():
+    """What the command check says of bounds that differ: of a lower one that no search has raised, here of 10 and less,
+    and where a least makespan is asked for, the line of the program."""
+    low, root = (b"flowshop two-ended 1\n3 3\n%d 13\n2 1 3\n\nend\n" % lower for lower in (9, 10))
+    less = "its lower bound is 9, and 10 takes no search; remove this file, and certify writes one that proves so much"
+    simple = "its lower bound of 10 takes no search, and certify may prove a higher one"
+    with tempfile.TemporaryDirectory() as folder:
+        path, text = os.path.join(folder, "shop.txt"), pathlib.Path(folder, "shop.txt.1.certificate")
+        SHOP.write(path)
+        for name, given, lower, upper, said in [
+            ("a least makespan", LEAST, 12, 12, ""),
+            ("one with a tree", TREE, 12, 12, ""),
+            ("a bound that was raised", BOUNDS, 11, 13, ""),
+            ("a bound that was not", root, 10, 13, simple),
+            ("a lower one", low, 9, 13, less),
+        ]:
+            text.write_bytes(given)
+            row = [path, "1", "3", "3", str(lower), str(upper)]
+            refusal = f"refused bounds {lower} {upper}"
+            for words, wanted in [
+                ([], (0, [row], said)),
+                (["--optimal"], (0, [row], said) if lower == upper else (1, [], refusal)),
+            ]:
+                with contextlib.redirect_stderr(io.StringIO()) as errors:
+                    with contextlib.redirect_stdout(io.StringIO()) as out:
+                        status = command.main(["check", path, "--out", folder, *words])
+                rows = [line.split()[:6] for line in out.getvalue().splitlines()[1:]]
+                got = status, rows, errors.getvalue()
+                equal(f"{name}, with {words}", got, (*wanted[:2], wanted[2] and f"{text}: {wanted[2]}\n"))
+        # A table that would lack a row is not written.
+        table = os.path.join(folder, "table.csv")
+        with contextlib.redirect_stderr(io.StringIO()), contextlib.redirect_stdout(io.StringIO()):
+            command.main(["check", path, "--out", folder, "--optimal", "--csv", table])
+        equal("a table of bounds where an optimum is asked for", os.path.exists(table), False)
+
+
 def refuse_texts():
     """Texts that are no lawful certificate, with the line at fault."""
     changed = "the text was cut off or changed, or is of another shop"
+    other = f"a sequence of another makespan than line 3 says; {changed}"
     for text, old, new, name, place, sentence in [
         (BOUNDS, BOUNDS, b"", "HEADER", 1, "line 1 is missing, and has to name a certificate, as in 'flowshop t"),
         (BOUNDS, b"two-ended 1", b"two-ended 2", "HEADER", 1, "line 1 is 'flowshop two-ended 2', and has to name"),
         (BOUNDS, b"3 3", b"3 2", "SIZE", 2, "line 2 is '3 2', which is not of a shop with jobs 3 and machines 3"),
         (BOUNDS, b"11 13", b"11", "VALUE", 3, "line 3 is '11', and has to be the value that is proved, or both bounds"),
         (BOUNDS, b"2 1 3", b"2 1 2", "SEQUENCE", 4, "line 4 is '2 1 2', and has to have each job from 1 to 3 once"),
-        (BOUNDS, b"11 13", b"11 14", "NOT_ATTAINED", 4, "line 4 is '2 1 3', a sequence of another"),
-        (BOUNDS, b"11 13", b"10 12", "NOT_ATTAINED", 4, "line 4 is '2 1 3', a sequence of another"),
-        (BOUNDS, b"2 1 3", b"1 2 3", "NOT_ATTAINED", 4, "line 4 is '1 2 3', a sequence of another"),
+        (BOUNDS, b"11 13", b"11 14", "NOT_ATTAINED", 4, f"line 4 is '2 1 3', {other}"),
+        (BOUNDS, b"11 13", b"10 12", "NOT_ATTAINED", 4, f"line 4 is '2 1 3', {other}"),
+        (BOUNDS, b"2 1 3", b"1 2 3", "NOT_ATTAINED", 4, f"line 4 is '1 2 3', {other}"),
         (BOUNDS, b"11 13", b"10 13", "TREE", 5, "line 5 is '-', which is not one whole proof"),
         (LEAST, b"12 12", b"13 12", "TREE", 5, "line 5 is '++', which is not one whole proof"),
         (BOUNDS, b"11 13", b"12 13", "TREE", 5, f"line 5 is '-', which is not one whole proof; {changed}"),
@@ -826,6 +896,23 @@ def compare_random_shops():
         equal("that none is below it", min(values) >= found.upper == plain_makespan(rows, found.sequence), True)
 
 
+def keep_stacks():
+    """Calls on the greatest shop end well in threads with little stack, and where the system gives little; and calls of
+    the library with as much as its header says. What threads of others are to have stays as it was."""
+    limit = resource.getrlimit(resource.RLIMIT_STACK)[1]
+    said = []
+    for word, stack in [("caller", 1 << 23), ("caller", 1 << 18), ("library", 1 << 23)]:
+        run = subprocess.run(
+            [sys.executable, os.path.join(TOP, "tests", "stacks.py"), word],
+            preexec_fn=lambda stack=stack: resource.setrlimit(resource.RLIMIT_STACK, (stack, limit)),
+            stdout=subprocess.PIPE,
+        )
+        said.append(run.stdout.decode().splitlines())
+        equal(f"calls by {word} with {stack} bytes", (run.returncode, "True" in said[-1]), (0, True))
+    equal("what they give with little stack", said[0], said[1])
+    equal("how many lines they print", [*map(len, said)], [7, 7, 7])
+
+
 def keep_errors():
     """Each class of errors is a FlowshopError and a ValueError, says a sentence, and comes back from pickle."""
     for name in ("NotAShop", "NotASequence", "NotLawful", "TextError", "OptionError", "OverBudget", "FlowshopError"):
@@ -852,6 +939,7 @@ def main():
     make_shops()
     compare_shops()
     use_names()
+    escape_names()
     use_arrays()
     use_frames()
     use_results()
@@ -863,12 +951,14 @@ def main():
     refuse_files()
     refuse_tables()
     refuse_sequences()
+    check_bounds()
     refuse_texts()
     pass_options()
     refuse_options()
     compare_page()
     keep_rooms()
     search_parts()
+    keep_stacks()
     keep_errors()
     keep_interrupts()
     compare_random_shops()

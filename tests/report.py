@@ -207,15 +207,23 @@ def say_what_is_proved():
     """The sentences on the bound, and on the order of the table. All numbers were worked out by hand."""
     earlier, optimal = "No order finishes earlier than", "this one is optimal."
     before, finishes = "No order can finish before", "this one finishes at"
-    simple = "That bound takes no search; a certificate may prove a higher one."
+    no_search = "That bound takes no search;"
+    simple, other = (f"{no_search} {each} certificate may prove a higher one." for each in ("a", "another"))
+    less = f"{no_search} the certificate proves only that no order finishes before"
+    more = "Another one may prove a higher bound."
     table, is_table = "In the order of the table it would", "This is the order of the table."
     equal_jobs, one = Shop.from_jobs([[1], [1]]), Shop.from_jobs([[1000]])
     part = "flowshop two-ended 1\n1 1\n{} 1000\n1\n\nend\n".format
+    root = NOTHING.replace("0 13", "10 13")
     percents = "It takes at most {}% more than the least time.".format
     for shop, order, words, proved, beside in [
         (SHOP, SHOP.check(LEAST), {}, f"{earlier} 12: {optimal}", f"{table} take 15."),
         (SHOP, SHOP.check(BOUNDS), {}, f"{before} 11; {finishes} 13.", f"{percents(18.2)} {table} take 15."),
-        (SHOP, SHOP.check(NOTHING), {}, f"{before} 0; {finishes} 13.", f"{table} take 15."),
+        (SHOP, SHOP.check(NOTHING), {}, f"{before} 10; {finishes} 13.",
+         f"{percents(30.0)} {less} 0. {more} {table} take 15."),
+        (SHOP, SHOP.check(NOTHING), {"start": "07:30", "unit": "15min"}, f"{before} 10:00; {finishes} 10:45.",
+         f"{percents(30.0)} {less} 07:30. {more} {table} finish at 11:15."),
+        (SHOP, SHOP.check(root), {}, f"{before} 10; {finishes} 13.", f"{percents(30.0)} {other} {table} take 15."),
         (SHOP, Certificate(13, 13, (1, 2, 3), BOUNDS.encode()), {}, f"{before} 11; {finishes} 13.",
          f"{percents(18.2)} {table} take 15."),
         (SHOP, [2, 1, 3], {}, f"{before} 10; {finishes} 13.", f"{percents(30.0)} {simple} {table} take 15."),
@@ -230,8 +238,12 @@ def say_what_is_proved():
         (equal_jobs, [2, 1], {}, f"{earlier} 2: {optimal}", f"{table} take 2 too."),
         (equal_jobs, [1, 2], {}, f"{earlier} 2: {optimal}", is_table),
         (Shop.from_jobs([[0, 0]]), [1], {}, f"{earlier} 0: {optimal}", is_table),
-        (one, one.check(part(800)), {}, f"{before} 800; {finishes} 1000.", f"{percents(25.0)} {is_table}"),
-        (one, one.check(part(999)), {}, f"{before} 999; {finishes} 1000.", f"{percents(0.2)} {is_table}"),
+        (one, one.check(part(1000)), {}, f"{earlier} 1000: {optimal}", is_table),
+        (one, one.check(part(999)), {}, f"{earlier} 1000: {optimal}", f"{less} 999. {is_table}"),
+        (Shop.from_jobs([[1, 400], [201, 399]]), [2, 1], {}, f"{before} 800; {finishes} 1000.",
+         f"{percents(25.0)} {simple} {table} take 800."),
+        (Shop.from_jobs([[1, 500], [2, 498]]), [2, 1], {}, f"{before} 999; {finishes} 1000.",
+         f"{percents(0.2)} {simple} {table} take 999."),
     ]:
         root = read(shop.report(order, **words))
         equal(f"what is said of {order!r}", line_of(root, "No order"), proved)
@@ -302,7 +314,7 @@ def show_names():
     shop = Shop.from_jobs(ROWS, job_names=[STRANGE, "a\nb", "x" * 60], machine_names=[STRANGE, "Öl &amp; Co", 7])
     root = read(shop.report([2, 1, 3], title=STRANGE))
     names = [STRANGE, "Öl &amp; Co", "7"]
-    equal("strange names of jobs", [item.text() for item in root.all("li")], ["a b", STRANGE, "x" * 60])
+    equal("strange names of jobs", [item.text() for item in root.all("li")], ["a\\nb", STRANGE, "x" * 60])
     equal("strange names of machines", [name for name, _, _ in sheets_of(root)], names)
     equal("a strange title", [next(root.all(name)).text() for name in ("title", "h1")], [STRANGE, STRANGE])
     equal("what is shown of it", repr(shop.report([2, 1, 3], title=STRANGE)), f"Report({STRANGE})")
@@ -314,6 +326,14 @@ def show_names():
     root = read(Shop.from_jobs(ROWS, job_names=["Bed", "Door", "Bed"]).report([2, 1, 3]))
     equal("two jobs of one name", [item.text() for item in root.all("li")], ["Door", "Bed (job 1)", "Bed (job 3)"])
     equal("their sheet", [row[1] for row in sheets_of(root)[2][2]], ["Bed (job 1)", "Bed (job 3)"])
+    # What steers a terminal, or turns the direction of writing, is seen.
+    steers, seen = "a\x1b[2Jb\u202ec\udc80", "a\\x1b[2Jb\\u202ec\\udc80"
+    report = Shop.from_jobs([[4]], job_names=[steers], machine_names=[steers]).report([1], title=steers)
+    page = read(report)
+    texts = [next(page.all(name)).text() for name in ("title", "h1", "li")] + [sheets_of(page)[0][0], repr(report)]
+    equal("signs that are not seen", texts, [seen] * 4 + [f"Report({seen})"])
+    bars = [title.text() for title in next(page.all("svg")).all("title")][1:]
+    equal("those in a picture", bars, [f"{seen}, {seen}, start 0, end 4"])
     # Label lines with the names of another shop.
     for job_names, machine_names, line in [(["Bed"], None, 1), (None, ["Cut", "Weld"], 3), ("abcd", "Cut", 1)]:
         got = refused(lambda names=(job_names, machine_names): shop_of(ROWS, 1, "point", *names))
@@ -347,7 +367,7 @@ def draw_pictures():
     for order, words, head in [
         (SHOP.check(LEAST), {}, "optimal 12"),
         (SHOP.check(BOUNDS), {}, "makespan 13, lower bound 11"),
-        (SHOP.check(NOTHING), {}, "makespan 13"),
+        (SHOP.check(NOTHING), {}, "makespan 13, lower bound 10"),
         ([2, 1, 3], {}, "makespan 13, lower bound 10"),
         (SHOP.check(BOUNDS), {"start": "07:30", "unit": "15min"}, "makespan 3:15, lower bound 2:45"),
     ]:

@@ -26,7 +26,7 @@ def prove(shop, number, first=(), last=(), budget=MANY, room=None, rest_room=Non
     or the first directions, and the parts that are left."""
     jobs = shop[0]
     sequence = Room(U16, jobs if room is None else room)
-    directions, rest = Room(U8, budget), Room(U16, (jobs + 4) * (jobs + 1) if rest_room is None else rest_room)
+    directions, rest = Room(U8, budget), Room(U16, jobs * (jobs + 4) if rest_room is None else rest_room)
     part = Part(*sequence.words(), *directions.words(), *rest.words(), 7, 7, 7, 7)
     node = Node(*lent(U16, first), *lent(U16, last))
     refused = call("prove", shop_of(shop), node, c_uint64(number), part)

@@ -60,26 +60,11 @@ class Fund:
         self.left, self._kept = self.left + self._kept, 0
 
 
-def root_bound(shop: Numbers) -> int:
-    """The bound of the node of two empty lists."""
-    jobs, machines, times = shop
-    numbers = memoryview(times).cast("I").tolist()
-    rows = [numbers[at : at + jobs] for at in range(0, len(numbers), jobs)]
-    tails = [sum(times) for times in zip(*rows)]
-    heads = [0] * jobs
-    bound = 0
-    for row in rows:
-        tails = [tail - time for tail, time in zip(tails, row)]
-        bound = max(bound, min(heads) + sum(row) + min(tails))
-        heads = [head + time for head, time in zip(heads, row)]
-    return bound
-
-
-def taillard_bound(shop: Numbers) -> int:
+def taillard_bound(shop: Numbers, root: int) -> int:
     """Taillard's lower bound: that of the node of two empty lists, or the greatest total time of a job."""
     jobs, _, times = shop
     numbers = memoryview(times).cast("I").tolist()
-    return max(root_bound(shop), max(sum(numbers[job::jobs]) for job in range(jobs)))
+    return max(root, max(sum(numbers[job::jobs]) for job in range(jobs)))
 
 
 class Better:
@@ -87,7 +72,8 @@ class Better:
 
     def __init__(self, shop: Numbers, start: bytes, makespan: int, effort: Effort) -> None:
         self.best = Reached(start, makespan, False)
-        self._instance, self._least, self._start, self._effort = Instance(*shop), taillard_bound(shop), start, effort
+        self._instance, self._start, self._effort = Instance(*shop), start, effort
+        self._least = taillard_bound(shop, self._instance.root_bound(makespan))
 
     def search_until(self, watch: Watch) -> None:
         """Makes the searches, as long as the watch allows."""
@@ -121,11 +107,11 @@ class Run:
     docs/manual.md."""
 
     def __init__(self, shop: Numbers, start: bytes, makespan: int, effort: Effort, directions: int) -> None:
-        self.known = Known(root_bound(shop), makespan, start, b"")
+        self.known = Known(Instance(*shop).root_bound(makespan), makespan, start, b"")
         self._shop, self._start, self._effort, self._directions = shop, start, effort, directions
         self._early: Optional[Run] = None  # what a run with a time limit finds beside its steps, as long as it goes on
         self._is_limited = False
-        self._least = taillard_bound(shop)
+        self._least = taillard_bound(shop, self.known.lower)
         self._fund = Fund(shop[0], shop[1], makespan, directions)
         self._over = 0  # the greatest budget with which the search below the makespan of the sequence was over
         self._step, self._written, self._writing = 1, 0, 0

@@ -18,6 +18,7 @@ from ._files import (
     Row, Table, WordError, Work, make_folder, place_of_old, row_of, save_certificate, words_of_blocks, works_of
 )
 from ._options import LIMITS, OF_PARTS, option
+from ._saving import target_of
 from ._spread import Workers
 from ._threads import Threads
 from ._waiting import Lines, Running, Watch
@@ -210,11 +211,13 @@ def run(options: argparse.Namespace) -> int:
     works = works_of(options)
     if not all(work.path.is_file() for work in works):
         make_folder(options.out)
+    for work in works:
+        target_of(str(work.path))  # OSError where a link of another user stands there
     try:
         with _one_interrupt(), _workers(options.executor, count) as workers, closing(Lines(sys.stderr)) as lines:
             table = Table(works, options, sys.stdout)
             _all_certified(works, table, _Search(workers, Effort(*numbers), directions, limit, lines))
     except BrokenExecutor as error:
-        print(f"flowshop: a worker has ended: {error}", file=sys.stderr)
+        Lines(sys.stderr).keep(f"flowshop: a worker has ended: {error}")
         return 1
     return 0

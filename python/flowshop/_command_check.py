@@ -3,9 +3,12 @@
 import argparse
 import os
 import sys
+from typing import Optional
 
-from ._errors import NotLawful
-from ._files import Table, WordError, row_of, words_of_blocks, works_of
+from ._errors import FlowshopError
+from ._files import Table, WordError, Work, row_of, words_of_blocks, works_of
+from ._results import Certificate
+from ._waiting import Lines
 
 
 def words(parsers: "argparse._SubParsersAction[argparse.ArgumentParser]") -> None:
@@ -13,28 +16,56 @@ def words(parsers: "argparse._SubParsersAction[argparse.ArgumentParser]") -> Non
     about = "Tests the certificates of all blocks of files, as certify wrote them, and prints what each proves."
     parser = parsers.add_parser("check", help="test certificates", description=about)
     words_of_blocks(parser)
+    optimal = "refuse each text that does not prove a least makespan: one whose bounds differ"
+    parser.add_argument("--optimal", action="store_true", help=optimal)
     parser.set_defaults(run=run)
 
 
+def _found(work: Work, is_optimal: bool) -> Certificate:
+    """What the certificate of a block proves. FlowshopError where it is not lawful, or is to prove a least makespan and
+    does not; OSError where it is not read."""
+    found = work.shop.check(work.path)
+    if is_optimal and not found.optimal:
+        raise FlowshopError("BOUNDS", 0, f"refused bounds {found.lower} {found.upper}")
+    return found
+
+
+def _worth(work: Work, found: Certificate) -> Optional[str]:
+    """What is to be said of bounds that differ, where no search has raised the lower one."""
+    if found.optimal:
+        return None
+    simple = work.shop.bound()
+    if found.lower > simple:
+        return None
+    if found.lower == simple:
+        return f"its lower bound of {simple} takes no search, and certify may prove a higher one"
+    less = f"its lower bound is {found.lower}, and {simple} takes no search"
+    return f"{less}; remove this file, and certify writes one that proves so much"
+
+
 def run(options: argparse.Namespace) -> int:
-    """Runs the command. Its status is 1 where a certificate is not lawful, or not there; then no file of a table is
+    """Runs the command. Its status is 1 where a certificate is refused, or not there; then no file of a table is
     written, so that none lacks a row."""
     works = works_of(options)
     if not os.path.isdir(options.out):
         raise WordError(f"--out is {options.out}, and there is no such folder")
-    table = Table(works, options, sys.stdout)
+    table, lines = Table(works, options, sys.stdout), Lines(sys.stderr)
     status = 0
     for work in works:
         try:
-            table.add(row_of(work, work.shop.check(work.path), None))
+            found = _found(work, options.optimal)
+            table.add(row_of(work, found, None))
+            worth = _worth(work, found)
+            if worth:
+                lines.keep(f"{work.path}: {worth}")
         except FileNotFoundError:
-            print(f"{work.path}: it is not there; --out names the folder of the certificates", file=sys.stderr)
+            lines.keep(f"{work.path}: it is not there; --out names the folder, and certify gives the files these names")
             status = 1
-        except (NotLawful, OSError) as error:
-            print(f"{work.path}: {error}", file=sys.stderr)
+        except (FlowshopError, OSError) as error:
+            lines.keep(f"{work.path}: {error}")
             status = 1
     if status == 0:
         table.write()
     elif options.csv or options.json:
-        print(f"{options.csv or options.json}: it is not written, since a row would be missing", file=sys.stderr)
+        lines.keep(f"{options.csv or options.json}: it is not written, since a row would be missing")
     return status

@@ -1,9 +1,12 @@
 """What is refused: one base class, and a class for each kind of thing that is refused."""
 
+import re
 from typing import Any, Tuple, Union
 
 # Where a fault is: one number, or a row and a column, or the number of a sequence and a place in it. All from 1.
 Place = Union[int, Tuple[int, int]]
+# What a name may have that steers a terminal, breaks a line, turns the direction of writing, or stands in no page.
+_CONTROLS = re.compile(r"[\x00-\x1f\x7f-\x9f\u2028-\u202e\u2066-\u2069\ud800-\udfff\ufffe\uffff]")
 
 
 class FlowshopError(ValueError):
@@ -43,13 +46,13 @@ class NotASequence(FlowshopError):
 
 class NotLawful(FlowshopError):
     """A text that is no lawful certificate of the shop: HEADER, SIZE, VALUE, SEQUENCE, NOT_ATTAINED, TREE, WEAK, LOW or
-    END."""
+    END; or a file that has too many bytes for one: TOO_LONG."""
 
 
 class TextError(FlowshopError):
-    """A file that is no benchmark text: NO_BLOCK, LABEL, BYTE, NUMBER, HEAD, LIMITS or TIMES; a name that has no place
-    in one, or label lines with names or a unit that are not whole: LABEL; or, to the command `report`, a text of a
-    sequence: SEQUENCE or NOT_ATTAINED."""
+    """A file that is no benchmark text: NO_BLOCK, LABEL, BYTE, NUMBER, HEAD, LIMITS or TIMES, or TOO_LONG where it has
+    too many bytes; a name that has no place in one, or label lines with names or a unit that are not whole: LABEL; or,
+    to the command `report`, a text of a sequence: SEQUENCE or NOT_ATTAINED."""
 
 
 class OptionError(FlowshopError):
@@ -84,6 +87,12 @@ class Interrupted(KeyboardInterrupt):
 def counted(number: int, what: str) -> str:
     """A number of things, as `1 job` or `1,000 jobs`."""
     return f"{number:,} {what}" if number == 1 else f"{number:,} {what}s"
+
+
+def readable(name: object) -> str:
+    """A name as it is printed or drawn. What steers a terminal, breaks a line or turns the direction of writing stands
+    there as in a text of Python, as `\\x1b`."""
+    return _CONTROLS.sub(lambda found: found[0].encode("unicode_escape").decode(), str(name))
 
 
 def shown(value: object) -> str:

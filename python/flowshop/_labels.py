@@ -4,7 +4,7 @@ import re
 from dataclasses import dataclass, field
 from typing import List, NamedTuple, Optional, Tuple
 
-from ._errors import TextError, counted, shown
+from ._errors import TextError, counted, readable, shown
 from ._results import Names, Path
 
 Labels = Tuple[str, str]
@@ -29,7 +29,7 @@ class Label(NamedTuple):
 
     def fault(self, why: str) -> TextError:
         """The refusal of this line."""
-        return TextError("LABEL", self.number, f"line {self.number} of {self.path} {why}")
+        return TextError("LABEL", self.number, f"line {self.number} of {readable(self.path)} {why}")
 
 
 @dataclass(frozen=True)

@@ -8,6 +8,7 @@ from typing import Any, Dict, List, Tuple
 STATUSES: Dict[int, str] = {
     1: "MEMORY",
     2: "ROOM",
+    3: "CPU",
     10: "JOBS",
     11: "MACHINES",
     12: "COUNT",
@@ -220,9 +221,16 @@ def version() -> str:
 
 
 def require(wanted: str) -> None:
-    """ImportError where the library is not of this version: its calls may take other arguments."""
+    """ImportError where the library is not of this version, since its calls may take other arguments, or where the
+    processor lacks what it needs."""
     if version() != wanted:
         raise ImportError(f"flowshop: the library is of version {version()}, and the package of version {wanted}")
+    # Any call says so. This one is of a shop with no jobs, and refused on every processor.
+    if STATUSES[_CALLS["generate"](0, 0, 0, (u32 * 1)(), 0).status] == "CPU":
+        raise ImportError(
+            "flowshop: this processor lacks something of x86-64-v2, such as SSE4.2 or POPCNT, which the library needs; "
+            "use another machine, or give a virtual machine the processor of its host"
+        )
 
 
 def call(name: str, *words: Any) -> None:

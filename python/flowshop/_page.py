@@ -3,11 +3,11 @@
 import html
 from collections import Counter
 from dataclasses import dataclass
-from typing import Any, Hashable, Iterable, List, NamedTuple, Tuple
+from typing import Any, Hashable, Iterable, List, NamedTuple, Optional, Tuple
 
 from ._clock import Times
 from ._drawing import drawn
-from ._errors import counted
+from ._errors import counted, readable
 from ._library import version
 from ._results import Timetable
 
@@ -66,17 +66,22 @@ _NAME = ' class="name"'
 
 @dataclass(frozen=True)
 class Facts:
-    """What a page says of a schedule: its timetable; a number below which no order has a makespan, and whether a text
-    proves it; the makespan of the jobs in the order of the table; a picture without names, or nothing; and how times
-    are shown."""
+    """What a page says of a schedule: its timetable; a number below which no order has a makespan, as a text proves it,
+    or None where there is no text; such a number that takes no search; the makespan of the jobs in the order of the
+    table; a picture without names, or nothing; and how times are shown."""
 
     title: str
     timetable: Timetable
-    lower: int
-    is_certified: bool
+    certified: Optional[int]
+    simple: int
     listed: int
     picture: str
     times: Times
+
+    @property
+    def lower(self) -> int:
+        """The greater of the two numbers."""
+        return max(self.certified or 0, self.simple)
 
 
 class _Turn(NamedTuple):
@@ -105,8 +110,8 @@ class _Machine(NamedTuple):
 
 
 def _plain(name: Hashable) -> str:
-    """A name as text on a page: what is no sign is a blank."""
-    return html.escape("".join(sign if sign.isprintable() else " " for sign in str(name)))
+    """A name as text on a page."""
+    return html.escape(readable(name))
 
 
 def _jobs(timetable: Timetable) -> List[str]:
@@ -144,6 +149,20 @@ def _proved(facts: Facts) -> str:
     return f"No order can finish before {at(facts.lower)}; this one finishes at {at(upper)}."
 
 
+def _worth(facts: Facts) -> str:
+    """Where the bound comes from, if no search has raised it."""
+    certified, at = facts.certified, facts.times.at
+    is_optimal = facts.lower == facts.timetable.makespan
+    if certified is not None and certified < facts.simple:
+        less = f"the certificate proves only that no order finishes before {at(certified)}."
+        more = "" if is_optimal else " Another one may prove a higher bound."
+        return f"That bound takes no search; {less}{more}"
+    if facts.simple < facts.lower or is_optimal:
+        return ""
+    other = "a" if certified is None else "another"
+    return f"That bound takes no search; {other} certificate may prove a higher one."
+
+
 def _beside(facts: Facts) -> str:
     """How far the schedule may be from the best one, and how the order of the table would do."""
     timetable, lower = facts.timetable, facts.lower
@@ -152,8 +171,7 @@ def _beside(facts: Facts) -> str:
     if 0 < lower < upper:
         tenths = -(1000 * (lower - upper) // lower)
         sentences.append(f"It takes at most {tenths // 10}.{tenths % 10}% more than the least time.")
-    if not facts.is_certified and lower < upper:
-        sentences.append("That bound takes no search; a certificate may prove a higher one.")
+    sentences += [_worth(facts)] if _worth(facts) else []
     if timetable.sequence == tuple(range(1, len(timetable.sequence) + 1)):
         sentences.append("This is the order of the table.")
     else:

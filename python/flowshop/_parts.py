@@ -86,6 +86,18 @@ class Instance:
         self.jobs, self.machines, self._times = jobs, machines, times
         self.words = ShopNumbers(jobs, machines, times, len(times) // 4)
 
+    def root_bound(self, most: int) -> int:
+        """The bound of the node of two empty lists: the greatest number that a search proves without a direction. It is
+        at most `most`, the makespan of a sequence."""
+        rooms, least = Rooms(self, 0), 0
+        while least < most:
+            middle = (least + most + 1) // 2
+            if rooms.search(b"", b"", middle) == PROVED:
+                least = middle
+            else:
+                most = middle - 1
+        return least
+
     def beam(self, start: bytes, number: int, width: int, steps: int) -> Reached:
         """What a beam comes to from a start; one that looks for a sequence below a number, where it is not 0."""
         return self._reached("beam", start, BeamOptions(number, width, steps))
@@ -108,7 +120,7 @@ class Rooms:
     def __init__(self, instance: Instance, budget: int) -> None:
         self._instance, self._budget = instance, budget
         jobs = instance.jobs
-        self._rest = (u16 * ((jobs + 4) * (jobs + 1)))()
+        self._rest = (u16 * (jobs * (jobs + 4)))()
         self._sequence = (u16 * jobs)()
         self._directions = (u8 * budget)()
         self._begun = ctypes.addressof(self._directions)

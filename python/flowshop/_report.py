@@ -3,14 +3,16 @@
 import argparse
 import os
 import sys
-from typing import Optional
+from typing import List, Optional
 
-from ._errors import NotASequence, NotLawful, OptionError, TextError, counted, shown
+from ._errors import NotASequence, NotLawful, OptionError, TextError, counted, readable, shown
 from ._files import WordError
 from ._results import Certificate, require_suffix
 from ._sequences import Jobs
+from ._saving import names_folder
 from ._shop import Shop
-from ._texts import sequence_of
+from ._streams import print_page
+from ._texts import order_of, sequence_of
 
 
 def words(parsers: "argparse._SubParsersAction[argparse.ArgumentParser]") -> None:
@@ -41,14 +43,16 @@ def words(parsers: "argparse._SubParsersAction[argparse.ArgumentParser]") -> Non
 
 def _picked(path: str, index: Optional[str]) -> Shop:
     """The shop of a block of a file. OptionError where the index is none of the file."""
-    blocks = Shop.read(path)
-    if index is None and len(blocks) == 1:
-        return blocks[0].shop
-    if index is None:
-        raise OptionError("INDEX", 0, f"{path} has {counted(len(blocks), 'block')}: write the number of one behind it")
-    if not index.isdecimal() or not 1 <= int(index) <= len(blocks):
-        raise OptionError("INDEX", 0, f"INDEX is {shown(index)}, and {path} has {counted(len(blocks), 'block')}")
-    return blocks[int(index) - 1].shop
+
+    def choose(count: int) -> List[int]:
+        has = f"{readable(path)} has {counted(count, 'block')}"
+        if index is None and count > 1:
+            raise OptionError("INDEX", 0, f"{has}: write the number of one behind it")
+        if index is not None and not (index.isdecimal() and 1 <= int(index) <= count):
+            raise OptionError("INDEX", 0, f"INDEX is {shown(index)}, and {has}")
+        return [int(index or 1)]
+
+    return Shop._picked(path, choose)[0][1].shop
 
 
 def _sequence(shop: Shop, text: bytes) -> Jobs:
@@ -66,8 +70,7 @@ def _order(shop: Shop, path: Optional[str]) -> Jobs:
     that is searched for."""
     if path is None:
         return shop.certify(work=100, directions=1_000_000)
-    with open(path, "rb") as file:
-        text = file.read()
+    text = order_of(path)
     return Certificate(0, 0, (), text) if text.split(None, 1)[:1] == [b"flowshop"] else _sequence(shop, text)
 
 
@@ -80,9 +83,11 @@ def _test_out(out: str, shop: str, text: Optional[str]) -> None:
     """OptionError where the report would have the suffix of another format, WordError where it would replace a file
     that is read."""
     require_suffix(out, "report")
+    if os.path.isdir(out) or names_folder(out):
+        raise WordError(f"--out is {readable(out)}, which is a folder, and has to be a file")
     for path, what in ((shop, "shop"), (text, "certificate or the sequence")):
         if path is not None and _are_one(path, out):
-            raise WordError(f"--out {out} is the file of the {what}: give the report another name")
+            raise WordError(f"--out {readable(out)} is the file of the {what}: give the report another name")
 
 
 def run(options: argparse.Namespace) -> int:
@@ -100,9 +105,9 @@ def run(options: argparse.Namespace) -> int:
     try:
         report = shop.report(_order(shop, text), start=options.start, unit=options.unit, title=title)
     except (NotASequence, NotLawful, TextError) as error:
-        raise type(error)(error.name, error.place, f"{text}: {error}") from None
+        raise type(error)(error.name, error.place, f"{readable(text)}: {error}") from None
     if options.out is None:
-        sys.stdout.buffer.write(report.encode("utf-8", "replace"))
+        print_page(report.encode("utf-8", "replace"))
     else:
         report.save(options.out)
     return 0

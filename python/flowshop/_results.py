@@ -7,7 +7,8 @@ import re
 from dataclasses import dataclass, field
 from typing import Any, Dict, Hashable, Iterator, List, NamedTuple, Optional, Sequence, Tuple, Union, overload
 
-from ._errors import OptionError, counted, shown
+from ._errors import OptionError, counted, readable, shown
+from ._saving import save
 
 Names = Tuple[Hashable, ...]
 Path = Union[str, "os.PathLike[str]"]
@@ -30,8 +31,8 @@ def require_suffix(path: Path, kind: str) -> None:
 
 def listed(names: Sequence[Hashable], most: int = _MOST_SHOWN) -> str:
     """The first names of a list, with commas between them, and two points where there are more."""
-    first = [repr(name) if isinstance(name, str) and set(name) & set(",;:") else str(name) for name in names[:most]]
-    return ", ".join([*first, *([".."] if len(names) > most else [])])
+    quoted = [repr(name) if isinstance(name, str) and set(name) & set(",;:") else name for name in names[:most]]
+    return ", ".join([*map(readable, quoted), *([".."] if len(names) > most else [])])
 
 
 @dataclass(frozen=True, repr=False)
@@ -197,8 +198,7 @@ class Picture(str):
         >>> shop.gantt([2, 1, 3]).save("schedule.svg")
         """
         require_suffix(path, "picture")
-        with open(path, "wb") as file:
-            file.write(self.encode())
+        save(path, self.encode())
 
 
 class Report(str):
@@ -228,8 +228,7 @@ class Report(str):
         >>> shop.report([2, 1, 3]).save("schedule.html")
         """
         require_suffix(path, "report")
-        with open(path, "wb") as file:
-            file.write(self.encode("utf-8", "replace"))
+        save(path, self.encode("utf-8", "replace"))
 
 
 # Of a picture: its size and its ground, where the left side is 0; the label of a row; a bar with its title, and the
@@ -245,16 +244,12 @@ _BAR = re.compile(
 _IN_BAR, _BEFORE_ROW, _ROOM_BEFORE, _MOST_BEFORE = 670, 700, 8000, 40
 
 
-def _escaped(name: Hashable) -> str:
-    """A name as it stands in a picture."""
-    return html.escape("".join(sign if sign.isprintable() else " " for sign in str(name)), quote=False)
-
-
 def with_names(picture: str, jobs: Names, machines: Names, in_bars: Optional[Names] = None) -> str:
     """A picture with the names of jobs and machines in the place of their numbers. It is wider where the name of a
     machine is long, and a very long one is cut; the name of a job stands in a bar where it has room, or what stands for
     it in `in_bars`."""
-    labels = [name if len(name) <= _MOST_BEFORE else f"{name[: _MOST_BEFORE - 2]}.." for name in map(str, machines)]
+    of_jobs, of_machines, of_bars = (tuple(map(readable, names)) for names in (jobs, machines, in_bars or jobs))
+    labels = [name if len(name) <= _MOST_BEFORE else f"{name[: _MOST_BEFORE - 2]}.." for name in of_machines]
     more = max(0, _BEFORE_ROW * max(map(len, labels)) - _ROOM_BEFORE)
 
     def head(found: "re.Match[str]") -> str:
@@ -262,14 +257,15 @@ def with_names(picture: str, jobs: Names, machines: Names, in_bars: Optional[Nam
         return f"{size}{found[5]}-{more}{found[6]}-{more}z"
 
     def row(found: "re.Match[str]") -> str:
-        return found[1] + _escaped(labels[int(found[2]) - 1])
+        return found[1] + html.escape(labels[int(found[2]) - 1], quote=False)
 
     def bar(found: "re.Match[str]") -> str:
-        job, machine = int(found[3]) - 1, machines[int(found[4]) - 1]
-        titled = f"{found[1]}{_escaped(jobs[job])}, {_escaped(machine)}{found[5]}"
-        label = (in_bars or jobs)[job]
-        has_room = found[6] and _IN_BAR * len(str(label)) <= int(found[2])
-        return f"{titled}{found[6]}{_escaped(label)}{found[7]}" if has_room else titled
+        job, machine = int(found[3]) - 1, int(found[4]) - 1
+        title = html.escape(f"{of_jobs[job]}, {of_machines[machine]}", quote=False)
+        label = of_bars[job]
+        has_room = found[6] and _IN_BAR * len(label) <= int(found[2])
+        text = f"{found[6]}{html.escape(label, quote=False)}{found[7]}" if has_room else ""
+        return f"{found[1]}{title}{found[5]}{text}"
 
     picture = _HEAD.sub(head, picture, count=1) if more else picture
     return _BAR.sub(bar, _ROW.sub(row, picture))
@@ -321,5 +317,4 @@ class Certificate:
 
         >>> shop.certify().save("certificate")
         """
-        with open(path, "wb") as file:
-            file.write(self.text)
+        save(path, self.text)

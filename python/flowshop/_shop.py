@@ -3,13 +3,14 @@
 from __future__ import annotations
 
 from array import array
+from dataclasses import replace
 from math import perm
-from typing import Any, Callable, Hashable, Iterable, List, NamedTuple, NoReturn, Optional, Tuple, Union
+from typing import Any, Callable, Collection, Hashable, Iterable, List, NamedTuple, NoReturn, Optional, Tuple, Union
 
 from ._certify import Better, Effort, Known, Run
 from ._clock import Plain, times_of
 from ._drawing import with_times
-from ._errors import Interrupted, NotASequence, NotLawful, OptionError, OverBudget, counted
+from ._errors import Interrupted, NotASequence, OptionError, OverBudget, counted
 from ._found import Below, Over, Proved, numbers_of, part_of
 from ._labels import Unit, label_lines
 from ._library import BoundsRoom, EffortNumbers, Plan, ReachedRoom, Refused, ShopNumbers, SpansRoom
@@ -18,6 +19,7 @@ from ._options import MOST_TREES, OF_PARTS, STATED, function_of, option, time_li
 from ._page import MOST_BARS, Facts, page
 from ._parts import BELOW, PROVED, Instance, Rooms, parts_of
 from ._results import Certificate, Names, Path, Picture, Report, Start, Timetable, listed, with_names
+from ._saving import save
 from ._sequences import Jobs, Many, items_of, not_a_node, not_a_sequence, packed
 from ._spread import Map, Workers
 from ._tables import Table, read_table
@@ -123,13 +125,27 @@ class Shop:
         """All blocks of a benchmark text in a file, in their order. A shop has the names and the unit that the label
         lines of its block have in the form of docs/formats.md, as examples/from_csv.awk writes them. OSError where the
         file is not read, TextError with the first fault of the text and its line, or with the first label line that has
-        names or the unit, and not all of that form.
+        names or the unit, and not all of that form, or where the file has more than 16,777,216 bytes.
 
         >>> shop.write("shop.txt")
         >>> Shop.read("shop.txt")[0].shop == shop
         True
         """
-        return [Block(cls._of(*block[:6]), *block[6:]) for block in blocks_of(path)]
+        return [block for _, block in cls._picked(path, lambda count: range(1, count + 1))]
+
+    @classmethod
+    def _picked(cls, path: Path, choose: Callable[[int], Collection[int]]) -> List[Tuple[int, Block]]:
+        """The blocks whose numbers are chosen, once it is known how many there are, in the order of the choice, each
+        with its number."""
+        chosen: Collection[int] = ()
+
+        def choice(count: int) -> Collection[int]:
+            nonlocal chosen
+            chosen = choose(count)
+            return chosen
+
+        found = {number: Block(cls._of(*block[:6]), *block[6:]) for number, block in blocks_of(path, choice)}
+        return [(number, found[number]) for number in chosen]
 
     def write(self, path: Path, *, seed: int = 0, upper: Optional[int] = None, lower: Optional[int] = None) -> None:
         """Writes the shop to a file, as a benchmark text of one block. Its label lines have the names and the unit,
@@ -147,8 +163,7 @@ class Shop:
         ]
         labels = label_lines(self.jobs, self.machines, *self._parts[3:])
         text = block_text(labels, self.times, *stated).encode("utf-8", "replace")
-        with open(path, "wb") as file:
-            file.write(text)
+        save(path, text)
 
     @property
     def jobs(self) -> int:
@@ -322,55 +337,39 @@ class Shop:
     ) -> Report:
         """A page of HTML for whoever carries the schedule out: the order, a picture, a table of the machines, and a
         sheet for each of them with start and end of each job. It says what is proved: of a Certificate, which is
-        checked, its lower bound, and of another sequence that of `bound`. Times are in the unit of the table; or by the
-        clock, where `start` is the time of day when the first job starts, and `unit` how long one unit of the table is,
-        as `15min`, `1h` or `30s`. NotLawful where a certificate is none of the shop, OptionError where start or unit
-        has another form, or one is given alone; the other errors are those of `makespan`.
+        checked, its lower bound, or that of `bound` where this is higher, and of another sequence that of `bound`.
+        Times are in the unit of the table; or by the clock, where `start` is the time of day when the first job starts,
+        and `unit` how long one unit of the table is, as `15min`, `1h` or `30s`. NotLawful where a certificate is none
+        of the shop, OptionError where start or unit has another form, or one is given alone; the other errors are those
+        of `makespan`.
 
         >>> shop.report(shop.certify(), start="07:30", unit="15min").save("schedule.html")
         """
         times = times_of(self._parts[5], start, unit)
         certificate = self.check(order) if isinstance(order, Certificate) else None
         timetable = self._timetable(certificate or order)
-        lower = certificate.lower if certificate else self.bound()
         facts = Facts(
             title=title or f"Schedule of {counted(self.jobs, 'job')} on {counted(self.machines, 'machine')}",
             timetable=timetable,
-            lower=lower,
-            is_certified=certificate is not None,
+            certified=certificate.lower if certificate else None,
+            simple=self.bound(),
             listed=self.makespan(range(1, self.jobs + 1)),
-            picture=self._picture(timetable, lower) if self.jobs * self.machines <= MOST_BARS else "",
+            picture="",
             times=times,
         )
+        if self.jobs * self.machines <= MOST_BARS:
+            facts = replace(facts, picture=self._picture(timetable, facts.lower))
         return Report(page(facts))
 
     def bound(self) -> int:
         """A number below which no sequence has a makespan: the bound of the two-ended certificate with no directions.
         That is, of all machines, the greatest sum of its times, the least time that a job needs before it, and the
-        least that one needs after it.
+        least that one needs after it. The lower bound that a text proves may be below it, and is the worse one then.
 
         >>> shop.bound()
         10
         """
-        sequence = range(1, self.jobs + 1)
-        upper = self.makespan(sequence)
-        head, jobs = f"flowshop two-ended 1\n{self.jobs} {self.machines}", " ".join(map(str, sequence))
-        least, most = 0, upper
-        while least < most:
-            middle = (least + most + 1) // 2
-            if self._proves(f"{head}\n{middle} {upper}\n{jobs}\n\nend\n"):
-                least = middle
-            else:
-                most = middle - 1
-        return least
-
-    def _proves(self, text: str) -> bool:
-        """Whether a text is a lawful certificate of the shop."""
-        try:
-            self.check(text)
-        except NotLawful:
-            return False
-        return True
+        return Instance(*self._parts[:3]).root_bound(self.makespan(range(1, self.jobs + 1)))
 
     def neh(self) -> Start:
         """The starting sequence of Nawaz, Enscore and Ham (1983): jobs by decreasing total time, of equal ones the
@@ -574,7 +573,8 @@ class Shop:
         """What a text proves, with the sequence that it states: a certificate of version 1 or 2, or a two-ended one;
         line 1 tells which it is. It is given as bytes or str, as the path of a file (pathlib.Path), or as a
         Certificate, of which the text alone is read. The least makespan is proved where `optimal` is true. NotLawful
-        with the first fault of the text where it is not lawful, OSError where a file is not read.
+        with the first fault of the text where it is not lawful, or where a file of it has more than 1,000,000,000
+        bytes, OSError where a file is not read.
 
         >>> shop.check("flowshop two-ended 1\\n3 3\\n11 13\\n2 1 3\\n-\\nend\\n")
         Certificate(bounds 11 to 13, 1 direction)

@@ -13,7 +13,7 @@ from collections import deque
 from typing import Any, Callable, Deque, Iterable, Iterator, List, NamedTuple, Optional, Set, Tuple, TypeVar, Union
 
 from ._parts import BELOW, OVER, PROVED, Instance, PackedPart, Reached, Rooms, packed_parts, parts_of
-from ._threads import Threads
+from ._threads import Threads, with_stack
 from ._waiting import Running
 
 _T = TypeVar("_T")
@@ -132,11 +132,16 @@ def _searched(rooms: Rooms, number: int, parts: List[PackedPart], ends: float) -
 
 def work(task: Task) -> Answer:
     """Does a task. It is what a worker is given to call."""
+    worker = hash((_host(), os.getpid(), threading.get_ident()))
+    return with_stack(lambda: _answer(task, worker))
+
+
+def _answer(task: Task, worker: int) -> Answer:
+    """What a worker of this number gives back of a task."""
     begun = time.monotonic()
     rooms = Rooms(_instance(*task.shop), task.budget)
     sequence, rest = _searched(rooms, task.number, parts_of(task.parts), begun + task.seconds)
     directions = rooms.directions()
-    worker = hash((_host(), os.getpid(), threading.get_ident()))
     seconds = time.monotonic() - begun
     makespan = rooms.makespan if sequence else 0
     return Answer(
@@ -147,7 +152,7 @@ def work(task: Task) -> Answer:
 def reach(words: Tuple[Tuple[int, int, int, bytes], str, Tuple[Any, ...]]) -> Reached:
     """Makes a beam, or rounds. It is what a worker is given to call."""
     shop, name, others = words
-    return call_of(_instance(*shop), name, others)
+    return with_stack(lambda: call_of(_instance(*shop), name, others))
 
 
 def call_of(instance: Instance, name: str, words: Tuple[Any, ...]) -> Reached:

@@ -1,14 +1,16 @@
 """Texts as they are given and written: certificates, and files of shops."""
 
 import ctypes
+import io
 import mmap
 import os
 import re
 import resource
 from codecs import BOM_UTF8
-from typing import Callable, Dict, Iterable, Iterator, List, Optional, Tuple, Union
+from itertools import chain, islice
+from typing import Callable, Collection, Dict, Iterable, Iterator, List, Optional, Tuple, Union
 
-from ._errors import NotLawful, TextError, shown
+from ._errors import NotLawful, TextError, readable, shown
 from ._labels import Label, Labels, Unit, read_labels
 from ._library import MOST_TIMES, BlockRoom, Refused, TextRoom, call, u8, u32
 from ._results import Certificate, Names, Path
@@ -18,6 +20,16 @@ Text = Union[bytes, bytearray, memoryview, str, "os.PathLike[str]", Certificate]
 # Memory of which no page is reserved before it is written. Older versions of Python have no name for it.
 _NO_RESERVE = getattr(mmap, "MAP_NORESERVE", 0x4000)
 _LEAST_ROOM = 1 << 16
+# The most bytes of a file that is read: of a benchmark text or a sequence, and of a certificate. They are those of the
+# program (docs/manual.md).
+MOST_TEXT, MOST_CERTIFICATE = 16_777_216, 1_000_000_000
+_TOO_LONG = "TOO_LONG"
+# How many bytes are read at once where a file does not say how many it has.
+_PIECE = 1 << 16
+# What every certificate begins with.
+_BEGIN = b"flowshop "
+# An index that no text has a block for, since one takes more than a byte.
+_NO_BLOCK = 2**32 - 1
 _CERTIFICATE = re.compile(rb"flowshop (certificate|two-ended) ")
 _LABEL_LINE = re.compile(rb"^[ \t\r]*[^ \t\r\n0-9]", re.MULTILINE)
 
@@ -57,8 +69,48 @@ def written(most: int, write: Callable[[TextRoom], None]) -> bytes:
     return memory[: text.length]
 
 
+def _read(path: Path, most_of: Callable[[bytes], int]) -> Optional[bytes]:
+    """The bytes of a file. None where there are more than it may have, by how it begins; no more of them is read."""
+    with open(path, "rb", buffering=0) as file:
+        stated, begun = os.fstat(file.fileno()).st_size, file.read(len(_BEGIN))
+        most = most_of(begun)
+        if stated > most:
+            return None
+        if stated:  # it is read as a whole
+            file.seek(0)
+            begun = file.read(stated)
+        text = io.BytesIO(begun)
+        text.seek(0, io.SEEK_END)
+        while text.tell() <= most and (piece := file.read(_PIECE)):
+            text.write(piece)
+    return text.getvalue() if text.tell() <= most else None
+
+
+def _too_long(path: Path, most: int, what: str) -> str:
+    """What is said of a file that has more bytes than it may have."""
+    return f"{readable(path)} has more than {most:,} bytes, and a {what} has at most so many"
+
+
+def order_of(path: Path) -> bytes:
+    """The bytes of a file that is a certificate or a sequence. OSError where it is not read, TextError where it is too
+    long."""
+    found = MOST_TEXT, "sequence"
+
+    def most_of(begun: bytes) -> int:
+        nonlocal found
+        if _BEGIN.startswith(begun):
+            found = MOST_CERTIFICATE, "certificate"
+        return found[0]
+
+    text = _read(path, most_of)
+    if text is None:
+        raise TextError(_TOO_LONG, 0, _too_long(path, *found))
+    return text
+
+
 def text_of(given: Text) -> bytes:
-    """The bytes of a text. OSError where a file is not read, TypeError where it is no text."""
+    """The bytes of a text. OSError where a file is not read, NotLawful where it is too long, TypeError where it is no
+    text."""
     if isinstance(given, Certificate):
         return given.text
     if isinstance(given, bytes):
@@ -68,8 +120,10 @@ def text_of(given: Text) -> bytes:
     if isinstance(given, (bytearray, memoryview)):
         return bytes(given)
     if isinstance(given, os.PathLike):
-        with open(given, "rb") as file:
-            return file.read()
+        text = _read(given, lambda _: MOST_CERTIFICATE)
+        if text is None:
+            raise NotLawful(_TOO_LONG, 0, _too_long(given, MOST_CERTIFICATE, "certificate"))
+        return text
     raise TypeError(f"a text is bytes, a str, a path or a Certificate, and this is {shown(given)}")
 
 
@@ -89,7 +143,7 @@ _UNLAWFUL: Dict[str, Tuple[int, str]] = {
     "SIZE": (2, "line 2 is {text}, which is not of a shop with jobs {jobs} and machines {machines}"),
     "VALUE": (3, "line 3 is {text}, and has to be the value that is proved, or both bounds"),
     "SEQUENCE": (4, "line 4 is {text}, and has to have each job from 1 to {jobs} once"),
-    "NOT_ATTAINED": (4, "line 4 is {text}, a sequence of another makespan than line 3 says"),
+    "NOT_ATTAINED": (4, f"line 4 is {{text}}, a sequence of another makespan than line 3 says; {_CHANGED}"),
     "TREE": (0, f"line {{line}} is {{text}}, which is not one whole proof; {_CHANGED}"),
     "WEAK": (0, f"line {{line}} has a bound that is below the value; {_CHANGED}"),
     "LOW": (0, f"line {{line}} leads to a makespan that is below the value; {_CHANGED}"),
@@ -97,11 +151,20 @@ _UNLAWFUL: Dict[str, Tuple[int, str]] = {
 }
 
 
+def _begin_of(text: bytes, number: int) -> int:
+    """Where a line of a text begins, counted from 1."""
+    begin = 0
+    for _ in range(number - 1):
+        begin = text.index(b"\n", begin) + 1
+    return begin
+
+
 def _line(text: bytes, number: int) -> str:
     """A line of a text, as it stands in a sentence."""
     if not 1 <= number <= _count_of_lines(text):
         return "missing"
-    return shown(text.split(b"\n", number)[number - 1][:80].decode("utf-8", "replace"))
+    begin = _begin_of(text, number)
+    return shown(text[begin : begin + 80].split(b"\n", 1)[0].decode("utf-8", "replace"))
 
 
 def _count_of_lines(text: bytes) -> int:
@@ -139,8 +202,9 @@ def _first_of_orders(line: bytes) -> str:
 def sequence_of(text: bytes) -> Tuple[List[int], Optional[int], int]:
     """The jobs that a text of a sequence has; and the makespan that it states, if it does, with its line. TextError
     with the first line that has another form."""
+    numbered = ((number, line.rstrip(b"\n")) for number, line in enumerate(io.BytesIO(text), 1))
+    lines = list(islice(((number, line) for number, line in numbered if line.strip(b" \t\r")), 3))
     found, number = [], 0
-    lines = [(number, line) for number, line in enumerate(text.split(b"\n"), 1) if line.strip(b" \t\r")]
     for at, (number, line) in enumerate(lines or [(_count_of_lines(text) + 1, b"")]):
         form, wanted = _SEQUENCE_LINES[at] if at < 2 else (_NOTHING, "blank")
         match = form.fullmatch(line)
@@ -172,53 +236,38 @@ _SHORT = "a row before is short or missing"
 
 def _misread(refused: Refused, path: Path, text: bytes) -> TextError:
     """The refusal of a file that is no benchmark text."""
+    file = readable(path)
     if refused.name not in _MISREAD:
         why = "it is empty, or has blanks alone, as where the command that was to write it was refused"
-        return TextError(refused.name, refused.place, f"{path} has no block: {why}")
+        return TextError(refused.name, refused.place, f"{file} has no block: {why}")
     line, is_over = refused.place, refused.place > _count_of_lines(text)
-    fault = f"{path} ends after line {line - 1}" if is_over else f"line {line} of {path} is {_line(text, line)}"
+    fault = f"{file} ends after line {line - 1}" if is_over else f"line {line} of {file} is {_line(text, line)}"
     advice = _CONVERTERS
     if _CERTIFICATE.match(text):
         advice = "this text begins as a certificate does, and the file of the shop is wanted here"
     elif refused.name == "TIMES" and is_over:
         advice = _SHORT
-    elif refused.name == "TIMES" and _LABEL_LINE.match(text.split(b"\n", line)[line - 1]):
+    elif refused.name == "TIMES" and _LABEL_LINE.match(text, _begin_of(text, line)):
         advice = f"{_SHORT}, or this line does not begin with a digit; {_CONVERTERS}"
     return TextError(refused.name, line, f"{fault}: {_MISREAD[refused.name]}; {advice}")
 
 
-def blocks_of(
-    path: Path,
-) -> Iterator[Tuple[int, int, bytes, Optional[Names], Optional[Names], Unit, int, int, int]]:
-    """Each block of a benchmark text in a file: its jobs, machines and times, the names of both, the unit of the times,
-    and seed, upper and lower bound."""
-    with open(path, "rb") as file:
-        text = file.read()
-    try:
-        _block(text, 1)
-    except Refused as refused:
-        raise _misread(refused, path, text) from None
-    # The text has no fault, so it has two label lines for each block.
-    begun, lines = _labels_of(path, text)
-    for at, end in zip(range(0, len(begun), 2), [*begun[2::2], len(text)]):
-        jobs, machines, times, seed, upper, lower = _block(text[begun[at] : end], 1)
-        yield (jobs, machines, times, *read_labels(lines[at], lines[at + 1], jobs, machines), seed, upper, lower)
+# A block of a benchmark text: its jobs, machines and times, the names of both, the unit of the times, and seed, upper
+# and lower bound.
+RawBlock = Tuple[int, int, bytes, Optional[Names], Optional[Names], Unit, int, int, int]
 
 
-def _labels_of(path: Path, text: bytes) -> Tuple[List[int], List[Label]]:
-    """Where the label lines of a benchmark text begin, and these lines. A byte order mark before the text is left
-    out."""
-    begun: List[int] = []
-    lines: List[Label] = []
-    number, before = 1, 0
-    for found in _LABEL_LINE.finditer(text):
-        start = found.start()
-        number += text.count(b"\n", before, start)
-        before = start
-        line = text[start : text.find(b"\n", start)]
-        begun.append(start)
-        lines.append(Label(path, number, line if start else line.removeprefix(BOM_UTF8)))
-    return begun, lines
+def blocks_of(path: Path, choose: Callable[[int], Collection[int]]) -> Iterator[Tuple[int, RawBlock]]:
+    """The blocks of a benchmark text in a file whose numbers are chosen, once it is known how many there are, in the
+    order of the text, each with its number. TextError with the first fault of the whole text."""
+    text = _read(path, lambda _: MOST_TEXT)
+    if text is None:
+        raise TextError(_TOO_LONG, 0, _too_long(path, MOST_TEXT, "benchmark text"))
+    chosen = choose(_count_of_blocks(path, text))
+    for number, first, second, piece in _pieces(path, text, chosen):
+        jobs, machines, times, seed, upper, lower = _block(piece, 1)
+        names = read_labels(first, second, jobs, machines)
+        yield number, (jobs, machines, times, *names, seed, upper, lower)
 
 
 def _block(text: bytes, number: int) -> Tuple[int, int, bytes, int, int, int]:
@@ -226,8 +275,37 @@ def _block(text: bytes, number: int) -> Tuple[int, int, bytes, int, int, int]:
     times = (u32 * MOST_TIMES)()
     block = BlockRoom(times=times, times_count=MOST_TIMES)
     call("block", text, len(text), number, block)
-    used = bytes(times)[: 4 * block.jobs * block.machines]
+    used = ctypes.string_at(times, 4 * block.jobs * block.machines)
     return block.jobs, block.machines, used, block.seed, block.upper, block.lower
+
+
+def _count_of_blocks(path: Path, text: bytes) -> int:
+    """How many blocks a benchmark text has. TextError where it has a fault."""
+    try:
+        _block(text, _NO_BLOCK)
+    except Refused as refused:
+        if refused.name != "INDEX":
+            raise _misread(refused, path, text) from None
+        return refused.place
+    raise AssertionError("a text has no block of the greatest number")
+
+
+def _pieces(path: Path, text: bytes, chosen: Collection[int]) -> Iterator[Tuple[int, Label, Label, bytes]]:
+    """Of each chosen block its number, its label lines and its bytes. The text has no fault, so it has two label lines
+    for each block. A byte order mark before the text is left out of the first one."""
+    begun = chain((found.start() for found in _LABEL_LINE.finditer(text)), [len(text)])
+    counted, line, end = 0, 1, next(begun)
+    for number in range(1, max(chosen, default=0) + 1):
+        starts = end, next(begun)
+        end = next(begun)
+        if number in chosen:
+            labels = []
+            for start in starts:
+                line += text.count(b"\n", counted, start)
+                label = text[start : text.find(b"\n", start)]
+                labels.append(Label(path, line, label if start else label.removeprefix(BOM_UTF8)))
+                counted = start
+            yield number, labels[0], labels[1], text[starts[0] : end]
 
 
 def block_text(labels: Labels, rows: List[List[int]], seed: int, upper: int, lower: int) -> str:

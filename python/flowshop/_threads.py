@@ -3,9 +3,18 @@
 import queue
 import threading
 from collections import deque
-from typing import Any, Callable, Iterable, Iterator, Optional
+from typing import Any, Callable, Iterable, Iterator, Optional, TypeVar
 
-from ._waiting import has_come
+from ._stack import Thread, has_stack
+from ._waiting import has_come, waited
+
+_T = TypeVar("_T")
+
+
+def with_stack(call: Callable[[], _T]) -> _T:
+    """What a call gives that may need more stack than the thread at hand has: then a thread of this package makes
+    it."""
+    return call() if has_stack() else waited(call)
 
 
 class _Task:
@@ -33,7 +42,7 @@ class Threads:
         self._tasks: "queue.SimpleQueue[Optional[_Task]]" = queue.SimpleQueue()
         self._count = count
         for _ in range(count):
-            threading.Thread(target=self._run, daemon=True, name="flowshop worker").start()
+            Thread(self._run, "flowshop worker").start()
 
     def _run(self) -> None:
         """Does tasks until there is None."""

@@ -1,13 +1,19 @@
 """Waiting for a search that runs in a thread of its own, so that it can be stopped."""
 
+import io
 import math
+import os
 import select
 import sys
 import threading
 import time
 from contextlib import contextmanager, suppress
 from dataclasses import dataclass
+from functools import partial
 from typing import Callable, Generic, Iterator, Optional, TextIO, TypeVar, Union
+
+from ._errors import readable
+from ._stack import Thread
 
 _T = TypeVar("_T")
 # How many seconds lie between two looks at a search, and between two lines where no terminal shows them.
@@ -60,7 +66,7 @@ class Running(Generic[_T]):
         self._call, self._ended = call, threading.Event()
         self._result: Optional[_T] = None
         self._error: Optional[BaseException] = None
-        self._thread = threading.Thread(target=self._run, daemon=True, name="flowshop")
+        self._thread = Thread(self._run, "flowshop")
 
     def _run(self) -> None:
         try:
@@ -97,28 +103,40 @@ def waited(call: Callable[[], _T]) -> _T:
 _ANEW = "\r\x1b[?7l{}\x1b[K\x1b[?7h"
 
 
+def _put(number: int, text: bytes) -> None:
+    """Writes bytes to a descriptor, as far as it takes them."""
+    with suppress(OSError):
+        os.write(number, text)
+
+
 class Lines:
     """Lines on a stream that say how far something has come: one that is written anew where a terminal shows it, else
-    several, at most two in a second. Other lines may come between them. Any thread may write them. A stream that is
-    gone is passed over."""
+    several, at most two in a second. Other lines may come between them. Any thread may write them, and none waits for
+    whoever reads them: a line that the stream does not take is left out. A stream that is gone is passed over."""
 
-    def __init__(self, stream: TextIO) -> None:
-        self._stream, self._is_terminal = stream, stream.isatty()
+    def __init__(self, stream: Optional[TextIO]) -> None:
+        self._stream: TextIO = io.StringIO() if stream is None or stream.closed else stream
+        # Whether it is the standard error of this process, and no other that stands in its place.
+        self._is_own = self._stream is sys.__stderr__
+        self._is_terminal = self._stream.isatty()
         self._lock = threading.Lock()
         self._written = -_BETWEEN_LINES
         self._stands, self._is_closed = False, False
+        self._patience = PATIENCE
+        self._last: Optional[Running[None]] = None
 
     def __call__(self, line: object) -> None:
         """Writes a line that says how far it is, where the last one was not written just now, no other is being
-        written, and the stream takes it at once: a search does not wait for whoever reads the lines."""
+        written, and the stream takes it at once."""
         if not self._lock.acquire(blocking=False):
             return
         try:
             now = time.monotonic()
             is_due = self._is_terminal or now - self._written >= _BETWEEN_LINES
-            if is_due and not self._is_closed and self._takes_a_line():
+            if is_due and not self._is_closed and self._takes(0):
                 self._stands, self._written = self._is_terminal, now
-                self._write(_ANEW.format(line) if self._is_terminal else f"{line}\n")
+                text = readable(line)
+                self._write(_ANEW.format(text) if self._is_terminal else f"{text}\n")
         finally:
             self._lock.release()
 
@@ -129,10 +147,13 @@ class Lines:
             self._take_back()
             yield
 
-    def keep(self, line: object) -> None:
-        """Writes a line that stays."""
+    def keep(self, *lines: object) -> None:
+        """Writes lines that stay. The stream has half a second to take them, and no more until it has taken others."""
         with self.taken_back():
-            self._write(f"{line}\n")
+            is_taken = self._takes(self._patience)
+            self._patience = PATIENCE if is_taken else 0
+            if is_taken:
+                self._write("".join(f"{readable(line)}\n" for line in lines))
 
     def close(self) -> None:
         """Takes back the line that a terminal shows, unless another is being written that nobody reads. No line that
@@ -144,26 +165,37 @@ class Lines:
             finally:
                 self._lock.release()
 
-    def _takes_a_line(self) -> bool:
-        """Whether the stream takes a line at once: not a pipe that is full, nor a terminal that was stopped."""
+    def _takes(self, seconds: float) -> bool:
+        """Whether the stream takes a line within so many seconds: not a pipe that is full, nor a terminal that was
+        stopped, nor one that does not take the last line."""
+        ends = time.monotonic() + seconds
+        if self._last is not None and not self._last.wait(seconds):
+            return False
         ready = select.poll()
         try:
             ready.register(self._stream, select.POLLOUT)
         except (OSError, TypeError, ValueError):  # it has no file
             return True
-        return ready.poll(0) != []
+        return ready.poll(max(0, 1000 * (ends - time.monotonic()))) != []
 
     def _take_back(self) -> None:
         """Takes back the line that a terminal shows."""
         stands, self._stands = self._stands, False
-        if stands:
+        if stands and self._takes(0):
             self._write("\r\x1b[K")
 
     def _write(self, text: str) -> None:
-        """Writes a text at once."""
-        with suppress(OSError):
-            self._stream.write(text)
+        """Writes a text at once; to the standard error of this process in a thread that nothing waits for long."""
+        with suppress(OSError, ValueError, RuntimeError):  # it is gone or closed, or there is no thread more
+            if not self._is_own:
+                self._stream.write(text)
             self._stream.flush()
+            if self._is_own:
+                written = text.encode(self._stream.encoding, "backslashreplace")
+                last = Running(partial(_put, self._stream.fileno(), written))
+                last.start()
+                self._last = last
+                last.wait(PATIENCE)
 
 
 class Watch:

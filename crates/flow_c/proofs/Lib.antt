@@ -4,5 +4,6 @@ mod TextSize
 mod Puts
 mod Asked
 mod Ended
+mod PartSizes
 mod Told
 mod Joined

@@ -16,13 +16,14 @@ use Rattle.flow_directions.specs.declared.found.Part.{Part}
 use Rattle.flow_directions.specs.declared.found.Part.TheVariants.{Node, Children}
 use Rattle.flow_directions.proofs.FoundSteps.{found-shows}
 use Rattle.flow_c.specs.Faults.{numbers_fault, room_fault}
-use Rattle.flow_c.specs.Searches.{proved, below, IsTold, IsSearched, IsBelow, IsRestTooLong, prove_fault}
+use Rattle.flow_c.specs.Searches.{proved, below, most_rest, IsTold, IsSearched, IsBelow, IsRestTooLong, prove_fault}
 use Rattle.flow_c.specs.internal.Parts.{IsShort, LeavesShort, IsToldBy, IsComeTo, sequence_of}
 use Rattle.flow_c.specs.declared.shop.ShopNumbers.{ShopNumbers}
 use Rattle.flow_c.specs.declared.prove.Searched.{Searched}
 use Rattle.flow_c.specs.declared.node.NodeLists.{NodeLists}
 use Rattle.flow_c.specs.declared.fault.Fault.{Fault}
 use Rattle.flow_c.specs.declared.fault.Fault.TheVariants.{Room}
+use Rattle.flow_c.proofs.PartSizes.{rest-size}
 
 -- the lists of a part are short
 short-part : (shop : Shop) → IsWithinLimits shop → (part : Part) → IsPart shop part → IsShort part
@@ -115,7 +116,13 @@ rest-too-long shop number budget node entries fault (Rest text parts) is told_as
       is,
       long.0 ∙ ap (λ xs. Room (length xs)) told.3,
       subst (λ xs. entries < length xs) told.3 long.1,
+      rest-size shop number budget node.first.now node.last.now text parts is,
     )
+
+-- with so many entries none is left without room
+pub never-too-long : (shop : Shop) (number budget : ℕ) (node : NodeLists) (entries : ℕ) (fault : Fault) →
+    IsRestTooLong shop number budget node entries fault → most_rest shop.jobs ≤ entries → ⊥
+never-too-long shop number budget node entries fault long many = omega (arith, long.4, long.5, many)
 
 -- a list that is put at the front of room, or nothing, leaves what stands behind it
 pub kept-behind : (n : ℕ) (jobs old new : List ℕ) → (jobs ≡ []) ⊎ (length jobs ≡ n) →

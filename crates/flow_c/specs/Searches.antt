@@ -1,5 +1,5 @@
 -- What a part of a search for directions gives, and why it gives nothing. `library/flowshop.h` has the same numbers.
-use Rattle.std.specs.Prelude.{ℕ, ◌≡◌, ◌<◌, List, [], ◌∷◌, ◌++◌, length, take, Option}
+use Rattle.std.specs.Prelude.{ℕ, ◌≡◌, ◌+◌, ◌*◌, ◌<◌, ◌≤◌, List, [], ◌∷◌, ◌++◌, length, take, Option}
 use Rattle.std.specs.Global.{Vec}
 use Rattle.std.specs.List.{flat_map}
 use Rattle.std.specs.Option.{option_map}
@@ -76,8 +76,14 @@ prove_fault numbers node entries = first_fault (
     ∷ room_fault numbers.jobs entries
     ∷ [])
 
--- a search leaves parts, and there are fewer entries than they have numbers; the fault says how many they have
+-- so many entries are enough for the numbers of the parts that a search of an instance with so many jobs leaves
+abbrev pub most_rest : ℕ → ℕ
+most_rest jobs = jobs * (jobs + 4)
+
+-- a search leaves parts, and there are fewer entries than they have numbers; the fault says how many they have, which
+-- is no more than are always enough
 abbrev pub IsRestTooLong : Shop → ℕ → ℕ → NodeLists → ℕ → Fault → Type 0
 IsRestTooLong shop number budget node entries fault =
     (text : Vec ℕ) × (parts : Vec Part) × IsAdvanced shop number budget node.first.now node.last.now (Rest text parts)
     × (fault ≡ Room (length (flat_map numbers_of parts.items))) × (entries < length (flat_map numbers_of parts.items))
+    × (length (flat_map numbers_of parts.items) ≤ most_rest shop.jobs)

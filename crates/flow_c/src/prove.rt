@@ -8,7 +8,7 @@ ghost use Rattle.flow_c.specs.Statuses as statuses;
 ghost use Rattle.flow_c.specs.Statuses.{done, memory};
 ghost use Rattle.flow_c.specs.Faults.{shop_of, numbers_fault};
 ghost use Rattle.flow_c.specs.Checks.{ReportsCheck};
-ghost use Rattle.flow_c.specs.Searches.{proved, below, IsBelow, IsSearched, IsRestTooLong, prove_fault};
+ghost use Rattle.flow_c.specs.Searches.{proved, below, most_rest, IsBelow, IsSearched, IsRestTooLong, prove_fault};
 ghost use Rattle.flow_c.specs.Rooms.{IsSameRoom};
 ghost use Rattle.flow_c.specs.internal.Parts.{LeavesShort, IsComeTo, IsToldBy};
 
@@ -170,6 +170,8 @@ pub extern "C" fn flowshop_prove(
     ensures status { ReportsCheck (prove_fault shop.now node.now (length part.old.sequence.now))
         (IsRestTooLong (shop_of shop.now) number (length part.old.directions.now) node.now (length part.old.rest.now))
         result }
+    ensures enough { prove_fault shop.now node.now (length part.old.sequence.now) ≡ None →
+        most_rest shop.now.jobs ≤ length part.old.rest.now → (result.status ≡ done) ⊎ (result.status ≡ memory) }
     ensures memory { result.status ≡ memory → numbers_fault shop.now ≡ None }
     ensures searched { result.status ≡ done →
         IsSearched (shop_of shop.now) number (length part.old.directions.now) node.now

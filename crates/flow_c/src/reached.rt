@@ -1,8 +1,10 @@
 //! A sequence that a search reached, in room that a caller lends.
 
 ghost use Rattle.std.specs.Prelude.{◌≡◌, ℕ, ◌≤◌, List, Option, length, take, drop, cond};
+ghost use Rattle.flow_c.specs.Statuses.{done};
 ghost use Rattle.flow_c.specs.Reached.{Finds, GivesReached};
 ghost use Rattle.flow_c.specs.Rooms.{IsSameRoom};
+ghost use Rattle.flow_improve.specs.declared.reached.Reached.{Reached};
 ghost use Rattle.flow_c.specs.declared.fault.Fault.{Fault};
 ghost use Rattle.flow_c.specs.declared.shop.ShopNumbers.{ShopNumbers};
 
@@ -18,8 +20,8 @@ pub struct ReachedRoom<'a> {
     pub sequence: &'a mut [u16],
     /// The makespan.
     pub makespan: u64,
-    /// 1 where the search ended because the makespan has Taillard's bound, or because a pass dropped nothing; else 0.
-    /// No contract says that no sequence has a smaller makespan then.
+    /// 1 where the makespan has Taillard's bound, or where the search ended because a pass dropped nothing; else 0. No
+    /// contract says of the latter that no sequence has a smaller makespan.
     pub whole: u32,
 }
 
@@ -43,9 +45,11 @@ impl ReachedRoom<'_> {
     pub(crate) fn answer(&mut self, found: Result<Reached, Fault>) -> Outcome
         requires { (numbers : ShopNumbers) × (start : List ℕ) × (refusal : Option Fault)
             × Finds numbers start refusal (length self.old.sequence.now) found }
-        ensures { (numbers : ShopNumbers) (start : List ℕ) (refusal : Option Fault) →
+        ensures gives { (numbers : ShopNumbers) (start : List ℕ) (refusal : Option Fault) →
             Finds numbers start refusal (length self.old.sequence.now) found →
             GivesReached numbers start refusal self.old self.new result }
+        ensures told { result.status ≡ done → (reached : Reached) × (found ≡ Ok reached)
+            × (self.new.makespan ≡ reached.value) × (self.new.whole ≡ cond reached.whole 1 0) }
     {
         match found {
             Ok(reached) => {

@@ -1,7 +1,9 @@
 //! Rounds of iterated greedy search.
 
-ghost use Rattle.std.specs.Prelude.{length};
-ghost use Rattle.flow_c.specs.Faults.{rounds_fault};
+ghost use Rattle.std.specs.Prelude.{◌≡◌, nat_le, cond, length, IfOk};
+ghost use Rattle.flow_bound.specs.Taillard.{taillard_bound};
+ghost use Rattle.flow_c.specs.Statuses.{done};
+ghost use Rattle.flow_c.specs.Faults.{rounds_fault, shop_of};
 ghost use Rattle.flow_c.specs.Reached.{Finds, GivesReached};
 
 use crate::fault::Fault;
@@ -32,7 +34,8 @@ fn rounds_of(
     options: &RoundsOptions,
     entries: usize,
 ) -> Result<Reached, Fault>
-    ensures { Finds shop.now start.now (rounds_fault shop.now start.now options.now entries) entries result }
+    ensures finds { Finds shop.now start.now (rounds_fault shop.now start.now options.now entries) entries result }
+    ensures whole { IfOk result (λ reached. reached.whole ≡ nat_le reached.value (taillard_bound (shop_of shop.now))) }
 {
     let instance = shop.instance(alloc)?;
     let start = Sequence::new(alloc, &instance, start)?;
@@ -51,8 +54,10 @@ pub extern "C" fn flowshop_rounds(
     options: &RoundsOptions,
     reached: &mut ReachedRoom,
 ) -> Outcome
-    ensures { GivesReached shop.now start.now
+    ensures gives { GivesReached shop.now start.now
         (rounds_fault shop.now start.now options.now (length reached.old.sequence.now)) reached.old reached.new result }
+    ensures whole { result.status ≡ done →
+        reached.new.whole ≡ cond (nat_le reached.new.makespan (taillard_bound (shop_of shop.now))) 1 0 }
 {
     let found = rounds_of(alloc, shop, start, options, reached.sequence.len());
     reached.answer(found)

@@ -66,16 +66,21 @@ impl Searches {
     }
 
     /// Tells the prover which bounds are known.
-    pub(crate) fn tell<P: Prover>(&self, shared: &Shared<P>) {
-        shared.prover.tell(News::Bounds {
+    pub(crate) fn tell<P: Prover>(&self, shared: &Shared<P>)
+        requires { AreSearches shared.now.instance.now self.now }
+    {
+        let bounds = News::Bounds {
             lower: self.known.lower,
             upper: self.known.upper,
-        });
+        };
+        shared.prover.tell(shared.instance, bounds);
     }
 
     /// Tells the prover that a step begins, and which bounds are known.
-    pub(crate) fn begin<P: Prover>(&self, shared: &Shared<P>, step: u32) {
-        shared.prover.tell(News::Step(step));
+    pub(crate) fn begin<P: Prover>(&self, shared: &Shared<P>, step: u32)
+        requires { AreSearches shared.now.instance.now self.now }
+    {
+        shared.prover.tell(shared.instance, News::Step(step));
         self.tell(shared);
     }
 

@@ -233,7 +233,7 @@ pub fn certify<P: Prover>(
         prove_more(&shared, effort, &mut searches)?;
     }
     searches.tell(&shared);
-    prover.tell(News::Ended);
+    prover.tell(instance, News::Ended);
     let Searches { known, .. } = searches;
     Ok(known)
 }

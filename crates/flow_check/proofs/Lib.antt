@@ -27,10 +27,11 @@ pub mod TreeReading
 pub mod ReaderSteps
 pub mod LineSteps
 pub mod TreesGiven
-pub mod OpenSteps
 pub mod DirectionSteps
 pub mod FrameSteps
 pub mod WalkSteps
+pub mod PackNames
+pub mod TurnSteps
 pub mod DirectionsRead
 pub mod DirectionFaults
 pub mod TwoEndedReading

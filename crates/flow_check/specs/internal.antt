@@ -9,6 +9,5 @@ pub mod Reader
 pub mod PartsGive
 pub mod Gives
 pub mod ReadDirections
-pub mod Marks
 pub mod Frames
 pub mod TwoEndedLines

@@ -15,7 +15,7 @@ use crate::refusals::CommandFault;
 use crate::schedule::Schedule;
 use crate::solve::run_solve_as;
 use crate::span::Span;
-use flow_core::{Sink, Source};
+use flow_core::{Instance, Sink, Source};
 use flow_pool::Open;
 use flow_requests::Request;
 use flow_workers::{News, Watch};
@@ -35,9 +35,9 @@ impl<'a, W: Watch> Watch for IfAsked<'a, W> {
         self.asked && self.watch.is_on()
     }
 
-    fn tell(&self, news: News) {
+    fn tell(&self, instance: &Instance, news: News) {
         if self.asked {
-            self.watch.tell(news);
+            self.watch.tell(instance, news);
         }
     }
 }

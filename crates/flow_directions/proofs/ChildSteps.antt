@@ -1,7 +1,7 @@
 -- The child that is searched next.
 use Rattle.std.proofs.Common.{◌≡◌, ℕ, zero, suc, ◌+◌, ◌-◌, ◌*◌, ◌<◌, ◌≤◌, List}
 use Rattle.std.proofs.Common.{[], ◌∷◌, ◌++◌, length, slice_index, slice_index_or, Some, Err, refl, ap, sym}
-use Rattle.std.proofs.Common.{◌∙◌, subst, arith}
+use Rattle.std.proofs.Common.{◌∙◌, subst, arith, length-append}
 use Rattle.flow_shop.specs.Shop.{Shop}
 use Rattle.flow_shop.specs.Sequences.{jobs_left, AreJobs}
 use Rattle.flow_shop.specs.Directions.{first_with, last_with}
@@ -71,6 +71,7 @@ ends-here shop number budget left first last old after below count some full sam
           (subst (λ xs. AreJobs shop.jobs (xs ++ behind.items)) (sym leaves.2)
           (subst (λ xs. AreJobs shop.jobs (first ++ xs)) (sym leaves.3) are))),
       has_lists,
+      omega (arith, ap length leaves.4, count, some),
     )
 
 -- where a search is over its budget, it stands at its node again
@@ -285,6 +286,13 @@ module _ {V : Type 0} {list : V → List ℕ} {cap width : ℕ} {shop : Shop} {n
               (ends.4 (child-jobs shop.jobs end first last job are job-open.is_job.0 job-open.is_job.1 job-open.left))
               (are-children begin behind named left.3 left.4 left.5 are)),
           has_lists,
+          omega (
+            arith,
+            ap length left.6,
+            length-append parts (Children begin behind end named ∷ []),
+            ends.6,
+            count-child shop.jobs end first last job job-open.is_job.0 job-open.is_job.1 job-open.left,
+          ),
         )
 
     -- where it is the last job, the child is a sequence below the number

@@ -148,5 +148,6 @@ module _ (shop : Shop) (number budget : ℕ) (first last old : List ℕ) (new : 
     ends.1,
     (sym (ap (λ xs. xs ++ directions_of shop number first last) none) ∙ ends.2, ends.3),
     ends.4 are,
+    ends.6,
   )
   ends-over StopMemory is are ends = absurd (cc)

@@ -1,2 +1,3 @@
+pub mod News
 pub mod Search
 pub mod internal

@@ -199,7 +199,7 @@ IsFound shop number budget first last Over = budget < length (directions_of shop
 
 -- What a search of a node came to, with a budget of directions. `Proved` and `Below`: what it found, with the
 -- directions that it wrote. `Rest`: it is over its budget; these are the first directions, as many as the budget, and
--- it goes on with these parts, one after the other.
+-- it goes on with these parts, one after the other, of which there are no more than jobs left at the node.
 abbrev pub IsAdvanced : Shop → ℕ → ℕ → List ℕ → List ℕ → Advanced → Type 0
 IsAdvanced shop number budget first last (advanced.Proved text) = IsFound shop number budget first last (Proved text)
 IsAdvanced shop number budget first last (advanced.Below sequence makespan directions) =
@@ -208,7 +208,7 @@ IsAdvanced shop number budget first last (advanced.Below sequence makespan direc
 IsAdvanced shop number budget first last (advanced.Rest text parts) =
     IsFound shop number budget first last Over × (length text.items ≡ budget)
     × Continues (visits shop number first last) text.items (parts_visits shop number parts.items)
-    × All (IsPart shop) parts.items
+    × All (IsPart shop) parts.items × (length parts.items ≤ length (jobs_left shop.jobs (first ++ last)))
 
 -- what this shows: the directions prove the number for the node; or a sequence of the node is below the number
 abbrev pub Shows : Shop → ℕ → List ℕ → List ℕ → Found → Type 0

@@ -26,6 +26,7 @@ pub enum News {
 /// Searches an instance for directions.
 pub trait Prover {
     ghost use Rattle.std.specs.Prelude.{[], IfOk};
+    ghost use Rattle.flow_directions.specs.News.{MayBeTold};
     ghost use Rattle.flow_directions.specs.Search.{IsFound, Shows};
 
     // What has to hold where it searches.
@@ -44,8 +45,10 @@ pub trait Prover {
         ensures found { IfOk result (λ found. IsFound instance.now number budget [] [] found) }
         ensures shown { IfOk result (λ found. Shows instance.now number [] [] found) };
 
-    /// Is told something new. It changes nothing of what is found.
-    fn tell(&self, news: News);
+    /// Is told something new of an instance: bounds are told only where they are proved. It changes nothing of what is
+    /// found.
+    fn tell(&self, instance: &Instance, news: News)
+        requires { MayBeTold instance.now news };
 }
 
 /// Searches on the calling thread.
@@ -69,5 +72,5 @@ impl Prover for Alone {
         }
     }
 
-    fn tell(&self, _news: News) {}
+    fn tell(&self, _instance: &Instance, _news: News) {}
 }

@@ -19,7 +19,7 @@ use Rattle.flow_nodes.specs.declared.node.Node.{Node}
 use Rattle.flow_nodes.proofs.NodeSteps.{front-small, back-small}
 use Rattle.flow_nodes.proofs.KeptNodes.{lengths}
 
-end-bound-small : (shop : Shop) (first last : List ℕ) → IsWithinLimits shop → length first ≤ shop.jobs →
+pub end-bound-small : (shop : Shop) (first last : List ℕ) → IsWithinLimits shop → length first ≤ shop.jobs →
     length last ≤ shop.jobs → InRange shop.jobs last → end_bound shop first last < 4294967295
 unfolding end_bound
 end-bound-small shop first last limits first-short last-short range =

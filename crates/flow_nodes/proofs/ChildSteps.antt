@@ -30,7 +30,8 @@ greatest-none f m =
     let none : m + 1 - (m + 1) ≡ 0 = omega arith in
     ap (λ n. greatest (map f (range_with_len (m + 1) n))) none
 
-are-at : (shop : Shop) (value : ℕ → ℕ) (xs : List ℕ) (place : ℕ) → AreOf shop value xs → place < shop.machines →
+-- what a list of numbers of machines has at a place
+pub are-at : (shop : Shop) (value : ℕ → ℕ) (xs : List ℕ) (place : ℕ) → AreOf shop value xs → place < shop.machines →
     slice_index xs place ≡ value (place + 1)
 are-at shop value xs place are below =
     let same : place ≡ place + 1 - 1 = omega arith in

@@ -89,6 +89,21 @@ module _ (w : Width) (cap width : ℕ) (xs ys : List ℕ) (lane one two : ℕ) (
             ∙ sum;
       }
 
+  -- the sum, where it fits
+  pub has-whole : cap + 1 ≡ 2 ^ bits w → one + two ≤ cap →
+      HasLane cap width (zip2 (λ a b. (a + b) % 2 ^ bits w) xs ys) lane (one + two)
+  has-whole top whole =
+      let sum : get_or xs lane 0 + get_or ys lane 0 ≡ one + two = omega (arith, x.value, y.value, whole) in
+      let fits : get_or xs lane 0 + get_or ys lane 0 < 2 ^ bits w = omega (arith, sum, whole, top) in
+      record {
+        count = length-zip2 (λ a b. (a + b) % 2 ^ bits w) xs ys (x.count ∙ sym y.count) ∙ x.count;
+        within = x.within;
+        value = get_or-zip2 (λ a b. (a + b) % 2 ^ bits w) xs ys lane 0 0 0 (omega (arith, x.count, x.within))
+            (omega (arith, y.count, x.within))
+            ∙ mod-eq_of_lt fits
+            ∙ omega (arith, sum, whole);
+      }
+
 -- a bit of the mask is set where the lane is below
 pub is-below : (w : Width) (cap width : ℕ) (xs : List ℕ) (lane value number : ℕ) → width ≤ 64 → number ≤ cap →
     HasLane cap width xs lane value →

@@ -8,3 +8,7 @@ pub mod MarkedNames
 pub mod ChosenNames
 pub mod MarkSteps
 pub mod BelowSteps
+pub mod SpreadSteps
+pub mod PackSteps
+pub mod LeftSteps
+pub mod JobsMarked

@@ -3,14 +3,16 @@ use Rattle.std.proofs.Common.{◌≡◌, ◌≢◌, ℕ, zero, suc, ◌+◌, ◌
 use Rattle.std.proofs.Common.{map, slice_index, set, refl, ap, sym, ◌∙◌, subst, inl, inr, arith, length-append}
 use Rattle.std.proofs.lemmas.Bool.{cases_lt}
 use Rattle.std.proofs.lemmas.List.{get_or-set_same, get_or-set_other}
-use Rattle.flow_limits.specs.Limits.{most_jobs, most_machines, greatest_completion}
-use Rattle.flow_shop.specs.Shop.{Shop, IsWithinLimits, numbers}
+use Rattle.flow_limits.specs.Limits.{most_jobs, most_machines, greatest_completion, greatest_time}
+use Rattle.flow_shop.specs.Shop.{Shop, AreOf, IsWithinLimits, numbers, time}
+use Rattle.flow_shop.specs.Rows.{IsRow}
+use Rattle.flow_shop.specs.declared.row.Row.{Row}
 use Rattle.flow_shop.specs.Least.{least}
 use Rattle.flow_shop.proofs.Recurrence.{completion-is, after-first}
 use Rattle.flow_shop.proofs.Extremes.{map-map-append}
 use Rattle.flow_shop.proofs.JobsLeft.{InRange, numbers-more}
 use Rattle.flow_shop.proofs.Ranges.{numbers-step}
-use Rattle.flow_shop.proofs.Fronts.{completion-small, tail-small}
+use Rattle.flow_shop.proofs.Fronts.{completion-small, tail-small, time-small}
 use Rattle.flow_shop.specs.Ends.{front, back}
 use Rattle.flow_shop.proofs.EndBounds.{head-le, tail-le, through}
 
@@ -95,4 +97,34 @@ back-small shop (j ∷ js) k limits short range low high =
       through shop (λ _. 0) j js k low high range,
       completion-is shop (j ∷ js) shop.machines,
       completion-small shop (j ∷ js) shop.machines limits,
+    )
+
+-- one more place is written, counted up
+pub filled-up : (P : ℕ → ℕ → Type 0) (numbers : List ℕ) (at value : ℕ) → at < length numbers → P at value →
+    ((place : ℕ) → place < at → P place (slice_index numbers place)) → (place : ℕ) → place < at + 1 →
+    P place (slice_index (set numbers at value) place)
+filled-up P numbers at value within here before place low = elim (cases_lt place at) [
+  | inl below ↦
+      let other : place ≢ at = omega arith in
+      subst (P place) (sym (get_or-set_other numbers at place value 0 other)) (before place below)
+  | inr above ↦
+      let e : at ≡ place = omega arith in
+      let there : slice_index (set numbers at value) place ≡ value =
+      ap (slice_index (set numbers at value)) (sym e) ∙ get_or-set_same numbers at value 0 within in
+      subst (P place) (sym there) (subst (λ i. P i value) e here)
+]
+
+-- the times of a row are those of its job, and small
+pub row-times : (shop : Shop) (job : ℕ) (row : Row) → IsRow shop job row → AreOf shop (time shop job) row.times
+row-times shop job row is machine low high = (is machine low high).0
+
+pub row-small : (shop : Shop) (job : ℕ) (row : Row) (place : ℕ) → IsWithinLimits shop → IsRow shop job row →
+    place < shop.machines → slice_index row.times place ≤ greatest_time
+row-small shop job row place limits is low =
+    let same : place ≡ place + 1 - 1 = omega arith in
+    omega (
+      arith,
+      ap (slice_index row.times) same,
+      (is (place + 1) (omega arith) (omega arith)).0,
+      time-small shop job (place + 1) limits,
     )

@@ -3,4 +3,5 @@ pub mod Nodes
 pub mod Groups
 pub mod Marks
 pub mod PlainEnd
+pub mod Packs
 pub mod internal

@@ -29,6 +29,11 @@ pub trait Lanes: Copy {
     fn all(number: u64) -> Self
         ensures { (lane : ℕ) → lane < WIDTH → HasLane CAP WIDTH (list result) lane number };
 
+    /// The same number in all lanes, where it is no greater than the cap.
+    fn each(number: u32) -> Self
+        requires { number ≤ CAP }
+        ensures { (lane : ℕ) → lane < WIDTH → HasLane CAP WIDTH (list result) lane number };
+
     /// In each lane the greater of two numbers.
     fn at_least(self, other: Self) -> Self
         ensures { (lane one two : ℕ) → HasLane CAP WIDTH (list self) lane one →
@@ -78,6 +83,11 @@ impl Lanes for u16x16 {
     }
 
     #[inline(always)]
+    fn each(number: u32) -> u16x16 {
+        u16x16::splat(number as u16)
+    }
+
+    #[inline(always)]
     fn at_least(self, other: u16x16) -> u16x16 {
         self.simd_max(other)
     }
@@ -123,6 +133,11 @@ impl Lanes for u32x16 {
     #[inline(always)]
     fn all(number: u64) -> u32x16 {
         u32x16::splat(number.min(4_294_967_295) as u32)
+    }
+
+    #[inline(always)]
+    fn each(number: u32) -> u32x16 {
+        u32x16::splat(number)
     }
 
     #[inline(always)]

@@ -8,11 +8,16 @@ mod lanes;
 mod limit;
 mod marks;
 mod node;
+mod opener;
+mod pack;
 mod plain_end;
+mod single;
 
 pub use group::{LANES, MAX_GROUPS, group_count, groups, write_group};
 pub use lanes::Lanes;
 pub use limit::{fits_narrow_lanes, limit_of};
 pub use marks::Marks;
 pub use node::{Node, time_of_all};
+pub use opener::Opener;
+pub use pack::Pack;
 pub use plain_end::{fewer_below, greater_sum};

@@ -1,6 +1,6 @@
 //! Marks of places, sixteen to a word, as the lanes of a group have their jobs.
 
-ghost use Rattle.std.specs.Prelude.{◌≡◌, ◌≢◌, ℕ, ◌*◌, ◌/◌, ◌<◌, ◌≤◌, List, ◌∷◌, ◌++◌, length, slice_index, take};
+ghost use Rattle.std.specs.Prelude.{◌≡◌, ◌≢◌, ℕ, ◌+◌, ◌*◌, ◌/◌, ◌<◌, ◌≤◌, List, ◌∷◌, ◌++◌, length, slice_index, take};
 ghost use Rattle.std.specs.Prelude.{[], IfSome, IfNone};
 ghost use Rattle.flow_limits.specs.Limits.{most_jobs};
 ghost use Rattle.flow_nodes.specs.Groups.{most_groups};
@@ -118,7 +118,29 @@ impl Marks {
         ensures none { IfNone result ((names : List ℕ) → length names ≡ words * 16 →
             chosen self.old.words names ≡ []) }
     {
-        let Some(place) = self.next(0, words) else {
+        self.pop_from(0, words)
+    }
+
+    /// The same, where no place before one is marked.
+    #[inline(always)]
+    pub fn pop_from(&mut self, from: usize, words: usize) -> Option<usize>
+        requires words { words ≤ most_groups }
+        requires before { (place : ℕ) → place < from → mark self.old.words place ≡ 0 }
+        ensures size { length self.new.words ≡ most_groups }
+        ensures within { IfSome result (λ place. place < words * 16) }
+        ensures marked { IfSome result (λ place. mark self.old.words place ≡ 1) }
+        ensures taken { IfSome result (λ place. mark self.new.words place ≡ 0) }
+        ensures others { IfSome result (λ place. (other : ℕ) → other ≢ place →
+            mark self.new.words other ≡ mark self.old.words other) }
+        ensures kept { IfNone result (self.new ≡ self.old) }
+        ensures fewer { (place : ℕ) → mark self.new.words place ≡ 1 → mark self.old.words place ≡ 1 }
+        ensures first { IfSome result (λ place. (names : List ℕ) → length names ≡ words * 16 →
+            chosen self.old.words names ≡ slice_index names place ∷ chosen self.new.words names) }
+        ensures none { IfNone result ((names : List ℕ) → length names ≡ words * 16 →
+            chosen self.old.words names ≡ []) }
+        ensures before { IfSome result (λ place. (other : ℕ) → other < place + 1 → mark self.new.words other ≡ 0) }
+    {
+        let Some(place) = self.next(from, words) else {
             return None;
         };
         self.clear(place);

@@ -1,7 +1,9 @@
 //! Nodes: the front and the back on each machine, and the time of the jobs left.
 
-ghost use Rattle.std.specs.Prelude.{◌≡◌, ℕ, ◌+◌, ◌-◌, ◌≤◌, List, [], ◌∷◌, ◌++◌, All, map, slice_index, false};
-ghost use Rattle.flow_shop.specs.Shop.{AreOf, numbers, time, time_between};
+ghost use Rattle.std.specs.Prelude.{◌≡◌, ℕ, ◌+◌, ◌-◌, ◌<◌, ◌≤◌, List, [], ◌∷◌, ◌++◌, All, map, slice_index, false};
+ghost use Rattle.flow_limits.specs.Limits.{most_machines, greatest_completion, greatest_time};
+ghost use Rattle.flow_shop.specs.Shop.{Shop, AreOf, numbers, time, time_between};
+ghost use Rattle.flow_shop.specs.Rows.{IsRow};
 ghost use Rattle.flow_shop.specs.Front.{IsWithinFront};
 ghost use Rattle.flow_shop.specs.Least.{least};
 ghost use Rattle.flow_shop.specs.Sequences.{has};
@@ -10,8 +12,9 @@ ghost use Rattle.flow_shop.specs.Ends.{back, end_bound, front};
 ghost use Rattle.flow_nodes.specs.Groups.{IsCappedBound, child_bound};
 ghost use Rattle.flow_nodes.specs.Nodes.{IsJob, IsMachine, IsNode, work};
 
+use crate::single::{greater, number_of, single, sum};
 use flow_limits::MAX_MACHINES;
-use flow_shop::{End, Instance};
+use flow_shop::{End, Instance, Row};
 
 /// What is kept of a node, with machine 1 first.
 #[derive(Clone, Copy, Debug, PartialEq, Eq)]
@@ -104,7 +107,101 @@ fn take_work(instance: &Instance, works: &mut [u32; MAX_MACHINES], job: u16)
     }
 }
 
+/// Writes the fronts of a first list with a job behind it, by those of the list.
+#[inline(always)]
+fn front_with(
+    fronts: &[u32; MAX_MACHINES],
+    times: &[u32; MAX_MACHINES],
+    machines: usize,
+    longer: &mut [u32; MAX_MACHINES],
+)
+    requires machines { machines ≤ most_machines }
+    requires small { (place : ℕ) → place < machines → slice_index fronts.now place ≤ greatest_completion }
+    requires times { (place : ℕ) → place < machines → slice_index times.now place ≤ greatest_time }
+    ensures { (shop : Shop) (first : List ℕ) (job : ℕ) → machines ≡ shop.machines →
+        All (λ job. IsJob shop job) first → IsJob shop job → AreOf shop (front shop first) fronts.now →
+        AreOf shop (time shop job) times.now → AreOf shop (front shop (first ++ job ∷ [])) longer.new }
+{
+    let mut free = single(0);
+    for place in 0..machines {
+        let near = single(fronts[place]);
+        let time = single(times[place]);
+        let start = greater(free, near);
+        free = sum(start, time);
+        longer[place] = number_of(free);
+    }
+}
+
+/// Writes the backs of a last list with a job before it, by those of the list.
+#[inline(always)]
+fn back_with(
+    backs: &[u32; MAX_MACHINES],
+    times: &[u32; MAX_MACHINES],
+    machines: usize,
+    longer: &mut [u32; MAX_MACHINES],
+)
+    requires machines { machines ≤ most_machines }
+    requires small { (place : ℕ) → place < machines → slice_index backs.now place ≤ greatest_completion }
+    requires times { (place : ℕ) → place < machines → slice_index times.now place ≤ greatest_time }
+    ensures { (shop : Shop) (last : List ℕ) (job : ℕ) → machines ≡ shop.machines → IsJob shop job →
+        AreOf shop (back shop last) backs.now → AreOf shop (time shop job) times.now →
+        AreOf shop (back shop (job ∷ last)) longer.new }
+{
+    let mut behind = single(0);
+    let mut machine = machines;
+    while machine > 0 {
+        let place = machine - 1;
+        let near = single(backs[place]);
+        let time = single(times[place]);
+        let start = greater(behind, near);
+        behind = sum(start, time);
+        longer[place] = number_of(behind);
+        machine = place;
+    }
+}
+
+/// Writes the times of the jobs left without one of them.
+#[inline(always)]
+fn work_without(
+    works: &[u32; MAX_MACHINES],
+    times: &[u32; MAX_MACHINES],
+    machines: usize,
+    fewer: &mut [u32; MAX_MACHINES],
+)
+    requires machines { machines ≤ most_machines }
+    requires covers { (place : ℕ) → place < machines → slice_index times.now place ≤ slice_index works.now place }
+    ensures { (place : ℕ) → place < machines →
+        slice_index fewer.new place + slice_index times.now place ≡ slice_index works.now place }
+{
+    for place in 0..machines {
+        fewer[place] = works[place] - times[place];
+    }
+}
+
 impl Node {
+    /// Becomes the child of a node that puts a job that is left at an end.
+    #[inline(always)]
+    pub fn become_child(&mut self, node: &Node, instance: &Instance, end: End, row: &Row)
+        requires { (first : List ℕ) × (last : List ℕ) × (job : ℕ) × IsNode instance.now first last node.now
+            × IsJob instance.now job × (has (first ++ last) job ≡ false) × IsRow instance.now job row.now }
+        ensures { (first last : List ℕ) (job : ℕ) → IsNode instance.now first last node.now →
+            IsJob instance.now job → has (first ++ last) job ≡ false → IsRow instance.now job row.now →
+            IsNode instance.now (first_with end first job) (last_with end last job) self.new }
+    {
+        let machines = usize::from(instance.machines());
+        match end {
+            End::Front => {
+                front_with(&node.front, &row.times, machines, &mut self.front);
+                self.back = node.back;
+            }
+            End::Back => {
+                back_with(&node.back, &row.times, machines, &mut self.back);
+                self.front = node.front;
+            }
+        }
+        work_without(&node.work, &row.times, machines, &mut self.work);
+    }
+
     /// The node of two empty lists.
     pub fn root(instance: &Instance) -> Node
         ensures { IsNode instance.now [] [] result }

@@ -1,3 +1,4 @@
 pub mod Inputs
 pub mod Obeyed
 pub mod Status
+pub mod Words

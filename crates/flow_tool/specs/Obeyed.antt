@@ -1,5 +1,5 @@
 -- What the program does that a command line asks for, by what its names stand for.
-use Rattle.std.specs.Prelude.{◌≡◌, ◌⊎◌, Result, Ok, Err, IsErrOf}
+use Rattle.std.specs.Prelude.{◌≡◌, ◌⊎◌, ℕ, List, Result, Ok, Err, IsErrOf}
 use Rattle.flow_text.specs.declared.bytes.device.Source as sources
 use Rattle.flow_requests.specs.declared.Invocation.{Invocation}
 use Rattle.flow_requests.specs.declared.Invocation.TheVariants.{Gen, OfBlock}
@@ -9,7 +9,8 @@ use Rattle.flow_commands.specs.Runs.{IsUnwritten, Ran, Responds, SinkRun, run_of
 use Rattle.flow_commands.specs.declared.refusals.CommandFault.{CommandFault}
 use Rattle.flow_tool.specs.Inputs.{Names, RefusedSecond, RefusedText, RunOfSecond, RunOfText}
 use Rattle.flow_tool.specs.declared.refusal.Stop.{Stop}
-use Rattle.flow_tool.specs.declared.refusal.Stop.TheVariants.{Fault, Open}
+use Rattle.flow_tool.specs.declared.refusal.Stop.TheVariants.{CommandLine, Fault, Memory, Open}
+use Rattle.flow_tool.specs.Words.{Meaning}
 
 -- the program ended as its command did
 abbrev pub EndsAs : (Result (Unit {0}) CommandFault → Type 0) → Result (Unit {0}) Stop → Type 0
@@ -31,3 +32,21 @@ Obeys standard file names (OfBlock name index second request) sink result =
     (IsErrOf result Open × RefusedSecond names second × (text.after ≡ text.before) × IsUnwritten sink)
     ⊎ RunOfSecond file names second (λ given.
     EndsAs (Ran (second_kind request) (answers request) index (run_of text given sink)) result))
+
+-- the program did what words mean: what they ask for; or it wrote the text that explains them; or it stopped, and had
+-- written nothing, since memory ran out or since they are no command line
+abbrev pub Follows :
+    {A : Type 0} → {B : Type 0} → {K : Type 0} → Meaning → sources.Ghosts A → sources.Ghosts B → Names A B
+    → List (List ℕ) → SinkRun K → Result (Unit {0}) Stop → Type 0
+Follows meaning standard file names words sink result =
+    ((invocation : Invocation) × meaning.asks words invocation × Obeys standard file names invocation sink result)
+    ⊎ ((text : List ℕ) × meaning.explains words text × EndsAs (Responds (λ answer. answer ≡ Ok text) sink) result)
+    ⊎ ((IsErrOf result Memory ⊎ (IsErrOf result CommandLine × meaning.refused words)) × IsUnwritten sink)
+
+-- the same of words that the system gives: they are not known, and it may be that they can't be read
+abbrev pub FollowsSome :
+    {A : Type 0} → {B : Type 0} → {K : Type 0} → Meaning → sources.Ghosts A → sources.Ghosts B → Names A B
+    → SinkRun K → Result (Unit {0}) Stop → Type 0
+FollowsSome meaning standard file names sink result =
+    ((words : List (List ℕ)) × Follows meaning standard file names words sink result)
+    ⊎ ((IsErrOf result Memory ⊎ IsErrOf result CommandLine) × IsUnwritten sink)

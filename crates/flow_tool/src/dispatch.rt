@@ -1,54 +1,67 @@
-//! Which words of a command line run which command, and on which files.
+//! The words of a command line, and what is done for them, on which files.
 
-ghost use Rattle.std.specs.Prelude.{◌≡◌, false};
-ghost use Rattle.flow_commands.specs.Runs.{sink_run};
-ghost use Rattle.flow_tool.specs.Obeyed.{Obeys};
+ghost use Rattle.std.specs.Prelude.{◌≡◌, false, map, Ok};
+ghost use Rattle.flow_commands.specs.Runs.{Responds, sink_run};
+ghost use Rattle.flow_tool.specs.Obeyed.{Follows, FollowsSome, Obeys};
 
 use crate::inputs::{Inputs, open_second, open_text};
 use crate::refusal::Stop;
-use clap::Error;
-use clap::error::ErrorKind;
+use crate::words::{Asked, Grammar};
 use flow_commands::{CommandFault, Watch, run_gen, run_request};
 use flow_core::{Sink, put_all};
 use flow_requests::Invocation;
-use flow_words::{invocation_of, make_command};
 use std::alloc::Global;
 use std::convert::AsStr;
+use std::io;
 use std::sync::Wait;
 use std::thread::Threads;
 
-/// Does what the words of a command line ask for. Help or a version that was asked for is written too. The watch is
-/// told how far the run is, where the words ask for it.
-pub(crate) fn run_words<R: Threads + Wait + Sync, I: Inputs, S: AsStr, W: Watch, K: Sink>(
+/// Does what the words ask for that the system gives the program.
+pub(crate) fn run_given<G: Grammar, R: Threads + Wait + Sync, I: Inputs, W: Watch, K: Sink>(
+    system: &HostRuntime,
     rt: &R,
-    alloc: Global,
     inputs: &I,
-    words: &[S],
     watch: &W,
     out: &mut K,
 ) -> Result<(), Stop>
     requires { K.has_failed out.old ≡ false }
+    ensures { FollowsSome G.meaning I.Standard.Source I.File.Source (I.names inputs.now)
+        (sink_run K.Sink out.old out.new) result }
 {
-    match make_command(alloc)?.try_get_matches_from(words) {
-        Ok(matches) => {
-            let invocation = invocation_of(alloc, &matches)?.ok_or(Stop::CommandLine)?;
-            obey(rt, alloc, inputs, &invocation, watch, out)
-        }
-        Err(error) => match error.kind() {
-            ErrorKind::DisplayHelp | ErrorKind::DisplayVersion => {
-                Ok(write_help(alloc, &error, out)?)
-            }
-            ErrorKind::OutOfMemory => Err(Stop::Memory),
-            _ => Err(Stop::CommandLine),
-        },
+    let alloc = system.alloc();
+    let words: Vec<String> = match std::env::args(system) {
+        Ok(words) => words.collect(alloc)?,
+        Err(error) if error.kind() == io::ErrorKind::OutOfMemory => return Err(Stop::Memory),
+        Err(_) => return Err(Stop::CommandLine),
+    };
+    run_words::<G, R, I, String, W, K>(rt, alloc, inputs, words.as_slice(), watch, out)
+}
+
+/// Does what the words of a command line ask for. Help or a version that was asked for is written too. The watch is
+/// told how far the run is, where the words ask for it.
+pub(crate) fn run_words<
+    G: Grammar,
+    R: Threads + Wait + Sync,
+    I: Inputs,
+    S: AsStr,
+    W: Watch,
+    K: Sink,
+>(rt: &R, alloc: Global, inputs: &I, words: &[S], watch: &W, out: &mut K) -> Result<(), Stop>
+    requires { K.has_failed out.old ≡ false }
+    ensures { Follows G.meaning I.Standard.Source I.File.Source (I.names inputs.now) (map S.text words.now)
+        (sink_run K.Sink out.old out.new) result }
+{
+    match G::read(alloc, words)? {
+        Asked::Run(invocation) => obey(rt, alloc, inputs, &invocation, watch, out),
+        Asked::Explain(text) => Ok(explain(text.as_str(), out)?),
     }
 }
 
-/// Writes the help or the version that the words ask for.
-fn write_help<K: Sink>(alloc: Global, help: &Error, out: &mut K) -> Result<(), CommandFault>
+/// Writes the text that explains a command line.
+fn explain<K: Sink>(text: &str, out: &mut K) -> Result<(), CommandFault>
     requires { K.has_failed out.old ≡ false }
+    ensures { Responds (λ answer. answer ≡ Ok text.now) (sink_run K.Sink out.old out.new) result }
 {
-    let text = format!(in alloc; "{}", help)?;
     put_all(out, text.as_bytes())?;
     Ok(())
 }

@@ -6,7 +6,7 @@ ghost use Rattle.flow_tool.specs.Inputs.{IsSecond, IsText, Names, RefusedSecond,
 
 use crate::refusal::Stop;
 use flow_core::{Refused, Source, StdSource};
-use std::fs::File;
+use std::fs::{File, OpenFile};
 use std::io::Input;
 use std::rt::Files;
 
@@ -110,11 +110,6 @@ impl<'a, R: Input + Files> StdInputs<'a, R> {
     pub(crate) fn new(rt: &'a R) -> StdInputs<'a, R> {
         StdInputs { rt }
     }
-
-    /// The folder `/`, opened for reading; none where it can't be opened.
-    fn hold(&self) -> Option<R::File> {
-        File::open(self.rt, "/").ok()
-    }
 }
 
 impl<'a, R: Input + Files> Inputs for StdInputs<'a, R> {
@@ -129,14 +124,11 @@ impl<'a, R: Input + Files> Inputs for StdInputs<'a, R> {
         StdSource::new(self.rt.reader())
     }
 
-    /// Opens a file while the folder `/` is open three times, so that the descriptors 0, 1 and 2 are taken. Otherwise,
-    /// where one of them was closed when the program started, the file would be taken for standard input, standard
-    /// output or standard error.
+    /// Opens a file, once, and keeps a second descriptor of it, which is above 2. The first one, where 0, 1 or 2 was
+    /// closed when the program started, may be that: the file would be taken for standard input, standard output or
+    /// standard error.
     fn open(&self, name: &str) -> Option<StdSource<R::File>> {
-        let _first = self.hold()?;
-        let _second = self.hold()?;
-        let _third = self.hold()?;
-        let file = File::open(self.rt, name).ok()?;
-        Some(StdSource::new(file))
+        let first = File::open(self.rt, name).ok()?;
+        Some(StdSource::new(first.try_clone().ok()?))
     }
 }

@@ -3,49 +3,38 @@
 
 mod dispatch;
 mod inputs;
+mod lines;
 mod progress;
 mod refusal;
 mod status;
 #[cfg(test)]
 mod tests;
+mod words;
 
-use dispatch::run_words;
+use dispatch::run_given;
 use flow_core::StdSink;
 use inputs::StdInputs;
+use lines::Lines;
 use progress::Progress;
 use refusal::Stop;
 use std::io;
 use std::process::ExitCode;
-use std::sync::Wait;
-use std::thread::Threads;
+use words::CommandLine;
 
 fn main(rt: HostRuntime) -> ExitCode {
-    let stop = match run(&rt, &rt) {
-        Ok(()) => return ExitCode::SUCCESS,
-        Err(stop) => stop,
+    let Ok(start) = Box::new(rt.alloc(), move || Lines::start(rt, rt.alloc())) else {
+        drop(eprintln!(&rt; "{}", Stop::Memory));
+        return ExitCode::from(Stop::Memory.status());
     };
-    // Where standard error refuses the line, the status still tells.
-    drop(eprintln!(&rt; "{stop}"));
-    ExitCode::from(stop.status())
-}
-
-/// Reads the command line, and does what it asks for.
-fn run<T: Threads + Wait + Sync>(rt: &HostRuntime, threads: &T) -> Result<(), Stop> {
-    let alloc = rt.alloc();
-    let inputs = StdInputs::new(rt);
-    let words: Vec<String> = match std::env::args(rt) {
-        Ok(words) => words.collect(alloc)?,
-        Err(error) if error.kind() == io::ErrorKind::OutOfMemory => return Err(Stop::Memory),
-        Err(_) => return Err(Stop::CommandLine),
-    };
-    let mut out = StdSink::new(io::writer(rt));
-    let progress = Progress::new(rt);
-    run_words(
-        threads,
-        alloc,
-        &inputs,
-        words.as_slice(),
-        &progress,
-        &mut out,
-    )
+    let inputs = StdInputs::new(&rt);
+    let progress = Progress::new(&rt, start);
+    let mut out = StdSink::new(io::writer(&rt));
+    let refusal = run_given::<CommandLine, _, _, _, _>(
+        &rt, &rt, &inputs, &progress, &mut out,
+    ).err();
+    progress.end(refusal);
+    match refusal {
+        None => ExitCode::SUCCESS,
+        Some(stop) => ExitCode::from(stop.status()),
+    }
 }

@@ -1,17 +1,66 @@
 //! The lines that `certify --progress` writes to standard error.
 
+use crate::lines::Lines;
+use crate::refusal::Stop;
 use flow_commands::{News, Watch};
+use flow_core::Instance;
 use std::cell::Cell;
+use std::fmt;
+use std::fmt::{Display, Formatter};
 use std::rt::Clock;
+use std::sync::Wait;
 
 /// The least time between two lines, in milliseconds; only the last line may come sooner.
 const PAUSE: u64 = 1_000;
 
-/// Writes lines that say how far a run is: how long ago it began, which step it is at, which bounds it knows, and how
-/// many directions it wrote. Where standard error refuses a line, the run goes on without it.
+/// A line for standard error.
+#[derive(Drop)]
+pub(crate) enum Line {
+    /// How far a run is.
+    Progress {
+        /// How long ago it began.
+        seconds: u64,
+        /// The step that it is at.
+        step: u32,
+        /// The bounds that it knows.
+        bounds: (u64, u64),
+        /// How many directions it wrote.
+        directions: u64,
+    },
+    /// Why it stopped.
+    Refusal(Stop),
+}
+
+impl Display for Line {
+    fn fmt<W: fmt::Write>(&self, f: &mut Formatter<W>) -> fmt::Result {
+        match self {
+            Line::Progress {
+                seconds,
+                step,
+                bounds: (lower, upper),
+                directions,
+            } => write!(
+                f,
+                "certify: {seconds} s, step {step}, bounds {lower} {upper}, {directions} directions"
+            ),
+            Line::Refusal(stop) => write!(f, "{stop}"),
+        }
+    }
+}
+
+/// Starts the thread that writes lines; none where it can't. The bounds of the runtime that a thread is given have to
+/// be known where this is made, and a watch has no place to ask for them.
+pub(crate) type StartLines = Box<dyn Fn() -> Option<Lines<Line>>>;
+
+/// Writes lines that say how far a run is, and never waits for whoever reads them: where standard error refuses a line
+/// or is full, the run goes on without it.
 #[derive(Drop)]
 pub(crate) struct Progress<'a, R> {
     rt: &'a R,
+    start: StartLines,
+    ghost can_start: { pre start },
+    /// There are none before the first line.
+    lines: Cell<Option<Lines<Line>>>,
     /// When the run began, by the clock, in milliseconds.
     begun: Cell<Option<u64>>,
     /// When the last line was written.
@@ -24,11 +73,15 @@ pub(crate) struct Progress<'a, R> {
     directions: Cell<u64>,
 }
 
-impl<'a, R: Eprint + Clock> Progress<'a, R> {
-    /// No line is written yet.
-    pub(crate) fn new(rt: &'a R) -> Progress<'a, R> {
+impl<'a, R: Wait + Eprint + Clock> Progress<'a, R> {
+    /// No line is written yet, and no thread started.
+    pub(crate) fn new(rt: &'a R, start: StartLines) -> Progress<'a, R>
+        requires { pre start }
+    {
         Progress {
             rt,
+            start,
+            lines: Cell::new(None),
             begun: Cell::new(None),
             written: Cell::new(0),
             step: Cell::new(0),
@@ -58,22 +111,44 @@ impl<'a, R: Eprint + Clock> Progress<'a, R> {
             return;
         }
         self.written.set(now);
-        let seconds = now.saturating_sub(begun) / 1_000;
-        let step = self.step.get();
-        let (lower, upper) = self.bounds.get();
-        let directions = self.before.get().saturating_add(self.directions.get());
-        drop(eprintln!(self.rt;
-            "certify: {seconds} s, step {step}, bounds {lower} {upper}, {directions} directions"
-        ));
+        self.hand_on(Line::Progress {
+            seconds: now.saturating_sub(begun) / 1_000,
+            step: self.step.get(),
+            bounds: self.bounds.get(),
+            directions: self.before.get().saturating_add(self.directions.get()),
+        });
+    }
+
+    /// Hands a line to the thread that writes. It is left out where there is no such thread.
+    fn hand_on(&self, line: Line) {
+        let lines = match self.lines.replace(None) {
+            Some(lines) => Some(lines),
+            None => (self.start)(),
+        };
+        if let Some(lines) = &lines {
+            lines.tell(self.rt, line);
+        }
+        self.lines.set(lines);
+    }
+
+    /// Ends the lines, with that of a refusal where there is one. Where a run wrote lines, it does not wait for long.
+    pub(crate) fn end(self, refusal: Option<Stop>) {
+        let Progress { rt, lines, .. } = self;
+        match (lines.into_inner(), refusal) {
+            (Some(lines), refusal) => lines.end(rt, refusal.map(|stop| Line::Refusal(stop))),
+            // Where standard error refuses the line, the status still tells.
+            (None, Some(stop)) => drop(eprintln!(rt; "{stop}")),
+            (None, None) => {}
+        }
     }
 }
 
-impl<'a, R: Eprint + Clock> Watch for Progress<'a, R> {
+impl<'a, R: Wait + Eprint + Clock> Watch for Progress<'a, R> {
     fn is_on(&self) -> bool {
         true
     }
 
-    fn tell(&self, news: News) {
+    fn tell(&self, _instance: &Instance, news: News) {
         match news {
             News::Step(step) => self.step.set(step),
             News::Bounds { lower, upper } => {

@@ -81,7 +81,7 @@ pub fn prove_by<R: Threads + Sync, W: Watch>(
     'rounds: for _ in 0..u64::MAX {
         settle(&mut text, &mut pieces)?;
         let written = text.len() as u64;
-        workers.watch.tell(News::Directions(written));
+        workers.watch.tell(instance, News::Directions(written));
         if written > budget {
             return Ok(Found::Over);
         }
@@ -94,7 +94,7 @@ pub fn prove_by<R: Threads + Sync, W: Watch>(
                 },
             ) => {
                 let count = text.len() as u64 + directions.len() as u64;
-                workers.watch.tell(News::Directions(count));
+                workers.watch.tell(instance, News::Directions(count));
                 return Ok(reached(instance, sequence, count, budget));
             }
             Some(piece) => pieces.push_front(piece)?,
@@ -139,7 +139,7 @@ impl<'a, R: Threads + Sync, W: Watch> Prover for Workers<'a, R, W> {
         prove_by(self, alloc, instance, number, budget)
     }
 
-    fn tell(&self, news: News) {
-        self.watch.tell(news);
+    fn tell(&self, instance: &Instance, news: News) {
+        self.watch.tell(instance, news);
     }
 }

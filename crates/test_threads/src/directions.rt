@@ -2,6 +2,7 @@
 
 use flow_directions::{Found, prove};
 use flow_generator::generate;
+use flow_shop::Instance;
 use flow_workers::{News, Watch, Workers, prove_by};
 use sha2::{Digest, Sha256};
 use std::alloc::Global;
@@ -82,7 +83,7 @@ impl Watch for Told {
         true
     }
 
-    fn tell(&self, news: News) {
+    fn tell(&self, _instance: &Instance, news: News) {
         if let News::Directions(directions) = news {
             if directions < self.last.get() {
                 self.fell.set(true);

@@ -1,36 +1,44 @@
 //! The walk through the nodes that directions open: where the directions end that prove a number.
 
-ghost use Rattle.std.specs.Prelude.{◌≡◌, ◌≢◌, ◌⊎◌, ℕ, ◌+◌, ◌-◌, ◌/◌, ◌≤◌, ◌<◌, false, List, [], ◌∷◌, ◌++◌};
-ghost use Rattle.std.specs.Prelude.{length, drop, take, Err, IfOk, IfErr, IfSome, IfNone};
+ghost use Rattle.std.specs.Prelude.{◌≡◌, ◌≢◌, ◌⊎◌, ℕ, ◌+◌, ◌-◌, ◌*◌, ◌%◌, ◌≤◌, ◌<◌, false, List, [], ◌∷◌, ◌++◌};
+ghost use Rattle.std.specs.Prelude.{length, drop, take, slice_index, slice_index_or, Err, IfOk, IfErr, IfSome, IfNone};
 ghost use Rattle.flow_limits.specs.Limits.{most_jobs};
 ghost use Rattle.flow_shop.specs.Shop.{Shop};
+ghost use Rattle.flow_shop.specs.Rows.{AreRows, IsRow};
 ghost use Rattle.flow_shop.specs.Sequences.{has};
 ghost use Rattle.flow_shop.specs.Directions.{Proves, first_with, last_with};
 ghost use Rattle.flow_nodes.specs.Nodes.{IsJob, IsNode};
-ghost use Rattle.flow_nodes.specs.Groups.{AreGroups, group_count};
+ghost use Rattle.flow_nodes.specs.Groups.{group_count};
 ghost use Rattle.flow_nodes.specs.Lanes.{limit_of};
+ghost use Rattle.flow_nodes.specs.Marks.{mark, chosen};
+ghost use Rattle.flow_nodes.specs.Packs.{HasLeft, HasRoom, HasRoomFor, IsPack, left_below};
+ghost use Rattle.flow_nodes.specs.declared.pack.Pack.{Pack};
 ghost use Rattle.flow_check.specs.TwoEndedFaults.{HasDirectionsFault};
-ghost use Rattle.flow_check.specs.internal.Marks.{job_mark};
-ghost use Rattle.flow_check.specs.internal.Frames.{AreLeft, AreOpen, IsFrame};
-ghost use Rattle.flow_check.specs.internal.Frames.{frame_at, here, above, with_job};
+ghost use Rattle.flow_check.specs.internal.Frames.{ArePacks, HavePacks, IsNext, IsReady};
+ghost use Rattle.flow_check.specs.internal.Frames.{frame_at, here, above, names_at};
 ghost use Rattle.flow_check.specs.internal.ReadDirections.{EndsAt, first_end, read_node};
 ghost use Rattle.flow_check.specs.declared.fault.CheckFault.TheVariants.{Memory};
 
 use crate::fault::CheckFault;
 use crate::two_ended::DIRECTIONS;
-use flow_nodes::{Lanes, Marks, Node, fits_narrow_lanes, group_count, groups, limit_of};
-use flow_shop::{End, Instance};
+use flow_nodes::{
+    LANES, Lanes, Marks, Node, Opener, Pack, fits_narrow_lanes, group_count, limit_of,
+};
+use flow_shop::{End, Instance, Row, rows};
 use std::alloc::{AllocError, Global};
 use std::simd::prelude::*;
 
-/// A node below the number whose children at an end are read.
+/// A node below the number whose children at an end are read. The jobs left stand in a pack, which is that of the nodes
+/// with as many groups of jobs left.
 #[derive(Clone, Copy)]
 pub(crate) struct NodeFrame {
     /// What is kept of the node.
     pub(crate) node: Node,
+    /// The places of the jobs left.
+    pub(crate) left: Marks,
     /// The end.
     pub(crate) end: End,
-    /// The jobs left whose children are below the number.
+    /// The places of the jobs whose children are below the number and still to be read.
     pub(crate) below: Marks,
     /// The job of the child that is read, or 0 before the first.
     pub(crate) job: u16,
@@ -38,13 +46,15 @@ pub(crate) struct NodeFrame {
 
 /// A node whose children are read, and the nodes above it, each of which is a child of the one before.
 #[derive(Drop)]
-pub(crate) struct Path {
+pub(crate) struct Path<V> {
     /// The frames of the nodes, the root's first; and behind them memory for those of the nodes below.
     pub(crate) frames: Vec<NodeFrame>,
     /// How many nodes are above the node.
     pub(crate) depth: usize,
-    /// The jobs left at the node.
-    pub(crate) left: Marks,
+    /// The packs of the nodes, that of one group first.
+    pub(crate) packs: Vec<Pack<V>>,
+    /// What opens the nodes.
+    pub(crate) opener: Opener<V>,
 }
 
 /// The end whose sign stands at a place of a text.
@@ -63,38 +73,104 @@ fn end_at(text: &[u8], place: usize) -> Option<End>
     }
 }
 
-/// Marks the children below a number, of those of a node that put a job left at an end.
-#[inline(always)]
-fn open_children<V: Lanes>(
-    groups: &[Vec<V>],
-    node: &Node,
-    end: End,
-    left: &Marks,
-    number: u64,
-    below: &mut Marks,
-)
-    requires number { limit_of number ≤ V.CAP }
-    requires at { (shop : Shop) × AreGroups V.list V.CAP V.WIDTH shop groups.now }
-    ensures { (shop : Shop) (first last : List ℕ) → AreGroups V.list V.CAP V.WIDTH shop groups.now →
-        IsNode shop first last node.now → AreLeft shop first last left.now →
-        AreOpen shop number end first last below.new }
-{
-    let limit = limit_of(number);
-    node.mark_below(end, groups, left, limit, below);
+impl NodeFrame {
+    /// Becomes the frame of the child that puts the job of a place at the end of a frame's node.
+    #[inline(always)]
+    fn become_child(&mut self, frame: &NodeFrame, instance: &Instance, row: &Row, place: usize)
+        requires place { place < most_jobs }
+        requires at { (first : List ℕ) × (last : List ℕ) × (job : ℕ) × IsNode instance.now first last frame.now.node
+            × IsJob instance.now job × (has (first ++ last) job ≡ false) × IsRow instance.now job row.now }
+        ensures node { (first last : List ℕ) (job : ℕ) → IsNode instance.now first last frame.now.node →
+            IsJob instance.now job → has (first ++ last) job ≡ false → IsRow instance.now job row.now →
+            IsNode instance.now (first_with frame.now.end first job) (last_with frame.now.end last job) self.new.node }
+        ensures left { (first last names : List ℕ) (job : ℕ) → HasLeft instance.now first last names frame.now.left →
+            IsJob instance.now job → has (first ++ last) job ≡ false → place < length names →
+            slice_index names place ≡ job → mark frame.now.left.words place ≡ 1 →
+            HasLeft instance.now (first_with frame.now.end first job) (last_with frame.now.end last job) names
+            self.new.left }
+    {
+        self.node
+            .become_child(&frame.node, instance, frame.end, row);
+        self.left = frame.left;
+        self.left.clear(place);
+    }
 }
 
-impl Path {
+/// Makes the frame behind that of a node the frame of its child that puts the job of a place.
+#[inline(always)]
+fn make_child(frames: &mut [NodeFrame], depth: usize, instance: &Instance, row: &Row, place: usize)
+    requires place { place < most_jobs }
+    requires room { depth + 1 < length frames.old }
+    requires at { (first : List ℕ) × (last : List ℕ) × (job : ℕ)
+        × IsNode instance.now first last (frame_at frames.old depth).node
+        × IsJob instance.now job × (has (first ++ last) job ≡ false) × IsRow instance.now job row.now }
+    ensures above { take (depth + 1) frames.new ≡ take (depth + 1) frames.old }
+    ensures node { (first last : List ℕ) (job : ℕ) → IsNode instance.now first last (frame_at frames.old depth).node →
+        IsJob instance.now job → has (first ++ last) job ≡ false → IsRow instance.now job row.now →
+        IsNode instance.now (first_with (frame_at frames.old depth).end first job)
+        (last_with (frame_at frames.old depth).end last job) (frame_at frames.new (depth + 1)).node }
+    ensures left { (first last names : List ℕ) (job : ℕ) →
+        HasLeft instance.now first last names (frame_at frames.old depth).left →
+        IsJob instance.now job → has (first ++ last) job ≡ false → place < length names →
+        slice_index names place ≡ job → mark (frame_at frames.old depth).left.words place ≡ 1 →
+        HasLeft instance.now (first_with (frame_at frames.old depth).end first job)
+        (last_with (frame_at frames.old depth).end last job) names (frame_at frames.new (depth + 1)).left }
+{
+    let (above, deeper) = frames.split_at_mut(depth + 1);
+    deeper[0].become_child(&above[depth], instance, row, place);
+}
+
+/// Fills the pack of so many groups with the jobs at marked places of the pack that has one group more.
+fn refill<V: Lanes>(packs: &mut [Pack<V>], instance: &Instance, groups: usize, left: &Marks)
+    requires wide { V.WIDTH ≡ 16 }
+    requires some { 1 ≤ groups }
+    requires more { groups < length packs.old }
+    requires rooms { (none : Pack V) → HasRoom instance.now (slice_index_or packs.old (groups - 1) none) }
+    requires from { (none : Pack V) → HasRoom instance.now (slice_index_or packs.old groups none) }
+    requires fits { length (chosen left.now.words (names_at packs.old groups))
+        ≤ length (names_at packs.old (groups - 1)) }
+    ensures others { (place : ℕ) (none : Pack V) → place ≢ groups - 1 →
+        slice_index_or packs.new place none ≡ slice_index_or packs.old place none }
+    ensures pack { (none : Pack V) →
+        IsPack V.list V.CAP V.WIDTH instance.now (slice_index_or packs.new (groups - 1) none) }
+    ensures count { (none : Pack V) → length (slice_index_or packs.new (groups - 1) none).groups.items
+        ≡ length (slice_index_or packs.old (groups - 1) none).groups.items }
+    ensures jobs { take (length (chosen left.now.words (names_at packs.old groups))) (names_at packs.new (groups - 1))
+        ≡ chosen left.now.words (names_at packs.old groups) }
+{
+    let (fewer, more) = packs.split_at_mut(groups);
+    fewer[groups - 1].fill(instance, &more[0], left);
+}
+
+impl<V: Lanes> Path<V> {
     /// The path of a root, at which all jobs are left, with memory for so many nodes as there are jobs.
-    fn new(alloc: Global, jobs: u16, node: Node) -> Result<Path, AllocError>
-        requires { jobs ≤ most_jobs }
-        ensures size { IfOk result (λ path. length path.frames.items ≡ jobs) }
+    fn new(
+        alloc: Global,
+        instance: &Instance,
+        node: Node,
+        limit: u32,
+    ) -> Result<Path<V>, AllocError>
+        requires wide { V.WIDTH ≡ 16 }
+        ensures size { IfOk result (λ path. length path.frames.items ≡ instance.now.jobs) }
         ensures depth { IfOk result (λ path. path.depth ≡ 0) }
-        ensures node { IfOk result (λ path. 0 < jobs → (here path).node ≡ node) }
-        ensures marked { IfOk result (λ path. (job : ℕ) → 1 ≤ job → job ≤ jobs → job_mark path.left job ≡ 1) }
-        ensures others { IfOk result (λ path. (job : ℕ) → jobs < job → job_mark path.left job ≡ 0) }
+        ensures node { IfOk result (λ path. (here path).node ≡ node) }
+        ensures limit { IfOk result (λ path. path.opener.limit ≡ limit) }
+        ensures room { IfOk result (λ path. HasRoomFor instance.now path.opener) }
+        ensures packs { IfOk result (λ path.
+            ArePacks V.list V.CAP V.WIDTH instance.now instance.now.jobs path.packs.items) }
+        ensures left { IfOk result (λ path. HasLeft instance.now [] []
+            (names_at path.packs.items (group_count instance.now.jobs - 1)) (here path).left) }
     {
+        let jobs = instance.jobs();
+        let mut packs = Vec::with_capacity(alloc, group_count(jobs))?;
+        'packs: while packs.len() < group_count(jobs) {
+            let pack = Pack::new(alloc, instance, packs.len() + 1)?;
+            packs.push(pack)?;
+        }
+        packs[group_count(jobs) - 1].fill_all(instance);
         let root = NodeFrame {
             node,
+            left: Marks::first(jobs),
             end: End::Front,
             below: Marks::none(),
             job: 0,
@@ -102,100 +178,185 @@ impl Path {
         Ok(Path {
             frames: vec![in alloc; root; jobs as usize]?,
             depth: 0,
-            left: Marks::first(jobs),
+            packs,
+            opener: Opener::new(alloc, instance, limit)?,
         })
     }
 
-    /// Begins with the children of the node at an end, of those below a number.
+    /// Begins with the children of the node at an end, of those below the number, where so many groups of jobs are left.
     #[inline(always)]
-    fn open<V: Lanes>(&mut self, groups: &[Vec<V>], end: End, number: u64)
-        requires number { limit_of number ≤ V.CAP }
-        requires at { (shop : Shop) × AreGroups V.list V.CAP V.WIDTH shop groups.now }
+    fn open(&mut self, end: End, groups: usize)
+        requires wide { V.WIDTH ≡ 16 }
+        requires limit { self.old.opener.limit ≤ V.CAP }
+        requires some { 1 ≤ groups }
+        requires few { groups ≤ length self.old.packs.items }
         requires within { self.old.depth < length self.old.frames.items }
+        requires at { (shop : Shop) × (number : ℕ) × (first : List ℕ) × (last : List ℕ)
+            × IsReady V.list V.CAP V.WIDTH shop number first last groups self.old }
         ensures depth { self.new.depth ≡ self.old.depth }
         ensures size { length self.new.frames.items ≡ length self.old.frames.items }
         ensures above { above self.new ≡ above self.old }
-        ensures left { self.new.left ≡ self.old.left }
+        ensures packs { self.new.packs ≡ self.old.packs }
+        ensures limit { self.new.opener.limit ≡ self.old.opener.limit }
+        ensures room { (shop : Shop) → HasRoomFor shop self.old.opener → HasRoomFor shop self.new.opener }
         ensures end { (here self.new).end ≡ end }
-        ensures before { (here self.new).job ≡ 0 }
-        ensures frame { (shop : Shop) (first last : List ℕ) → AreGroups V.list V.CAP V.WIDTH shop groups.now →
-            IsNode shop first last (here self.old).node → AreLeft shop first last self.old.left →
-            IsFrame shop number first last (here self.new) }
+        ensures node { (here self.new).node ≡ (here self.old).node }
+        ensures left { (here self.new).left ≡ (here self.old).left }
+        ensures within { (none : Pack V) (place : ℕ) →
+            place < length (slice_index_or self.old.packs.items (groups - 1) none).groups.items * 16 →
+            mark (here self.new).below.words place ≡ 1 → mark (here self.old).left.words place ≡ 1 }
+        ensures below { (shop : Shop) (number : ℕ) (first last : List ℕ) →
+            IsReady V.list V.CAP V.WIDTH shop number first last groups self.old →
+            chosen (here self.new).below.words (names_at self.old.packs.items (groups - 1))
+            ≡ left_below shop number end first last }
     {
         let frame = &mut self.frames[self.depth];
         frame.end = end;
-        frame.job = 0;
-        open_children(
-            groups,
+        self.opener.mark_below(
             &frame.node,
             end,
-            &self.left,
-            number,
+            &self.packs[groups - 1],
+            &frame.left,
             &mut frame.below,
         );
     }
 
-    /// The next job whose child at the node is below the number. `None` where no other such job is left.
+    /// The place of the next job whose child at the node is below the number, where so many groups of jobs are left.
+    /// `None` where no other such job is left.
     #[inline(always)]
-    fn next(&self, jobs: u16) -> Option<u16>
-        requires jobs { jobs ≤ most_jobs }
-        requires within { self.now.depth < length self.now.frames.items }
-        ensures above { IfSome result (λ next. (here self.now).job < next) }
-        ensures within { IfSome result (λ next. (next - 1) / 16 < group_count jobs) }
-        ensures marked { IfSome result (λ next. job_mark (here self.now).below next ≡ 1) }
-        ensures least { IfSome result (λ next. (other : ℕ) → (here self.now).job < other → other < next →
-            job_mark (here self.now).below other ≡ 0) }
-        ensures none { IfNone result ((other : ℕ) → (here self.now).job < other → other ≤ jobs →
-            job_mark (here self.now).below other ≡ 0) }
+    fn next(&mut self, groups: usize) -> Option<usize>
+        requires some { 1 ≤ groups }
+        requires few { groups ≤ length self.old.packs.items }
+        requires most { groups ≤ 50 }
+        requires within { self.old.depth < length self.old.frames.items }
+        requires names { length (names_at self.old.packs.items (groups - 1)) ≡ groups * 16 }
+        ensures depth { self.new.depth ≡ self.old.depth }
+        ensures size { length self.new.frames.items ≡ length self.old.frames.items }
+        ensures above { above self.new ≡ above self.old }
+        ensures packs { self.new.packs ≡ self.old.packs }
+        ensures opener { self.new.opener ≡ self.old.opener }
+        ensures end { (here self.new).end ≡ (here self.old).end }
+        ensures node { (here self.new).node ≡ (here self.old).node }
+        ensures left { (here self.new).left ≡ (here self.old).left }
+        ensures fewer { (place : ℕ) → mark (here self.new).below.words place ≡ 1 →
+            mark (here self.old).below.words place ≡ 1 }
+        ensures within { IfSome result (λ place. place < groups * 16) }
+        ensures marked { IfSome result (λ place. mark (here self.old).below.words place ≡ 1) }
+        ensures job { IfSome result (λ place. (here self.new).job
+            ≡ slice_index (names_at self.old.packs.items (groups - 1)) place) }
+        ensures first { IfSome result (λ place.
+            chosen (here self.old).below.words (names_at self.old.packs.items (groups - 1))
+            ≡ (here self.new).job ∷ chosen (here self.new).below.words (names_at self.old.packs.items (groups - 1))) }
+        ensures none { IfNone result
+            (chosen (here self.old).below.words (names_at self.old.packs.items (groups - 1)) ≡ []) }
     {
-        let frame = &self.frames[self.depth];
-        let place = frame.below.next(frame.job as usize, group_count(jobs))?;
-        Some(place as u16 + 1)
+        let frame = &mut self.frames[self.depth];
+        let place = frame.below.pop(groups)?;
+        frame.job = self.packs[groups - 1].names[place];
+        Some(place)
     }
 
-    /// Goes to the child of the node that a job makes, at the end of the node.
+    /// Goes to the child of the node that the job of a place makes, at the end of the node.
     #[inline(always)]
-    fn put(&mut self, instance: &Instance, job: u16)
-        requires job { IsJob instance.now job }
-        requires few { job ≤ most_jobs }
+    fn put(&mut self, instance: &Instance, rows: &[Row], place: usize)
+        requires place { place < most_jobs }
+        requires rows { AreRows instance.now rows.now }
         requires room { self.old.depth + 1 < length self.old.frames.items }
-        requires left { (first : List ℕ) × (last : List ℕ) × IsNode instance.now first last (here self.old).node
-            × (has (first ++ last) job ≡ false) }
+        requires at { (first : List ℕ) × (last : List ℕ) × IsNode instance.now first last (here self.old).node
+            × IsJob instance.now (here self.old).job × (has (first ++ last) (here self.old).job ≡ false) }
         ensures depth { self.new.depth ≡ self.old.depth + 1 }
         ensures size { length self.new.frames.items ≡ length self.old.frames.items }
-        ensures above { above self.new ≡ above self.old ++ with_job (here self.old) job ∷ [] }
+        ensures above { above self.new ≡ above self.old ++ here self.old ∷ [] }
+        ensures packs { self.new.packs ≡ self.old.packs }
+        ensures opener { self.new.opener ≡ self.old.opener }
         ensures node { (first last : List ℕ) → IsNode instance.now first last (here self.old).node →
-            has (first ++ last) job ≡ false →
-            IsNode instance.now (first_with (here self.old).end first job) (last_with (here self.old).end last job)
-            (here self.new).node }
-        ensures others { (other : ℕ) → 1 ≤ other → other ≢ job →
-            job_mark self.new.left other ≡ job_mark self.old.left other }
-        ensures same { job_mark self.new.left job ≡ 0 }
+            has (first ++ last) (here self.old).job ≡ false →
+            IsNode instance.now (first_with (here self.old).end first (here self.old).job)
+            (last_with (here self.old).end last (here self.old).job) (here self.new).node }
+        ensures left { (first last names : List ℕ) → HasLeft instance.now first last names (here self.old).left →
+            has (first ++ last) (here self.old).job ≡ false → place < length names →
+            slice_index names place ≡ (here self.old).job → mark (here self.old).left.words place ≡ 1 →
+            HasLeft instance.now (first_with (here self.old).end first (here self.old).job)
+            (last_with (here self.old).end last (here self.old).job) names (here self.new).left }
     {
         let depth = self.depth;
-        let end = self.frames[depth].end;
-        self.frames[depth].job = job;
-        self.frames[depth + 1].node = self.frames[depth].node;
-        self.frames[depth + 1].node.put(instance, end, job);
-        self.left.clear(job as usize - 1);
+        let job = self.frames[depth].job;
+        make_child(
+            self.frames.as_mut_slice(),
+            depth,
+            instance,
+            &rows[job as usize - 1],
+            place,
+        );
         self.depth = depth + 1;
     }
 
-    /// Goes back to the node above.
-    #[inline(always)]
-    fn back(&mut self)
-        requires above { 0 < self.old.depth }
+    /// Packs the jobs left at the node anew, so many of them, which are whole groups.
+    fn pack(&mut self, instance: &Instance, left: u16)
+        requires wide { V.WIDTH ≡ 16 }
+        requires whole { left % 16 ≡ 0 }
+        requires some { 1 ≤ left }
+        requires few { left < instance.now.jobs }
+        requires most { left ≤ most_jobs }
         requires within { self.old.depth < length self.old.frames.items }
-        requires from { 1 ≤ (frame_at self.old.frames.items (self.old.depth - 1)).job }
-        requires to { (frame_at self.old.frames.items (self.old.depth - 1)).job ≤ most_jobs }
-        ensures depth { self.new.depth ≡ self.old.depth - 1 }
-        ensures frames { self.new.frames.items ≡ self.old.frames.items }
-        ensures others { (other : ℕ) → 1 ≤ other → other ≢ (here self.new).job →
-            job_mark self.new.left other ≡ job_mark self.old.left other }
-        ensures same { job_mark self.new.left (here self.new).job ≡ 1 }
+        requires packs { HavePacks instance.now self.old.packs.items }
+        requires count { length (chosen (here self.old).left.words (names_at self.old.packs.items (group_count left)))
+            ≡ left }
+        ensures depth { self.new.depth ≡ self.old.depth }
+        ensures size { length self.new.frames.items ≡ length self.old.frames.items }
+        ensures above { above self.new ≡ above self.old }
+        ensures opener { self.new.opener ≡ self.old.opener }
+        ensures node { (here self.new).node ≡ (here self.old).node }
+        ensures packs { HavePacks instance.now self.new.packs.items }
+        ensures others { (place : ℕ) (none : Pack V) → place ≢ group_count left - 1 →
+            slice_index_or self.new.packs.items place none ≡ slice_index_or self.old.packs.items place none }
+        ensures pack { (none : Pack V) → IsPack V.list V.CAP V.WIDTH instance.now
+            (slice_index_or self.new.packs.items (group_count left - 1) none) }
+        ensures left { chosen (here self.new).left.words (names_at self.new.packs.items (group_count left - 1))
+            ≡ chosen (here self.old).left.words (names_at self.old.packs.items (group_count left)) }
     {
-        self.depth -= 1;
-        self.left.set(self.frames[self.depth].job as usize - 1);
+        let frame = &mut self.frames[self.depth];
+        refill(
+            self.packs.as_mut_slice(),
+            instance,
+            group_count(left),
+            &frame.left,
+        );
+        frame.left = Marks::first(left);
+    }
+
+    /// Goes to the child of the node that the job of a place makes, at the end of the node, where so many jobs are left.
+    /// Where these are whole groups, they are packed anew.
+    #[inline(always)]
+    fn go(&mut self, instance: &Instance, rows: &[Row], place: usize, left: u16)
+        requires wide { V.WIDTH ≡ 16 }
+        requires place { place < most_jobs }
+        requires rows { AreRows instance.now rows.now }
+        requires room { self.old.depth + 1 < length self.old.frames.items }
+        requires some { 1 ≤ left }
+        requires few { left < instance.now.jobs }
+        requires packs { ArePacks V.list V.CAP V.WIDTH instance.now (left + 1) self.old.packs.items }
+        requires at { (first : List ℕ) × (last : List ℕ) × IsNext instance.now first last left place self.old }
+        ensures depth { self.new.depth ≡ self.old.depth + 1 }
+        ensures size { length self.new.frames.items ≡ length self.old.frames.items }
+        ensures above { above self.new ≡ above self.old ++ here self.old ∷ [] }
+        ensures opener { self.new.opener ≡ self.old.opener }
+        ensures packs { ArePacks V.list V.CAP V.WIDTH instance.now left self.new.packs.items }
+        ensures names { (more : ℕ) → left < more → more ≤ instance.now.jobs →
+            names_at self.old.packs.items (group_count more - 1) ≡ names_at self.new.packs.items (group_count more - 1) }
+        ensures node { (first last : List ℕ) → IsNext instance.now first last left place self.old →
+            IsNode instance.now (first_with (here self.old).end first (here self.old).job)
+            (last_with (here self.old).end last (here self.old).job) (here self.new).node }
+        ensures left { (first last : List ℕ) → IsNext instance.now first last left place self.old →
+            HasLeft instance.now (first_with (here self.old).end first (here self.old).job)
+            (last_with (here self.old).end last (here self.old).job)
+            (names_at self.new.packs.items (group_count left - 1)) (here self.new).left }
+    {
+        self.put(instance, rows, place);
+        let spare = left as usize % LANES;
+        if spare == 0 {
+            self.pack(instance, left);
+        }
     }
 }
 
@@ -216,31 +377,33 @@ fn walk<V: Lanes>(
     if u64::from(root.bound(instance)) >= number {
         return Ok(0);
     }
-    let jobs = instance.jobs();
-    let groups = groups::<V>(alloc, instance)?;
-    let mut path = Path::new(alloc, jobs, root)?;
+    let rows = rows(alloc, instance)?;
+    let mut path = Path::<V>::new(alloc, instance, root, limit_of(number))?;
     let Some(end) = end_at(text, 0) else {
         return Err(CheckFault::Tree(DIRECTIONS));
     };
-    path.open(groups.as_slice(), end, number);
+    let mut left = instance.jobs();
+    path.open(end, group_count(left));
     let mut place = 1;
     'walk: loop {
-        match path.next(jobs) {
+        match path.next(group_count(left)) {
             None => {
                 if path.depth == 0 {
                     return Ok(place);
                 }
-                path.back();
+                path.depth -= 1;
+                left += 1;
             }
-            Some(job) => {
-                if path.depth + 1 == jobs as usize {
+            Some(at) => {
+                if left == 1 {
                     return Err(CheckFault::Low(DIRECTIONS));
                 }
                 let Some(end) = end_at(text, place) else {
                     return Err(CheckFault::Tree(DIRECTIONS));
                 };
-                path.put(instance, job);
-                path.open(groups.as_slice(), end, number);
+                left -= 1;
+                path.go(instance, rows.as_slice(), at, left);
+                path.open(end, group_count(left));
                 place += 1;
             }
         }

@@ -44,4 +44,5 @@ Ends shop number budget first last old new (Err Over) =
     × (first_below shop number first last ≡ first_reached (parts_visits shop number new.rest.items))
     × (AreJobs shop.jobs (first ++ last) → All (IsPart shop) new.rest.items)
     × HasLists shop.jobs first last new.lists
+    × (length new.rest.items ≤ length (jobs_left shop.jobs (first ++ last)))
 Ends shop number budget first last old new (Err Memory) = Unit {0}

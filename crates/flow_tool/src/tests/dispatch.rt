@@ -8,6 +8,7 @@ use crate::tests::lines::{
     ANSWERS, CERTIFY, CHECK, IMPROVE, OPTIONS, Row, SCHEDULE, STARTS, VERSIONS,
 };
 use crate::tests::refusal::is_line;
+use crate::words::CommandLine;
 use flow_commands::Unwatched;
 use flow_core::MemorySink;
 use std::alloc::{AllocError, Global};
@@ -45,7 +46,7 @@ fn says<R: Threads + Wait + Sync>(
     let Ok(words) = words_of(alloc, line) else {
         return false;
     };
-    match run_words(
+    match run_words::<CommandLine, _, _, _, _, _>(
         rt,
         alloc,
         &Named::new(of_stdin),

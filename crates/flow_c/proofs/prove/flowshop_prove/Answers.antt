@@ -1,6 +1,7 @@
-use Rattle.std.proofs.Common.{length, take, ap, arith}
+use Rattle.std.proofs.Common.{length, take, ap, ◌∙◌, inl, inr, arith}
 use Rattle.flow_c.specs.Faults.{shop_of}
 use Rattle.flow_c.proofs.Told.{kept-behind, come-fits, come-whole, come-searched, come-proved, come-below}
+use Rattle.flow_c.proofs.Told.{never-too-long}
 use Rattle.flow_c.proofs.prove.flowshop_prove.Goals as goal
 
 pub fill-requires : goal.fill-requires
@@ -55,3 +56,12 @@ returns-in-Ok-clause-rest c =
     (come-whole (shop_of c.args.shop.now) c.args.number (length c.args.part.now.directions.now) c.args.node.now
     c.in-Ok.ensures.jobs c.in-Ok.found c.in-Ok.ensures.found)
     (rw c.as_slice.ensures.value at c.fill.ensures.rest)
+
+pub returns-in-Err-clause-enough : goal.returns-in-Err-clause-enough
+returns-in-Err-clause-enough c none many = elim c.in-Err.ensures.refused [
+  | inl ran_out ↦ inr (c.refused.ensures.fault.0 ∙ ran_out)
+  | inr (inl given) ↦ absurd (cc)
+  | inr (inr long) ↦ absurd (never-too-long (shop_of c.args.shop.now) c.args.number
+      (length c.args.part.now.directions.now) c.args.node.now (length c.args.part.now.rest.now) c.in-Err.fault long.1
+      many)
+]

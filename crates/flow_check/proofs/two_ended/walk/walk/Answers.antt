@@ -1,186 +1,407 @@
-use Rattle.std.proofs.Common.{rules, ◌≡◌, ◌+◌, ◌-◌, ◌/◌, ◌<◌, [], ◌∷◌, ◌++◌, length, take, drop, Some, None}
-use Rattle.std.proofs.Common.{ap, sym, ◌∙◌, subst, arith, inl}
+use Rattle.std.proofs.Common.{rules, ◌≡◌, ◌≢◌, ℕ, ◌+◌, ◌-◌, ◌<◌, ◌≤◌, List, [], ◌∷◌, ◌++◌, length, take, drop}
+use Rattle.std.proofs.Common.{Some, None, refl, ap, sym, ◌∙◌, subst, arith, inl}
 use Rattle.flow_shop.specs.Ends.{end_bound}
 use Rattle.flow_shop.specs.Directions.{first_with, last_with}
 use Rattle.flow_nodes.specs.Nodes.{IsNode}
-use Rattle.flow_nodes.specs.Groups.{AreGroups, group_count}
-use Rattle.flow_check.specs.internal.Frames.{AreLeft, first_of, last_of, frame_at, here, above, with_job}
+use Rattle.flow_nodes.specs.Groups.{group_count}
+use Rattle.flow_nodes.specs.Marks.{chosen}
+use Rattle.flow_nodes.specs.Packs.{HasLeft, HasRoomFor}
+use Rattle.flow_check.specs.internal.Frames.{ArePacks, IsNext, IsOpen, IsReady, first_of, last_of, frame_at, here}
+use Rattle.flow_check.specs.internal.Frames.{above, names_at}
 use Rattle.flow_check.specs.internal.ReadDirections.{first_end, read_node}
-use Rattle.flow_check.proofs.WalkSteps.{Stands, count-above, last-above, above-back, left-root, left-without}
-use Rattle.flow_check.proofs.WalkSteps.{left-child, stands-root, stands-done, stands-back, parent-back, left-back}
-use Rattle.flow_check.proofs.WalkSteps.{stands-child}
-use Rattle.flow_check.proofs.WalkSteps.{fails-low, fails-sign, opened}
+use Rattle.flow_check.proofs.DirectionSteps.{read-sign}
+use Rattle.flow_check.proofs.PackNames.{names-count, packs-above}
+use Rattle.flow_check.proofs.WalkSteps.{IsOpened, Stands, count-above, last-above}
+use Rattle.flow_check.proofs.WalkSteps.{path-opened, stands-root, stands-back}
+use Rattle.flow_check.proofs.WalkSteps.{fails-low, fails-sign}
+use Rattle.flow_check.proofs.TurnSteps.{IsAt, IsTurn, names_of, turn-taken, turn-open, turn-next, turn-stands}
 use Rattle.flow_check.proofs.two_ended.walk.walk.Goals as goal
+
+pub returns-in_default-clause-read : goal.returns-in_default-clause-read
+returns-in_default-clause-read g c =
+    let shop = c.args.instance.now in
+    let low : end_bound shop [] [] < c.args.number =
+    omega (arith, c.if-from-number.false, c.from.ensures, c.bound.ensures [] [] c.root-root.ensures) in
+    let some : shop.jobs ≢ 0 = omega (arith, c.root-root.ensures.limits.some_job) in
+    let none : first_end (drop 0 c.args.text.now) ≡ None = search rules in
+    inl (read-sign shop c.args.number shop.jobs [] [] c.args.text.now low some none)
 
 pub walk-init : goal.walk-init
 walk-init g c =
     let shop = c.args.instance.now in
+    let list = g.V.Lanes.list in
+    let cap = g.V.Lanes.CAP in
+    let width = g.V.Lanes.WIDTH in
     let text = c.args.text.now in
-    let whole = read_node shop c.args.number shop.jobs [] [] text in
+    let number = c.args.number in
+    let whole = read_node shop number shop.jobs [] [] text in
     let path = c.in_ok-path.path in
     let new = c.open.new.self in
-    let low : end_bound shop [] [] < c.args.number =
+    let made = c.in_ok-path.ensures in
+    let names = λ (left : ℕ). names_at new.packs.items (group_count left - 1) in
+    let low : end_bound shop [] [] < number =
     omega (arith, c.if-from-number.false, c.from.ensures, c.bound.ensures [] [] c.root-root.ensures) in
-    let groups : AreGroups g.V.Lanes.list g.V.Lanes.CAP g.V.Lanes.WIDTH shop c.as_slice.result.now =
-    subst (AreGroups g.V.Lanes.list g.V.Lanes.CAP g.V.Lanes.WIDTH shop) (sym c.as_slice.ensures.value)
-    c.in_ok-groups.ensures in
-    let some : 0 < c.jobs-jobs.result =
-    omega (arith, c.jobs-jobs.ensures.value, c.jobs-jobs.ensures.limits.some_job) in
-    let empty : above new ≡ [] =
-    c.open.ensures.above ∙ ap (λ d. take d path.frames.items) c.in_ok-path.ensures.depth in
-    let node : IsNode shop [] [] (here path).node =
-    subst (IsNode shop [] []) (sym (c.in_ok-path.ensures.node some)) c.root-root.ensures in
-    let left : AreLeft shop [] [] path.left =
-    left-root shop path.left c.jobs-jobs.result c.jobs-jobs.ensures.value c.in_ok-path.ensures.marked
-    c.in_ok-path.ensures.others in
+    let some : 1 ≤ shop.jobs = c.root-root.ensures.limits.some_job in
+    let all : c.group_count.result ≡ group_count shop.jobs = omega (arith, c.group_count.ensures, c.jobs-left.ensures.value) in
+    let last : c.group_count.result - 1 ≡ group_count shop.jobs - 1 = omega (arith, all) in
+    let empty : above new ≡ [] = c.open.ensures.above ∙ ap (λ d. take d path.frames.items) made.depth in
+    let ready : IsReady list cap width shop number [] [] c.group_count.result path =
+    record {
+      is_node = subst (IsNode shop [] []) (sym made.node) c.root-root.ensures;
+      bound = low;
+      limit = made.limit ∙ c.limit_of.ensures;
+      room = made.room;
+      is_pack = λ none. made.packs.packed (c.group_count.result - 1) none (omega (arith, all, some))
+          (omega (arith, all, some, made.packs.have.count));
+      has_left = subst (λ n. HasLeft shop [] [] (names_at path.packs.items n) (here path).left) (sym last) made.left;
+    } in
+    let is_opened : IsOpened shop number [] [] (names_at new.packs.items (c.group_count.result - 1)) new =
+    path-opened list cap width shop number [] [] c.group_count.result c.in-Some.end path new ready
+    (omega (arith, all, some, made.packs.have.count)) c.open.ensures.packs c.open.ensures.end c.open.ensures.node
+    c.open.ensures.left c.open.ensures.within (c.open.ensures.below shop number [] [] ready) in
+    let opened_all : IsOpened shop number [] [] (names shop.jobs) new =
+    subst (λ n. IsOpened shop number [] [] (names_at new.packs.items n) new) last is_opened in
     record {
       within = omega (arith, c.in-Some.ensures.within);
-      size = c.open.ensures.size ∙ c.in_ok-path.ensures.size ∙ c.jobs-jobs.ensures.value;
-      deep = omega (arith, c.open.ensures.depth, c.in_ok-path.ensures.depth, c.jobs-jobs.ensures.limits.some_job);
-      stands = subst (λ fs. Stands shop c.args.number whole text 1 fs (here new)) (sym empty)
-          (stands-root shop c.args.number text (here new) low c.jobs-jobs.ensures.limits.some_job
-          (sym c.in-Some.ensures.value ∙ ap Some (sym c.open.ensures.end)) c.open.ensures.before
-          (c.open.ensures.frame shop [] [] groups node left));
-      left = subst (λ fs. AreLeft shop (first_of [] fs) (last_of [] fs) new.left) (sym empty)
-          (subst (AreLeft shop [] []) (sym c.open.ensures.left) left);
+      left = omega (arith, c.open.ensures.depth, made.depth, c.jobs-left.ensures.value);
+      some = omega (arith, c.jobs-left.ensures.value, some);
+      size = c.open.ensures.size ∙ made.size;
+      limit = c.open.ensures.limit ∙ made.limit ∙ c.limit_of.ensures;
+      room = c.open.ensures.room shop made.room;
+      packs = subst (λ ps. ArePacks list cap width shop c.jobs-left.result ps.items) (sym c.open.ensures.packs)
+          (subst (λ n. ArePacks list cap width shop n path.packs.items) (sym c.jobs-left.ensures.value) made.packs);
+      stands = subst (λ fs. Stands shop number whole text 1 names fs (here new)) (sym empty)
+          (stands-root shop number text names (here new) low some
+          (sym c.in-Some.ensures.value ∙ ap Some (sym c.open.ensures.end)) opened_all.below opened_all.frame);
     }
 
-pub returns-then-path-eq0-clause-read : goal.returns-then-path-eq0-clause-read
-returns-then-path-eq0-clause-read g c =
-    let shop = c.args.instance.now in
-    let path = c.walk.path in
-    let none : length (above path) ≡ 0 =
-    count-above path (omega (arith, c.walk.invariant.size, c.walk.invariant.deep)) ∙ c.if-path-eq0.true in
-    inl (stands-done shop c.args.number (read_node shop c.args.number shop.jobs [] [] c.args.text.now) c.args.text.now
-    c.walk.place (above path) (here path) c.walk.invariant.stands
-    (λ other above high. c.in-None.ensures.none other above (omega (arith, high, c.jobs-jobs.ensures.value))) none)
-
-pub back-requires-clause-from : goal.back-requires-clause-from
-back-requires-clause-from g c =
-    let path = c.walk.path in
-    (parent-back c.args.instance.now c.args.number (above path) (take (path.depth - 1) path.frames.items)
-    (frame_at path.frames.items (path.depth - 1)) c.walk.invariant.stands.frames_are
-    (last-above path.frames.items path.depth (omega (arith, c.if-path-eq0.false))
-    (omega (arith, c.walk.invariant.size, c.walk.invariant.deep)))).some
-
-pub back-requires-clause-to : goal.back-requires-clause-to
-back-requires-clause-to g c =
-    let path = c.walk.path in
+pub next-requires-clause-names : goal.next-requires-clause-names
+next-requires-clause-names g c =
+    let here_is = c.walk.invariant in
     omega (
       arith,
-      c.jobs-jobs.ensures.limits.jobs,
-      (parent-back c.args.instance.now c.args.number (above path) (take (path.depth - 1) path.frames.items)
-          (frame_at path.frames.items (path.depth - 1)) c.walk.invariant.stands.frames_are
-          (last-above path.frames.items path.depth (omega (arith, c.if-path-eq0.false))
-          (omega (arith, c.walk.invariant.size, c.walk.invariant.deep)))).is_frame.job,
+      names-count c.args.instance.now c.walk.path.packs.items (c.group_count-in-walk.result - 1) here_is.packs.have
+          (omega (arith, here_is.packs.have.count, c.group_count-in-walk.ensures, here_is.left, here_is.some)),
+      c.group_count-in-walk.ensures,
+      here_is.some,
     )
 
 pub walk-preserved-in-None : goal.walk-preserved-in-None
 walk-preserved-in-None g c =
     let shop = c.args.instance.now in
+    let list = g.V.Lanes.list in
+    let cap = g.V.Lanes.CAP in
+    let width = g.V.Lanes.WIDTH in
+    let text = c.args.text.now in
+    let number = c.args.number in
+    let whole = read_node shop number shop.jobs [] [] text in
     let old = c.walk.path in
-    let new = c.back.new.self in
-    let within : old.depth < length old.frames.items = omega (arith, c.walk.invariant.size, c.walk.invariant.deep) in
-    let split : above old ≡ above new ++ here new ∷ [] =
-    above-back old new (omega (arith, c.if-path-eq0.false)) within c.back.ensures.depth c.back.ensures.frames in
+    let mid = c.next.new.self in
+    let here_is = c.walk.invariant in
+    let next = c.next.ensures in
+    let some : 0 < mid.depth = omega (arith, c.if-path-eq0.false) in
+    let within : mid.depth < length mid.frames.items =
+    omega (arith, next.size, next.depth, here_is.size, here_is.left, here_is.some) in
+    let deep : length (above old) ≡ old.depth =
+    count-above old (omega (arith, here_is.size, here_is.left, here_is.some)) in
+    let at : c.group_count-in-walk.result - 1 ≡ group_count (shop.jobs - length (above old)) - 1 =
+    omega (arith, c.group_count-in-walk.ensures, here_is.left, deep) in
+    let none : chosen (here old).below.words (names_at old.packs.items (group_count (shop.jobs - length (above old)) - 1))
+    ≡ [] =
+    ap (λ n. chosen (here old).below.words (names_at old.packs.items n)) (sym at) ∙ c.in-None.ensures.none in
+    let split : above old ≡ take (mid.depth - 1) mid.frames.items ++ frame_at mid.frames.items (mid.depth - 1) ∷ [] =
+    sym next.above ∙ last-above mid.frames.items mid.depth some within in
     record {
-      within = c.walk.invariant.within;
-      size = ap length c.back.ensures.frames ∙ c.walk.invariant.size;
-      deep = omega (arith, c.back.ensures.depth, c.walk.invariant.deep);
-      stands = stands-back shop c.args.number (read_node shop c.args.number shop.jobs [] [] c.args.text.now)
-          c.args.text.now c.walk.place (above old) (above new) (here old) (here new) c.walk.invariant.stands
-          (λ other above high. c.in-None.ensures.none other above (omega (arith, high, c.jobs-jobs.ensures.value)))
-          split;
-      left = left-back shop c.args.number (above old) (above new) (here new) old.left new.left
-          c.walk.invariant.stands.frames_are split c.walk.invariant.left c.back.ensures.others c.back.ensures.same;
+      within = here_is.within;
+      left = omega (arith, here_is.left, next.depth, some);
+      some = omega arith;
+      size = next.size ∙ here_is.size;
+      limit = ap (λ o. o.limit) next.opener ∙ here_is.limit;
+      room = subst (HasRoomFor shop) (sym next.opener) here_is.room;
+      packs = subst (λ ps. ArePacks list cap width shop (c.walk.left + 1) ps.items) (sym next.packs)
+          (packs-above list cap width shop c.walk.left (c.walk.left + 1) old.packs.items (omega arith) here_is.packs);
+      stands = subst (λ ps. Stands shop number whole text c.walk.place
+          (λ left. names_at ps.items (group_count left - 1)) (take (mid.depth - 1) mid.frames.items)
+          (frame_at mid.frames.items (mid.depth - 1))) (sym next.packs)
+          (stands-back shop number whole text c.walk.place
+          (λ left. names_at old.packs.items (group_count left - 1)) (above old)
+          (take (mid.depth - 1) mid.frames.items) (here old) (frame_at mid.frames.items (mid.depth - 1))
+          here_is.stands none split);
     }
 
-pub returns-then-path-jobs-clause-read : goal.returns-then-path-jobs-clause-read
-returns-then-path-jobs-clause-read g c =
+pub returns-then-left-eq1-clause-read : goal.returns-then-left-eq1-clause-read
+returns-then-left-eq1-clause-read g c =
     let shop = c.args.instance.now in
-    let path = c.walk.path in
-    let next = c.in-Some-next.ensures in
-    let one : shop.jobs - length (above path) ≡ 1 = omega (
-      arith,
-      c.if-path-jobs.true,
-      count-above path (omega (arith, c.walk.invariant.size, c.walk.invariant.deep)),
-      c.jobs-jobs.ensures.value,
-    ) in
-    inl (fails-low shop c.args.number (read_node shop c.args.number shop.jobs [] [] c.args.text.now) c.args.text.now
-    c.walk.place (above path) (here path) (first_of [] (above path)) (last_of [] (above path))
-    (shop.jobs - length (above path)) c.walk.invariant.stands c.in-Some-next.job next.above
-    (omega (arith, next.within, c.jobs-jobs.ensures.value)) next.marked next.least one)
+    let text = c.args.text.now in
+    let number = c.args.number in
+    let whole = read_node shop number shop.jobs [] [] text in
+    let old = c.walk.path in
+    let mid = c.next.new.self in
+    let groups = c.group_count-in-walk.result in
+    let here_is = c.walk.invariant in
+    let next = c.next.ensures in
+    let at : IsAt shop number whole text c.walk.place c.walk.left old =
+    record {
+      size = here_is.size;
+      left_is = here_is.left;
+      some = here_is.some;
+      have = here_is.packs.have;
+      stands = here_is.stands;
+    } in
+    let turn : IsTurn groups old mid c.in-Some-next.at =
+    record {
+      packs = next.packs;
+      end = next.end;
+      node = next.node;
+      left = next.left;
+      fewer = next.fewer;
+      within = c.in-Some-next.ensures.within;
+      marked = c.in-Some-next.ensures.marked;
+      job = c.in-Some-next.ensures.job;
+      first = c.in-Some-next.ensures.first;
+    } in
+    let deep : length (above old) ≡ old.depth =
+    count-above old (omega (arith, here_is.size, here_is.left, here_is.some)) in
+    let one : shop.jobs - length (above old) ≡ 1 = omega (arith, c.if-left-eq1.true, here_is.left, deep) in
+    inl (fails-low shop number whole text c.walk.place (names_of old) (above old) (here old) (here mid)
+    (first_of [] (above old)) (last_of [] (above old)) (shop.jobs - length (above old)) here_is.stands
+    (turn-taken shop number whole text c.walk.place c.walk.left groups c.in-Some-next.at old mid at
+    c.group_count-in-walk.ensures turn) one)
 
 pub returns-in_default-end_at-clause-read : goal.returns-in_default-end_at-clause-read
 returns-in_default-end_at-clause-read g c =
     let shop = c.args.instance.now in
-    let path = c.walk.path in
-    let next = c.in-Some-next.ensures in
-    let more : 1 < shop.jobs - length (above path) = omega (
-      arith,
-      c.if-path-jobs.false,
-      count-above path (omega (arith, c.walk.invariant.size, c.walk.invariant.deep)),
-      c.walk.invariant.deep,
-      c.jobs-jobs.ensures.value,
-    ) in
-    let none : first_end (drop c.walk.place c.args.text.now) ≡ None = search rules in
-    inl (fails-sign shop c.args.number (read_node shop c.args.number shop.jobs [] [] c.args.text.now) c.args.text.now
-    c.walk.place (above path) (here path) (first_of [] (above path)) (last_of [] (above path))
-    (shop.jobs - length (above path)) c.walk.invariant.stands c.in-Some-next.job next.above
-    (omega (arith, next.within, c.jobs-jobs.ensures.value)) next.marked next.least more none)
+    let text = c.args.text.now in
+    let number = c.args.number in
+    let whole = read_node shop number shop.jobs [] [] text in
+    let old = c.walk.path in
+    let mid = c.next.new.self in
+    let groups = c.group_count-in-walk.result in
+    let here_is = c.walk.invariant in
+    let next = c.next.ensures in
+    let at : IsAt shop number whole text c.walk.place c.walk.left old =
+    record {
+      size = here_is.size;
+      left_is = here_is.left;
+      some = here_is.some;
+      have = here_is.packs.have;
+      stands = here_is.stands;
+    } in
+    let turn : IsTurn groups old mid c.in-Some-next.at =
+    record {
+      packs = next.packs;
+      end = next.end;
+      node = next.node;
+      left = next.left;
+      fewer = next.fewer;
+      within = c.in-Some-next.ensures.within;
+      marked = c.in-Some-next.ensures.marked;
+      job = c.in-Some-next.ensures.job;
+      first = c.in-Some-next.ensures.first;
+    } in
+    let deep : length (above old) ≡ old.depth =
+    count-above old (omega (arith, here_is.size, here_is.left, here_is.some)) in
+    let more : 1 < shop.jobs - length (above old) =
+    omega (arith, c.if-left-eq1.false, here_is.left, here_is.some, deep) in
+    let none : first_end (drop c.walk.place text) ≡ None = search rules in
+    inl (fails-sign shop number whole text c.walk.place (names_of old) (above old) (here old) (here mid)
+    (first_of [] (above old)) (last_of [] (above old)) (shop.jobs - length (above old)) here_is.stands
+    (turn-taken shop number whole text c.walk.place c.walk.left groups c.in-Some-next.at old mid at
+    c.group_count-in-walk.ensures turn) more none)
 
-pub put-requires-clause-left : goal.put-requires-clause-left
-put-requires-clause-left g c =
+pub go-requires-clause-packs : goal.go-requires-clause-packs
+go-requires-clause-packs g c =
     let shop = c.args.instance.now in
-    let path = c.walk.path in
-    let next = c.in-Some-next.ensures in
-    let is = opened shop c.args.number (read_node shop c.args.number shop.jobs [] [] c.args.text.now) c.args.text.now
-    c.walk.place (above path) (here path) (first_of [] (above path)) (last_of [] (above path))
-    (shop.jobs - length (above path)) c.walk.invariant.stands c.in-Some-next.job next.above
-    (omega (arith, next.within, c.jobs-jobs.ensures.value)) next.marked next.least in
-    (first_of [] (above path), last_of [] (above path), c.walk.invariant.stands.is_frame.is_node, is.1)
+    let old = c.walk.path in
+    let all : c.walk.left ≡ c.walk.left - 1 + 1 = omega (arith, c.walk.invariant.some) in
+    subst (λ ps. ArePacks g.V.Lanes.list g.V.Lanes.CAP g.V.Lanes.WIDTH shop (c.walk.left - 1 + 1) ps.items)
+    (sym c.next.ensures.packs)
+    (subst (λ n. ArePacks g.V.Lanes.list g.V.Lanes.CAP g.V.Lanes.WIDTH shop n old.packs.items) all
+    c.walk.invariant.packs)
+
+pub go-requires-clause-at : goal.go-requires-clause-at
+go-requires-clause-at g c =
+    let shop = c.args.instance.now in
+    let text = c.args.text.now in
+    let number = c.args.number in
+    let whole = read_node shop number shop.jobs [] [] text in
+    let old = c.walk.path in
+    let mid = c.next.new.self in
+    let groups = c.group_count-in-walk.result in
+    let here_is = c.walk.invariant in
+    let next = c.next.ensures in
+    let at : IsAt shop number whole text c.walk.place c.walk.left old =
+    record {
+      size = here_is.size;
+      left_is = here_is.left;
+      some = here_is.some;
+      have = here_is.packs.have;
+      stands = here_is.stands;
+    } in
+    let turn : IsTurn groups old mid c.in-Some-next.at =
+    record {
+      packs = next.packs;
+      end = next.end;
+      node = next.node;
+      left = next.left;
+      fewer = next.fewer;
+      within = c.in-Some-next.ensures.within;
+      marked = c.in-Some-next.ensures.marked;
+      job = c.in-Some-next.ensures.job;
+      first = c.in-Some-next.ensures.first;
+    } in (
+      first_of [] (above old),
+      last_of [] (above old),
+      turn-next shop number whole text c.walk.place c.walk.left groups c.in-Some-next.at old mid at
+          c.group_count-in-walk.ensures turn (c.walk.left - 1) refl,
+    )
+
+pub open-requires-in-Some-next-clause-at : goal.open-requires-in-Some-next-clause-at
+open-requires-in-Some-next-clause-at g c =
+    let shop = c.args.instance.now in
+    let text = c.args.text.now in
+    let number = c.args.number in
+    let whole = read_node shop number shop.jobs [] [] text in
+    let old = c.walk.path in
+    let mid = c.next.new.self in
+    let groups = c.group_count-in-walk.result in
+    let here_is = c.walk.invariant in
+    let next = c.next.ensures in
+    let at : IsAt shop number whole text c.walk.place c.walk.left old =
+    record {
+      size = here_is.size;
+      left_is = here_is.left;
+      some = here_is.some;
+      have = here_is.packs.have;
+      stands = here_is.stands;
+    } in
+    let turn : IsTurn groups old mid c.in-Some-next.at =
+    record {
+      packs = next.packs;
+      end = next.end;
+      node = next.node;
+      left = next.left;
+      fewer = next.fewer;
+      within = c.in-Some-next.ensures.within;
+      marked = c.in-Some-next.ensures.marked;
+      job = c.in-Some-next.ensures.job;
+      first = c.in-Some-next.ensures.first;
+    } in
+    let first : List ℕ = first_of [] (above old) in
+    let last : List ℕ = last_of [] (above old) in
+    let job = (here mid).job in
+    let first2 : List ℕ = first_with (here mid).end first job in
+    let last2 : List ℕ = last_with (here mid).end last job in
+    let put = c.go.new.self in
+    let groups2 = c.group_count-in-Some-next.result in
+    let is_next : IsNext shop first last (c.walk.left - 1) c.in-Some-next.at mid =
+    turn-next shop number whole text c.walk.place c.walk.left groups c.in-Some-next.at old mid at
+    c.group_count-in-walk.ensures turn (c.walk.left - 1) refl in
+    let is_open : IsOpen shop number (here mid).end first last job =
+    turn-open shop number whole text c.walk.place c.walk.left groups c.in-Some-next.at old mid at
+    c.group_count-in-walk.ensures turn in
+    let few : 1 ≤ c.walk.left - 1 = omega (arith, c.if-left-eq1.false, here_is.some) in
+    let index : group_count (c.walk.left - 1) - 1 ≡ groups2 - 1 = omega (arith, c.group_count-in-Some-next.ensures) in
+    let inside : groups2 - 1 < length put.packs.items = omega (
+      arith,
+      c.go.ensures.packs.have.count,
+      c.group_count-in-Some-next.ensures,
+      here_is.left,
+      few,
+    ) in
+    let ready : IsReady g.V.Lanes.list g.V.Lanes.CAP g.V.Lanes.WIDTH shop number first2 last2 groups2 put =
+    record {
+      is_node = c.go.ensures.node first last is_next;
+      bound = is_open.below;
+      limit = ap (λ o. o.limit) c.go.ensures.opener ∙ ap (λ o. o.limit) next.opener ∙ here_is.limit;
+      room = subst (HasRoomFor shop) (sym (c.go.ensures.opener ∙ next.opener)) here_is.room;
+      is_pack = λ none. c.go.ensures.packs.packed (groups2 - 1) none
+          (omega (arith, c.group_count-in-Some-next.ensures, few)) inside;
+      has_left = subst (λ n. HasLeft shop first2 last2 (names_at put.packs.items n) (here put).left) index
+          (c.go.ensures.left first last is_next);
+    } in
+    (shop, number, first2, last2, ready)
 
 pub walk-preserved : goal.walk-preserved
 walk-preserved g c =
     let shop = c.args.instance.now in
-    let number = c.args.number in
     let text = c.args.text.now in
+    let number = c.args.number in
     let whole = read_node shop number shop.jobs [] [] text in
     let old = c.walk.path in
-    let mid = c.put.new.self in
+    let mid = c.next.new.self in
+    let groups = c.group_count-in-walk.result in
+    let here_is = c.walk.invariant in
+    let next = c.next.ensures in
+    let at : IsAt shop number whole text c.walk.place c.walk.left old =
+    record {
+      size = here_is.size;
+      left_is = here_is.left;
+      some = here_is.some;
+      have = here_is.packs.have;
+      stands = here_is.stands;
+    } in
+    let turn : IsTurn groups old mid c.in-Some-next.at =
+    record {
+      packs = next.packs;
+      end = next.end;
+      node = next.node;
+      left = next.left;
+      fewer = next.fewer;
+      within = c.in-Some-next.ensures.within;
+      marked = c.in-Some-next.ensures.marked;
+      job = c.in-Some-next.ensures.job;
+      first = c.in-Some-next.ensures.first;
+    } in
+    let first : List ℕ = first_of [] (above old) in
+    let last : List ℕ = last_of [] (above old) in
+    let job = (here mid).job in
+    let first2 : List ℕ = first_with (here mid).end first job in
+    let last2 : List ℕ = last_with (here mid).end last job in
+    let put = c.go.new.self in
+    let groups2 = c.group_count-in-Some-next.result in
+    let is_next : IsNext shop first last (c.walk.left - 1) c.in-Some-next.at mid =
+    turn-next shop number whole text c.walk.place c.walk.left groups c.in-Some-next.at old mid at
+    c.group_count-in-walk.ensures turn (c.walk.left - 1) refl in
+    let is_open : IsOpen shop number (here mid).end first last job =
+    turn-open shop number whole text c.walk.place c.walk.left groups c.in-Some-next.at old mid at
+    c.group_count-in-walk.ensures turn in
+    let few : 1 ≤ c.walk.left - 1 = omega (arith, c.if-left-eq1.false, here_is.some) in
+    let index : group_count (c.walk.left - 1) - 1 ≡ groups2 - 1 = omega (arith, c.group_count-in-Some-next.ensures) in
+    let inside : groups2 - 1 < length put.packs.items = omega (
+      arith,
+      c.go.ensures.packs.have.count,
+      c.group_count-in-Some-next.ensures,
+      here_is.left,
+      few,
+    ) in
+    let ready : IsReady g.V.Lanes.list g.V.Lanes.CAP g.V.Lanes.WIDTH shop number first2 last2 groups2 put =
+    record {
+      is_node = c.go.ensures.node first last is_next;
+      bound = is_open.below;
+      limit = ap (λ o. o.limit) c.go.ensures.opener ∙ ap (λ o. o.limit) next.opener ∙ here_is.limit;
+      room = subst (HasRoomFor shop) (sym (c.go.ensures.opener ∙ next.opener)) here_is.room;
+      is_pack = λ none. c.go.ensures.packs.packed (groups2 - 1) none
+          (omega (arith, c.group_count-in-Some-next.ensures, few)) inside;
+      has_left = subst (λ n. HasLeft shop first2 last2 (names_at put.packs.items n) (here put).left) index
+          (c.go.ensures.left first last is_next);
+    } in
     let new = c.open-in-Some-next.new.self in
-    let job = c.in-Some-next.job in
-    let put = with_job (here old) job in
-    let next = c.in-Some-next.ensures in
-    let stands = c.walk.invariant.stands in
-    let inside : (job - 1) / 16 < group_count shop.jobs = omega (arith, next.within, c.jobs-jobs.ensures.value) in
-    let is = opened shop number whole text c.walk.place (above old) (here old) (first_of [] (above old))
-    (last_of [] (above old)) (shop.jobs - length (above old)) stands job next.above inside next.marked next.least in
-    let groups : AreGroups g.V.Lanes.list g.V.Lanes.CAP g.V.Lanes.WIDTH shop c.as_slice-in-Some-next.result.now =
-    subst (AreGroups g.V.Lanes.list g.V.Lanes.CAP g.V.Lanes.WIDTH shop) (sym c.as_slice-in-Some-next.ensures.value)
-    c.in_ok-groups.ensures in
-    let longer : above new ≡ above old ++ put ∷ [] = c.open-in-Some-next.ensures.above ∙ c.put.ensures.above in
-    let deep : length (above old) ≡ old.depth =
-    count-above old (omega (arith, c.walk.invariant.size, c.walk.invariant.deep)) in
-    let room : old.depth + 1 < shop.jobs =
-    omega (arith, c.if-path-jobs.false, c.jobs-jobs.ensures.value, c.walk.invariant.deep) in
+    let begun = c.open-in-Some-next.ensures in
+    let is_opened : IsOpened shop number first2 last2 (names_at new.packs.items (groups2 - 1)) new =
+    path-opened g.V.Lanes.list g.V.Lanes.CAP g.V.Lanes.WIDTH shop number first2 last2 groups2 c.in-Some-end_at.end put new
+    ready inside begun.packs begun.end begun.node begun.left begun.within (begun.below shop number first2 last2 ready) in
     record {
       within = omega (arith, c.in-Some-end_at.ensures.within);
-      size = c.open-in-Some-next.ensures.size ∙ c.put.ensures.size ∙ c.walk.invariant.size;
-      deep = omega (arith, c.open-in-Some-next.ensures.depth, c.put.ensures.depth, room);
-      stands = subst (λ fs. Stands shop number whole text (c.walk.place + 1) fs (here new)) (sym longer)
-          (stands-child shop number whole text c.walk.place (above old) (here old) (here new) job stands next.above
-          inside next.marked next.least (omega (arith, deep, room))
-          (sym c.in-Some-end_at.ensures.value ∙ ap Some (sym c.open-in-Some-next.ensures.end))
-          c.open-in-Some-next.ensures.before
-          (c.open-in-Some-next.ensures.frame shop (first_with (here old).end (first_of [] (above old)) job)
-          (last_with (here old).end (last_of [] (above old)) job) groups
-          (c.put.ensures.node (first_of [] (above old)) (last_of [] (above old)) stands.is_frame.is_node is.1)
-          (left-without shop (here old).end (first_of [] (above old)) (last_of [] (above old)) old.left mid.left job
-          c.walk.invariant.left c.put.ensures.others c.put.ensures.same)));
-      left = subst (λ fs. AreLeft shop (first_of [] fs) (last_of [] fs) new.left) (sym longer)
-          (subst (AreLeft shop (first_of [] (above old ++ put ∷ [])) (last_of [] (above old ++ put ∷ [])))
-          (sym c.open-in-Some-next.ensures.left)
-          (left-child shop (above old) put old.left mid.left c.walk.invariant.left c.put.ensures.others
-          c.put.ensures.same));
+      left = omega (arith, here_is.left, begun.depth, c.go.ensures.depth, next.depth, few);
+      some = few;
+      size = begun.size ∙ c.go.ensures.size ∙ next.size ∙ here_is.size;
+      limit = begun.limit ∙ ready.limit;
+      room = begun.room shop ready.room;
+      packs = subst (λ ps. ArePacks g.V.Lanes.list g.V.Lanes.CAP g.V.Lanes.WIDTH shop (c.walk.left - 1) ps.items)
+          (sym begun.packs) c.go.ensures.packs;
+      stands = turn-stands shop number whole text c.walk.place c.walk.left groups c.in-Some-next.at old mid at
+          c.group_count-in-walk.ensures turn (c.walk.left - 1) groups2 put new refl few
+          c.group_count-in-Some-next.ensures next.above c.go.ensures.above c.go.ensures.names begun.packs begun.above
+          (sym c.in-Some-end_at.ensures.value ∙ ap Some (sym begun.end)) is_opened;
     }

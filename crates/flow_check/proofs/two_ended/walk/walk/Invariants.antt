@@ -1,5 +1,8 @@
-use Rattle.std.proofs.Common.{◌≡◌, ◌+◌, ◌-◌, ◌*◌, ◌<◌, ◌≤◌, [], length}
-use Rattle.flow_check.specs.internal.Frames.{AreLeft, first_of, last_of, here, above}
+use Rattle.std.proofs.Common.{◌≡◌, ◌+◌, ◌-◌, ◌*◌, ◌≤◌, [], length}
+use Rattle.flow_nodes.specs.Lanes.{limit_of}
+use Rattle.flow_nodes.specs.Groups.{group_count}
+use Rattle.flow_nodes.specs.Packs.{HasRoomFor}
+use Rattle.flow_check.specs.internal.Frames.{ArePacks, here, above, names_at}
 use Rattle.flow_check.specs.internal.ReadDirections.{read_node}
 use Rattle.flow_check.proofs.WalkSteps.{Stands}
 use Rattle.flow_check.proofs.two_ended.walk.walk.Given as goal
@@ -8,11 +11,14 @@ use Rattle.flow_check.proofs.two_ended.walk.walk.Given as goal
 abbrev pub invariant-walk : goal.invariant-walk
 invariant-walk g l = record {
   within : l.place ≤ length l.text;
+  left : l.left + l.path.depth ≡ l.instance.jobs;
+  some : 1 ≤ l.left;
   size : length l.path.frames.items ≡ l.instance.jobs;
-  deep : l.path.depth < l.instance.jobs;
+  limit : l.path.opener.limit ≡ limit_of l.number;
+  room : HasRoomFor l.instance l.path.opener;
+  packs : ArePacks g.V.Lanes.list g.V.Lanes.CAP g.V.Lanes.WIDTH l.instance l.left l.path.packs.items;
   stands : Stands l.instance l.number (read_node l.instance l.number l.instance.jobs [] [] l.text) l.text l.place
-      (above l.path) (here l.path);
-  left : AreLeft l.instance (first_of [] (above l.path)) (last_of [] (above l.path)) l.path.left;
+      (λ left. names_at l.path.packs.items (group_count left - 1)) (above l.path) (here l.path);
 }
 
 abbrev pub decreases-walk : goal.decreases-walk

@@ -1,0 +1,27 @@
+use Rattle.std.proofs.Common.{ℕ, ◌<◌, List, [], ◌∷◌, ◌++◌, map, slice_index}
+use Rattle.flow_shop.specs.Shop.{Shop, numbers}
+use Rattle.flow_shop.specs.Least.{greatest}
+use Rattle.flow_shop.specs.Ends.{front}
+use Rattle.flow_nodes.specs.Lanes.{HasLane}
+use Rattle.flow_nodes.specs.Nodes.{IsNode}
+use Rattle.flow_nodes.specs.Groups.{IsGroup}
+use Rattle.flow_nodes.specs.internal.Children.{front_child_at}
+use Rattle.flow_nodes.specs.internal.Spread.{IsSpread}
+use Rattle.flow_nodes.specs.declared.node.Node.{Node}
+use Rattle.flow_shop.specs.declared.end.End.TheVariants.{Front}
+use Rattle.flow_nodes.proofs.opener.bounds_at_front.Given as goal
+
+-- the lanes have the fronts of the children, and what is greatest so far
+abbrev pub invariant-loop-place : goal.invariant-loop-place
+invariant-loop-place g l = record {
+  free : (shop : Shop) (first last jobs : List ℕ) (node : Node) (lane : ℕ) → IsNode shop first last node →
+      IsSpread g.V.Lanes.list g.V.Lanes.CAP g.V.Lanes.WIDTH Front node l.near l.rest →
+      IsGroup g.V.Lanes.list g.V.Lanes.CAP g.V.Lanes.WIDTH shop jobs l.group → lane < g.V.Lanes.WIDTH →
+      HasLane g.V.Lanes.CAP g.V.Lanes.WIDTH (g.V.Lanes.list l.free) lane
+      (front shop (first ++ slice_index jobs lane ∷ []) l.place);
+  bounds : (shop : Shop) (first last jobs : List ℕ) (node : Node) (lane : ℕ) → IsNode shop first last node →
+      IsSpread g.V.Lanes.list g.V.Lanes.CAP g.V.Lanes.WIDTH Front node l.near l.rest →
+      IsGroup g.V.Lanes.list g.V.Lanes.CAP g.V.Lanes.WIDTH shop jobs l.group → lane < g.V.Lanes.WIDTH →
+      HasLane g.V.Lanes.CAP g.V.Lanes.WIDTH (g.V.Lanes.list l.bounds) lane
+      (greatest (map (front_child_at shop first last (slice_index jobs lane)) (numbers 1 l.place)));
+}

@@ -1,0 +1,237 @@
+//! The children of a node that are below a number, from vectors that the groups of the node share.
+
+ghost use Rattle.std.specs.Prelude.{◌≡◌, ℕ, ◌+◌, ◌/◌, ◌%◌, ◌<◌, ◌≤◌, ◌↔◌, false, List, ◌++◌, length, slice_index};
+ghost use Rattle.std.specs.Prelude.{slice_index_or, IsBitSet, IfOk};
+ghost use Rattle.std.specs.Global.{Vec};
+ghost use Rattle.flow_nodes.specs.declared.node.Node.{Node};
+ghost use Rattle.flow_limits.specs.Limits.{most_machines};
+ghost use Rattle.flow_shop.specs.Shop.{Shop};
+ghost use Rattle.flow_shop.specs.Sequences.{has};
+ghost use Rattle.flow_shop.specs.Ends.{end_bound};
+ghost use Rattle.flow_shop.specs.declared.end.End.TheVariants.{Front, Back};
+ghost use Rattle.flow_nodes.specs.Lanes.{HasLane, limit_of};
+ghost use Rattle.flow_nodes.specs.Nodes.{IsNode};
+ghost use Rattle.flow_nodes.specs.Groups.{IsGroup, child_bound, most_groups};
+ghost use Rattle.flow_nodes.specs.Marks.{mark};
+ghost use Rattle.flow_nodes.specs.internal.Children.{greatest_at};
+ghost use Rattle.flow_nodes.specs.Packs.{HasLeft, HasRoomFor, IsPack, jobs_at, left_below};
+ghost use Rattle.flow_nodes.specs.internal.Spread.{IsSpread};
+
+use crate::lanes::Lanes;
+use crate::marks::Marks;
+use crate::node::Node;
+use crate::pack::Pack;
+use flow_limits::MAX_MACHINES;
+use flow_shop::{End, Instance};
+use std::alloc::{AllocError, Global};
+
+/// Opens nodes: finds their children below a number. It has memory for what the groups of a node share.
+#[derive(Drop)]
+pub struct Opener<V> {
+    /// The limit that stands for the number in 32 bits.
+    pub(crate) limit: u32,
+    /// What is at the end of the node: for each machine a vector with the same number in each lane.
+    pub(crate) near: Vec<V>,
+    /// The time of the jobs left and what is at the other end, likewise.
+    pub(crate) rest: Vec<V>,
+}
+
+/// Writes vectors with the same number in each lane: those of one list, and the sums of two others.
+#[inline(always)]
+fn spread<V: Lanes>(
+    near: &[u32; MAX_MACHINES],
+    work: &[u32; MAX_MACHINES],
+    far: &[u32; MAX_MACHINES],
+    near_lanes: &mut [V],
+    rest_lanes: &mut [V],
+)
+    requires machines { length near_lanes.old ≤ most_machines }
+    requires same { length rest_lanes.old ≡ length near_lanes.old }
+    requires near { (place : ℕ) → place < length near_lanes.old → slice_index near.now place ≤ V.CAP }
+    requires rest { (place : ℕ) → place < length near_lanes.old →
+        slice_index work.now place + slice_index far.now place ≤ V.CAP }
+    requires small { (place : ℕ) → place < length near_lanes.old →
+        slice_index work.now place + slice_index far.now place < 4294967295 }
+    ensures near { (place lane : ℕ) (none : V) → place < length near_lanes.old → lane < V.WIDTH →
+        HasLane V.CAP V.WIDTH (V.list (slice_index_or near_lanes.new place none)) lane (slice_index near.now place) }
+    ensures rest { (place lane : ℕ) (none : V) → place < length near_lanes.old → lane < V.WIDTH →
+        HasLane V.CAP V.WIDTH (V.list (slice_index_or rest_lanes.new place none)) lane
+        (slice_index work.now place + slice_index far.now place) }
+{
+    for place in 0..near_lanes.len() {
+        near_lanes[place] = V::each(near[place]);
+        rest_lanes[place] = V::each(work[place] + far[place]);
+    }
+}
+
+/// The bounds of the children that put the jobs of a group at the front.
+#[inline(always)]
+fn bounds_at_front<V: Lanes>(near: &[V], rest: &[V], group: &[V]) -> V
+    requires near { length near.now ≡ length group.now }
+    requires rest { length rest.now ≡ length group.now }
+    ensures { (shop : Shop) (first last jobs : List ℕ) (node : Node) (lane : ℕ) → IsNode shop first last node →
+        IsSpread V.list V.CAP V.WIDTH Front node near.now rest.now →
+        IsGroup V.list V.CAP V.WIDTH shop jobs group.now → lane < V.WIDTH →
+        HasLane V.CAP V.WIDTH (V.list result) lane (greatest_at shop Front first last (slice_index jobs lane)) }
+{
+    let mut free = V::each(0);
+    let mut bounds = free;
+    for place in 0..group.len() {
+        let start = free.at_least(near[place]);
+        bounds = bounds.at_least(start.plus(rest[place]));
+        free = start.plus(group[place]);
+    }
+    bounds
+}
+
+/// The bounds of the children that put the jobs of a group at the back.
+#[inline(always)]
+fn bounds_at_back<V: Lanes>(near: &[V], rest: &[V], group: &[V]) -> V
+    requires near { length near.now ≡ length group.now }
+    requires rest { length rest.now ≡ length group.now }
+    ensures { (shop : Shop) (first last jobs : List ℕ) (node : Node) (lane : ℕ) → IsNode shop first last node →
+        IsSpread V.list V.CAP V.WIDTH Back node near.now rest.now →
+        IsGroup V.list V.CAP V.WIDTH shop jobs group.now → lane < V.WIDTH →
+        HasLane V.CAP V.WIDTH (V.list result) lane (greatest_at shop Back first last (slice_index jobs lane)) }
+{
+    let mut free = V::each(0);
+    let mut bounds = free;
+    let mut machine = group.len();
+    while machine > 0 {
+        let place = machine - 1;
+        let start = free.at_least(near[place]);
+        bounds = bounds.at_least(start.plus(rest[place]));
+        free = start.plus(group[place]);
+        machine = place;
+    }
+    bounds
+}
+
+impl<V: Lanes> Opener<V> {
+    /// What opens nodes of an instance with a limit.
+    pub fn new(alloc: Global, instance: &Instance, limit: u32) -> Result<Opener<V>, AllocError>
+        ensures limit { IfOk result (λ opener. opener.limit ≡ limit) }
+        ensures room { IfOk result (λ opener. HasRoomFor instance.now opener) }
+    {
+        let machines = usize::from(instance.machines());
+        let near = vec![in alloc; V::each(0); machines]?;
+        let rest = vec![in alloc; V::each(0); machines]?;
+        Ok(Opener { limit, near, rest })
+    }
+
+    /// Writes what the groups of a node share at an end.
+    #[inline(always)]
+    fn write(&mut self, node: &Node, end: End)
+        requires { (shop : Shop) × (first : List ℕ) × (last : List ℕ) × IsNode shop first last node.now
+            × HasRoomFor shop self.old × (end_bound shop first last ≤ V.CAP) }
+        ensures limit { self.new.limit ≡ self.old.limit }
+        ensures near { length self.new.near.items ≡ length self.old.near.items }
+        ensures rest { length self.new.rest.items ≡ length self.old.rest.items }
+        ensures spread { IsSpread V.list V.CAP V.WIDTH end node.now self.new.near.items self.new.rest.items }
+    {
+        let near = self.near.as_mut_slice();
+        let rest = self.rest.as_mut_slice();
+        match end {
+            End::Front => spread(&node.front, &node.work, &node.back, near, rest),
+            End::Back => spread(&node.back, &node.work, &node.front, near, rest),
+        }
+    }
+
+    /// The bounds of the children that put the jobs of a group at an end, once what the groups share there is written. A
+    /// lane whose job is not left has some number.
+    #[inline(always)]
+    fn bounds(&self, end: End, group: &[V]) -> V
+        requires near { length self.now.near.items ≡ length group.now }
+        requires rest { length self.now.rest.items ≡ length group.now }
+        ensures { (shop : Shop) (first last jobs : List ℕ) (node : Node) (lane : ℕ) → IsNode shop first last node →
+            IsSpread V.list V.CAP V.WIDTH end node self.now.near.items self.now.rest.items →
+            IsGroup V.list V.CAP V.WIDTH shop jobs group.now → lane < V.WIDTH →
+            has (first ++ last) (slice_index jobs lane) ≡ false →
+            HasLane V.CAP V.WIDTH (V.list result) lane (child_bound shop end first last (slice_index jobs lane)) }
+    {
+        let near = self.near.as_slice();
+        let rest = self.rest.as_slice();
+        match end {
+            End::Front => bounds_at_front(near, rest, group),
+            End::Back => bounds_at_back(near, rest, group),
+        }
+    }
+
+    /// The children below the number, of those that put the jobs of a group at an end: a bit for each lane, and no other
+    /// bits. The bit of a lane whose job is not left may be set or not.
+    #[inline(always)]
+    fn lanes_below(&self, end: End, group: &[V]) -> u64
+        requires limit { self.now.limit ≤ V.CAP }
+        requires near { length self.now.near.items ≡ length group.now }
+        requires rest { length self.now.rest.items ≡ length group.now }
+        ensures each { (shop : Shop) (first last jobs : List ℕ) (node : Node) (lane : ℕ) → IsNode shop first last node →
+            IsSpread V.list V.CAP V.WIDTH end node self.now.near.items self.now.rest.items →
+            IsGroup V.list V.CAP V.WIDTH shop jobs group.now → lane < V.WIDTH →
+            has (first ++ last) (slice_index jobs lane) ≡ false →
+            IsBitSet result lane ↔ (child_bound shop end first last (slice_index jobs lane) < self.now.limit) }
+        ensures none { (lane : ℕ) → V.WIDTH ≤ lane → ¬ IsBitSet result lane }
+    {
+        self.bounds(end, group).below(self.limit)
+    }
+
+    /// Marks the jobs left that make children below the number at an end, among those of the groups, once what the groups
+    /// share there is written.
+    #[inline(always)]
+    fn mark_groups(&self, end: End, groups: &[Vec<V>], left: &Marks, below: &mut Marks)
+        requires wide { V.WIDTH ≡ 16 }
+        requires limit { self.now.limit ≤ V.CAP }
+        requires few { length groups.now ≤ most_groups }
+        requires near { (group : ℕ) (none : Vec V) → group < length groups.now →
+            length self.now.near.items ≡ length (slice_index_or groups.now group none).items }
+        requires rest { (group : ℕ) (none : Vec V) → group < length groups.now →
+            length self.now.rest.items ≡ length (slice_index_or groups.now group none).items }
+        ensures within { (place : ℕ) → place / 16 < length groups.now → mark below.new.words place ≡ 1 →
+            mark left.now.words place ≡ 1 }
+        ensures exact { (shop : Shop) (number : ℕ) (first last jobs : List ℕ) (node : Node) (place : ℕ) (none : Vec V) →
+            self.now.limit ≡ limit_of number → IsNode shop first last node →
+            IsSpread V.list V.CAP V.WIDTH end node self.now.near.items self.now.rest.items →
+            place / 16 < length groups.now →
+            IsGroup V.list V.CAP V.WIDTH shop jobs (slice_index_or groups.now (place / 16) none).items →
+            mark left.now.words place ≡ 1 → has (first ++ last) (slice_index jobs (place % 16)) ≡ false →
+            mark below.new.words place ≡ 1
+            ↔ (child_bound shop end first last (slice_index jobs (place % 16)) < number) }
+    {
+        for group in 0..groups.len() {
+            let word = left.words[group];
+            if word != 0 {
+                let bits = self.lanes_below(end, groups[group].as_slice());
+                below.words[group] = (bits & u64::from(word)) as u16;
+            } else {
+                below.words[group] = 0;
+            }
+        }
+    }
+
+    /// Marks the jobs of a pack whose children at an end are below the number, of those left.
+    #[inline(always)]
+    pub fn mark_below(
+        &mut self,
+        node: &Node,
+        end: End,
+        pack: &Pack<V>,
+        left: &Marks,
+        below: &mut Marks,
+    )
+        requires wide { V.WIDTH ≡ 16 }
+        requires limit { self.old.limit ≤ V.CAP }
+        requires at { (shop : Shop) × (number : ℕ) × (first : List ℕ) × (last : List ℕ)
+            × IsNode shop first last node.now × IsPack V.list V.CAP V.WIDTH shop pack.now × HasRoomFor shop self.old
+            × (self.old.limit ≡ limit_of number) × (end_bound shop first last < number) }
+        ensures limit { self.new.limit ≡ self.old.limit }
+        ensures room { (shop : Shop) → HasRoomFor shop self.old → HasRoomFor shop self.new }
+        ensures within { (place : ℕ) → place / 16 < length pack.now.groups.items → mark below.new.words place ≡ 1 →
+            mark left.now.words place ≡ 1 }
+        ensures below { (shop : Shop) (number : ℕ) (first last : List ℕ) → self.old.limit ≡ limit_of number →
+            IsNode shop first last node.now → IsPack V.list V.CAP V.WIDTH shop pack.now →
+            HasLeft shop first last pack.now.names.items left.now →
+            jobs_at pack.now below.new ≡ left_below shop number end first last }
+    {
+        self.write(node, end);
+        self.mark_groups(end, pack.groups.as_slice(), left, below);
+    }
+}

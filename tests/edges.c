@@ -1,0 +1,466 @@
+/* Calls of the library at the edges of memory. Each slice and each record that a call is lent ends where a page begins
+ * that may not be read, or begins where such a page ends; what a call only reads may not be written; the memory that it
+ * asks for ends where such a page begins. Lengths are exact, and also one too short. Then each request of a call for
+ * memory is refused in turn, alone and with all behind it: the outcome is FLOWSHOP_MEMORY with all as it was, or what
+ * it is otherwise, and the call holds no memory when it ends.
+ * It is linked with the archive and --wrap=malloc,--wrap=realloc,--wrap=free. Pages have 4096 bytes. */
+#define _DEFAULT_SOURCE
+#include "flowshop.h"
+
+#include <signal.h>
+#include <stdio.h>
+#include <stdlib.h>
+#include <string.h>
+#include <sys/mman.h>
+#include <unistd.h>
+
+enum { MOST_JOBS = 800, MOST_TIMES = 20800, MOST_TEXT = 200000 };
+
+static int passed, failed;
+/* What is being called, for the line of a fault. */
+static const char *called = "nothing", *how = "";
+static uint32_t of_jobs;
+
+static void is(const char *what, uint64_t got, uint64_t wanted) {
+    if (got == wanted) {
+        passed++;
+        return;
+    }
+    printf("not as it should be: %s of flowshop_%s %s, %u jobs: %llu for %llu\n", what, called, how, of_jobs,
+           (unsigned long long)got, (unsigned long long)wanted);
+    failed++;
+}
+
+static void stopped(int number) {
+    printf("not as it should be: signal %d in flowshop_%s %s, %u jobs\n", number, called, how, of_jobs);
+    fflush(stdout);
+    _exit(1);
+}
+
+/* --- Memory that calls ask for --- */
+
+void *__real_malloc(size_t bytes);
+void *__real_realloc(void *memory, size_t bytes);
+void __real_free(void *memory);
+void *__wrap_malloc(size_t bytes);
+void *__wrap_realloc(void *memory, size_t bytes);
+void __wrap_free(void *memory);
+
+/* Whether a call runs; how often it asked; which requests are refused; and how many blocks it holds. */
+static int is_called;
+static size_t asked, first_refused = SIZE_MAX, last_refused = SIZE_MAX;
+static long held;
+
+static int is_refused(void) { return is_called && ++asked >= first_refused && asked <= last_refused; }
+
+/* What stands in the page before a block: how many bytes all its pages have, and how many it has itself. */
+struct pages {
+    size_t count, bytes;
+};
+enum { PAGE = 4096, ALIGNED = 16 };
+
+/* A block that ends where a page begins that may not be read, or less than its alignment before. */
+static void *fenced(size_t bytes) {
+    const size_t used = (bytes + ALIGNED - 1) / ALIGNED * ALIGNED, inner = (used + PAGE - 1) / PAGE * PAGE;
+    uint8_t *pages = mmap(NULL, inner + 2 * PAGE, PROT_READ | PROT_WRITE, MAP_PRIVATE | MAP_ANONYMOUS, -1, 0);
+    if (pages == MAP_FAILED) return NULL;
+    *(struct pages *)pages = (struct pages){inner + 2 * PAGE, bytes};
+    mprotect(pages, PAGE, PROT_READ);
+    mprotect(pages + PAGE + inner, PAGE, PROT_NONE);
+    return pages + PAGE + inner - used;
+}
+
+/* The page before a block, which is not empty. */
+static struct pages *pages_of(void *memory) {
+    return (struct pages *)((uint8_t *)memory - (uintptr_t)memory % PAGE - PAGE);
+}
+
+void *__wrap_malloc(size_t bytes) {
+    void *memory = is_refused() ? NULL : is_called ? fenced(bytes + !bytes) : __real_malloc(bytes);
+    held += is_called && memory;
+    return memory;
+}
+
+void *__wrap_realloc(void *old, size_t bytes) {
+    if (!is_called) return __real_realloc(old, bytes);
+    void *memory = is_refused() ? NULL : fenced(bytes + !bytes);
+    held += memory && !old;
+    if (memory && old) {
+        const size_t before = pages_of(old)->bytes;
+        memcpy(memory, old, before < bytes ? before : bytes);
+        munmap(pages_of(old), pages_of(old)->count);
+    }
+    return memory;
+}
+
+void __wrap_free(void *memory) {
+    held -= is_called && memory;
+    if (is_called && memory) munmap(pages_of(memory), pages_of(memory)->count);
+    if (!is_called) __real_free(memory);
+}
+
+/* --- The shops --- */
+
+/* A shop of a seed, a start, texts of it, and the makespan that the certificate has. */
+static struct {
+    flowshop_shop shop;
+    uint32_t times[MOST_TIMES];
+    uint16_t start[MOST_JOBS];
+    uint8_t benchmark[MOST_TEXT], certificate[MOST_TEXT];
+    size_t benchmark_count, certificate_count;
+    uint64_t upper;
+} of;
+
+static const flowshop_effort EFFORT = {8, 3, 5, 1}, LITTLE = {1, 1, 5, 0};
+static const flowshop_plan PLAN = {1, 500, 2};
+static const flowshop_beam_options BEAM = {0, 8, 100000};
+static const flowshop_rounds_options ROUNDS = {3, 5, 100000};
+enum { DIRECTIONS_MOST = 20, SMALL = 20 };
+
+static void prepare(uint32_t jobs, uint32_t machines) {
+    const size_t count = (size_t)jobs * machines;
+    uint16_t sequence[MOST_JOBS];
+    flowshop_bounds bounds = {sequence, jobs, 0, 0};
+    flowshop_text text = {of.certificate, MOST_TEXT, 0};
+    called = "generate", how = "in ordinary memory", of_jobs = jobs;
+    is("status", flowshop_generate(jobs, machines, jobs, of.times, count).status, FLOWSHOP_DONE);
+    of.shop = (flowshop_shop){jobs, machines, of.times, count};
+    for (uint32_t i = 0; i < jobs; i++) of.start[i] = (uint16_t)(jobs - i);
+    char *words = (char *)of.benchmark;
+    size_t at = (size_t)sprintf(words, "shop\n%u %u 7 8 9\ntimes\n", jobs, machines);
+    for (size_t i = 0; i < count; i++) at += (size_t)sprintf(words + at, "%u\n", of.times[i]);
+    of.benchmark_count = at;
+    called = "certify";
+    is("status", flowshop_certify(&of.shop, of.start, jobs, &LITTLE, DIRECTIONS_MOST, &bounds, &text).status, 0);
+    of.certificate_count = text.length;
+    of.upper = bounds.upper;
+}
+
+/* --- What is lent --- */
+
+/* The slices, by their lengths; the calls read the first two. */
+enum length { SHOP_TIMES, START, TIMES, STARTS, ENDS, SEQUENCE, TEXT, DIRECTIONS, REST, LENGTHS };
+static const size_t WIDTHS[LENGTHS] = {4, 2, 4, 8, 8, 2, 1, 1, 2};
+
+static struct {
+    void *slices[LENGTHS];
+    size_t lengths[LENGTHS];
+    const flowshop_shop *shop;
+    const uint8_t *benchmark, *certificate;
+    const flowshop_effort *effort;
+    const flowshop_plan *plan;
+    const flowshop_beam_options *beam;
+    const flowshop_rounds_options *rounds;
+    const flowshop_node *root, *node;
+    flowshop_benchmark *block;
+    flowshop_spans *spans;
+    flowshop_reached *reached;
+    flowshop_bounds *bounds;
+    flowshop_text *text;
+    flowshop_part *part;
+    uint64_t *makespan;
+} lent;
+
+static struct {
+    uint8_t *pages;
+    size_t count;
+} maps[64];
+static size_t maps_count;
+/* Whether the page that may not be read stands behind what is lent, or before it. */
+static int is_behind;
+
+/* Memory of so many bytes at the edge: what stands there, or sevens, which a call may change. */
+static void *lend(const void *from, size_t bytes) {
+    const size_t inner = (bytes + PAGE - 1) / PAGE * PAGE;
+    uint8_t *pages = mmap(NULL, inner + 2 * PAGE, PROT_READ | PROT_WRITE, MAP_PRIVATE | MAP_ANONYMOUS, -1, 0);
+    if (pages == MAP_FAILED || maps_count == sizeof maps / sizeof *maps) {
+        printf("no memory for the test\n");
+        exit(2);
+    }
+    maps[maps_count].pages = pages;
+    maps[maps_count++].count = inner + 2 * PAGE;
+    uint8_t *at = pages + PAGE + (is_behind ? inner - bytes : 0);
+    if (from && bytes) memcpy(at, from, bytes);
+    if (!from) memset(at, 7, bytes);
+    mprotect(pages, PAGE, PROT_NONE);
+    mprotect(pages + PAGE + inner, PAGE, PROT_NONE);
+    if (from && inner) mprotect(pages + PAGE, inner, PROT_READ);
+    return at;
+}
+
+static void give_back(void) {
+    while (maps_count) {
+        maps_count--;
+        munmap(maps[maps_count].pages, maps[maps_count].count);
+    }
+}
+
+/* Lends a record that a call writes: its slices, and sevens for its numbers. */
+#define RECORD(NAME, ...)                                                                                              \
+    (lent.NAME = lend(NULL, sizeof *lent.NAME), *lent.NAME = (__typeof__(*lent.NAME)){__VA_ARGS__})
+
+/* Lends all that any call reads or writes, with these lengths. */
+static void lend_all(const size_t *lengths) {
+    const void *given[LENGTHS] = {of.times, of.start};
+    give_back();
+    for (int i = 0; i < LENGTHS; i++) lent.slices[i] = lend(given[i], lengths[i] * WIDTHS[i]);
+    memcpy(lent.lengths, lengths, sizeof lent.lengths);
+    void **slices = lent.slices;
+    const flowshop_shop shop = {of.shop.jobs, of.shop.machines, slices[SHOP_TIMES], lengths[SHOP_TIMES]};
+    const uint16_t *first = lend(of.start, 2), *last = lend(of.start + of.shop.jobs - 1, 2), *none = lend(of.start, 0);
+    const flowshop_node root = {none, 0, none, 0}, node = {first, 1, last, of.shop.jobs > 1};
+    lent.shop = lend(&shop, sizeof shop);
+    lent.root = lend(&root, sizeof root);
+    lent.node = lend(&node, sizeof node);
+    lent.benchmark = lend(of.benchmark, of.benchmark_count);
+    lent.certificate = lend(of.certificate, of.certificate_count);
+    lent.effort = lend(of.shop.jobs > SMALL ? &LITTLE : &EFFORT, sizeof EFFORT);
+    lent.plan = lend(&PLAN, sizeof PLAN);
+    lent.beam = lend(&BEAM, sizeof BEAM);
+    lent.rounds = lend(&ROUNDS, sizeof ROUNDS);
+    lent.makespan = lend(NULL, sizeof *lent.makespan);
+    *lent.makespan = 7;
+    RECORD(block, 7, 7, slices[TIMES], lengths[TIMES], 7, 7, 7);
+    RECORD(spans, slices[STARTS], lengths[STARTS], slices[ENDS], lengths[ENDS]);
+    RECORD(reached, slices[SEQUENCE], lengths[SEQUENCE], 7, 7);
+    RECORD(bounds, slices[SEQUENCE], lengths[SEQUENCE], 7, 7);
+    RECORD(text, slices[TEXT], lengths[TEXT], 7);
+    RECORD(part, slices[SEQUENCE], lengths[SEQUENCE], slices[DIRECTIONS], lengths[DIRECTIONS], slices[REST],
+           lengths[REST], 7, 7, 7, 7);
+}
+
+/* Whether each record has the slices that it was lent with. */
+static int has_slices(void) {
+    void **slices = lent.slices;
+    const size_t *lengths = lent.lengths;
+    return lent.block->times == slices[TIMES] && lent.block->times_count == lengths[TIMES] &&
+           lent.spans->starts == slices[STARTS] && lent.spans->starts_count == lengths[STARTS] &&
+           lent.spans->ends == slices[ENDS] && lent.spans->ends_count == lengths[ENDS] &&
+           lent.reached->sequence == slices[SEQUENCE] && lent.reached->sequence_count == lengths[SEQUENCE] &&
+           lent.bounds->sequence == slices[SEQUENCE] && lent.bounds->sequence_count == lengths[SEQUENCE] &&
+           lent.text->bytes == slices[TEXT] && lent.text->bytes_count == lengths[TEXT] &&
+           lent.part->sequence == slices[SEQUENCE] && lent.part->sequence_count == lengths[SEQUENCE] &&
+           lent.part->directions == slices[DIRECTIONS] && lent.part->directions_count == lengths[DIRECTIONS] &&
+           lent.part->rest == slices[REST] && lent.part->rest_count == lengths[REST];
+}
+
+enum { NUMBERS = 15 };
+
+/* The numbers of all records. */
+static void numbers(uint64_t *found) {
+    const uint64_t all[NUMBERS] = {lent.block->jobs,
+                                   lent.block->machines,
+                                   lent.block->seed,
+                                   lent.block->upper,
+                                   lent.block->lower,
+                                   lent.reached->makespan,
+                                   lent.reached->whole,
+                                   lent.bounds->lower,
+                                   lent.bounds->upper,
+                                   lent.text->length,
+                                   lent.part->found,
+                                   lent.part->makespan,
+                                   lent.part->directions_length,
+                                   lent.part->rest_length,
+                                   *lent.makespan};
+    memcpy(found, all, sizeof all);
+}
+
+/* Whether all is as it was lent. */
+static int is_untouched(void) {
+    uint64_t found[NUMBERS];
+    int others = 0;
+    numbers(found);
+    for (int i = 0; i < NUMBERS; i++) others += found[i] != 7;
+    for (int i = TIMES; i < LENGTHS; i++)
+        for (size_t at = 0; at < lent.lengths[i] * WIDTHS[i]; at++) others += ((uint8_t *)lent.slices[i])[at] != 7;
+    return others == 0;
+}
+
+/* The sum of all that a call may have written. */
+static uint64_t written(void) {
+    uint64_t found[NUMBERS], sum = 1469598103934665603u;
+    numbers(found);
+    for (int i = 0; i < NUMBERS; i++) sum = (sum ^ found[i]) * 1099511628211u;
+    for (int i = TIMES; i < LENGTHS; i++)
+        for (size_t at = 0; at < lent.lengths[i] * WIDTHS[i]; at++)
+            sum = (sum ^ ((uint8_t *)lent.slices[i])[at]) * 1099511628211u;
+    return sum;
+}
+
+/* --- The calls --- */
+
+#define ON_SHOP lent.shop, lent.slices[START], lent.lengths[START]
+static flowshop_outcome generate(void) {
+    return flowshop_generate(of.shop.jobs, of.shop.machines, 5, lent.slices[TIMES], lent.lengths[TIMES]);
+}
+static flowshop_outcome block(void) { return flowshop_block(lent.benchmark, of.benchmark_count, 1, lent.block); }
+static flowshop_outcome makespan(void) { return flowshop_makespan(ON_SHOP, lent.makespan); }
+static flowshop_outcome timetable(void) { return flowshop_timetable(ON_SHOP, lent.spans); }
+static flowshop_outcome picture(void) { return flowshop_picture(ON_SHOP, of.upper, lent.text); }
+static flowshop_outcome neh(void) { return flowshop_neh(lent.shop, lent.reached); }
+static flowshop_outcome improve(void) { return flowshop_improve(ON_SHOP, lent.effort, lent.reached); }
+static flowshop_outcome check(void) {
+    return flowshop_check(lent.shop, lent.certificate, of.certificate_count, lent.bounds);
+}
+static flowshop_outcome solve(void) { return flowshop_solve(ON_SHOP, lent.plan, lent.bounds, lent.text); }
+static flowshop_outcome certify(void) {
+    return flowshop_certify(ON_SHOP, lent.effort, DIRECTIONS_MOST, lent.bounds, lent.text);
+}
+static flowshop_outcome prove(void) { return flowshop_prove(lent.shop, lent.root, of.upper, lent.part); }
+static flowshop_outcome prove_node(void) { return flowshop_prove(lent.shop, lent.node, of.upper + 1, lent.part); }
+static flowshop_outcome beam(void) { return flowshop_beam(ON_SHOP, lent.beam, lent.reached); }
+static flowshop_outcome rounds(void) { return flowshop_rounds(ON_SHOP, lent.rounds, lent.reached); }
+
+#define BIT(LENGTH) (1u << (LENGTH))
+#define READ (BIT(SHOP_TIMES) | BIT(START))
+/* Each call, and the lengths that it refuses where they are one too short. */
+static const struct call {
+    const char *name;
+    flowshop_outcome (*make)(void);
+    unsigned lengths;
+} CALLS[] = {{"generate", generate, BIT(TIMES)},
+             {"block", block, BIT(TIMES)},
+             {"makespan", makespan, READ},
+             {"timetable", timetable, READ | BIT(STARTS) | BIT(ENDS)},
+             {"picture", picture, READ | BIT(TEXT)},
+             {"neh", neh, BIT(SHOP_TIMES) | BIT(SEQUENCE)},
+             {"improve", improve, READ | BIT(SEQUENCE)},
+             {"check", check, BIT(SHOP_TIMES) | BIT(SEQUENCE)},
+             {"solve", solve, READ | BIT(SEQUENCE) | BIT(TEXT)},
+             {"certify", certify, READ | BIT(SEQUENCE) | BIT(TEXT)},
+             {"prove", prove, BIT(SHOP_TIMES) | BIT(SEQUENCE) | BIT(REST)},
+             {"prove of a node", prove_node, BIT(SHOP_TIMES) | BIT(SEQUENCE) | BIT(REST)},
+             {"beam", beam, READ | BIT(SEQUENCE)},
+             {"rounds", rounds, READ | BIT(SEQUENCE)}};
+enum { CALLS_COUNT = sizeof CALLS / sizeof *CALLS };
+
+/* Makes a call with these lengths. */
+static flowshop_outcome made(const struct call *call, const size_t *lengths) {
+    called = call->name;
+    lend_all(lengths);
+    asked = 0;
+    held = 0;
+    is_called = 1;
+    const flowshop_outcome outcome = call->make();
+    is_called = 0;
+    is("the slices", (uint64_t)has_slices(), 1);
+    is("blocks that are held", (uint64_t)held, 0);
+    return outcome;
+}
+
+/* The exact lengths of a call. */
+static void lengths_of(const struct call *call, size_t *lengths) {
+    const size_t jobs = of.shop.jobs, count = jobs * of.shop.machines;
+    const size_t exact[LENGTHS] = {count, jobs, count, count, count, jobs, 0, 2, 0};
+    memcpy(lengths, exact, sizeof exact);
+    how = "asked for its room";
+    const flowshop_outcome outcome = made(call, lengths);
+    if (outcome.status == FLOWSHOP_ROOM) lengths[call->lengths & BIT(TEXT) ? TEXT : REST] = outcome.place;
+}
+
+/* A call with each length one too short, and none: what is wrong, and all as it was. */
+static void too_short(const struct call *call, const size_t *exact) {
+    for (int i = 0; i < LENGTHS; i++) {
+        const uint32_t wanted = i == SHOP_TIMES ? FLOWSHOP_COUNT : i == START ? FLOWSHOP_LENGTH : FLOWSHOP_ROOM;
+        for (int is_none = 0; is_none < 2 && call->lengths & BIT(i) && exact[i]; is_none++) {
+            size_t lengths[LENGTHS];
+            memcpy(lengths, exact, sizeof lengths);
+            lengths[i] = is_none ? 0 : exact[i] - 1;
+            how = is_none ? "with a length of none" : "with a length one too short";
+            const flowshop_outcome outcome = made(call, lengths);
+            is("status", outcome.status, wanted);
+            is("place", outcome.place, wanted == FLOWSHOP_ROOM ? exact[i] : 0);
+            is("whether all is as it was", (uint64_t)is_untouched(), 1);
+        }
+    }
+}
+
+/* A text that is cut off at the edge, after every so many bytes: the same as where more bytes stand behind it. */
+static void cut_off(size_t step) {
+    static uint32_t times[MOST_TIMES];
+    static uint16_t sequence[MOST_JOBS];
+    flowshop_benchmark block = {0, 0, times, MOST_TIMES, 0, 0, 0};
+    flowshop_bounds bounds = {sequence, of.shop.jobs, 0, 0};
+    how = "of a text that is cut off";
+    for (size_t count = 0; count < of.benchmark_count; count += step) {
+        called = "block";
+        const flowshop_outcome wanted = flowshop_block(of.benchmark, count, 1, &block);
+        const flowshop_outcome outcome = flowshop_block(lend(of.benchmark, count), count, 1, &block);
+        is("status", outcome.status, wanted.status);
+        is("place", outcome.place, wanted.place);
+        give_back();
+    }
+    for (size_t count = 0; count < of.certificate_count; count += step) {
+        called = "check";
+        const flowshop_outcome wanted = flowshop_check(&of.shop, of.certificate, count, &bounds);
+        const flowshop_outcome outcome = flowshop_check(&of.shop, lend(of.certificate, count), count, &bounds);
+        is("status", outcome.status, wanted.status);
+        is("place", outcome.place, wanted.place);
+        is("whether it is refused", outcome.status >= FLOWSHOP_HEADER, 1);
+        give_back();
+    }
+}
+
+/* Each request for memory refused in turn, alone or with all behind it; how many calls were refused for it. */
+static size_t refusals(const struct call *call, const size_t *exact, flowshop_outcome right, uint64_t sum, int all) {
+    size_t refused = 0;
+    how = all ? "with no memory from some request on" : "with a request for memory refused";
+    for (size_t number = 1;; number++) {
+        first_refused = number;
+        last_refused = all ? SIZE_MAX - 1 : number;
+        const flowshop_outcome outcome = made(call, exact);
+        first_refused = last_refused = SIZE_MAX;
+        if (outcome.status == FLOWSHOP_MEMORY) {
+            refused++;
+            is("place", outcome.place, 0);
+            is("whether all is as it was", (uint64_t)is_untouched(), 1);
+            is("whether a request was refused", asked >= number, 1);
+        } else {
+            is("status", outcome.status, right.status);
+            is("what is written", written(), sum);
+        }
+        if (asked < number) return refused;
+    }
+}
+
+/* All calls of a shop. Of the greatest one no certificate of trees is asked for, and no memory is refused. */
+static size_t try_shop(uint32_t jobs, uint32_t machines) {
+    size_t refused = 0;
+    prepare(jobs, machines);
+    for (int i = 0; i < CALLS_COUNT; i++) {
+        const struct call *call = &CALLS[i];
+        if (jobs > SMALL && call->make == solve) continue;
+        size_t exact[LENGTHS], requests = 0, ended = 0;
+        uint64_t sums[2];
+        flowshop_outcome outcome = {0, 0};
+        for (is_behind = 0; is_behind < 2; is_behind++) {
+            lengths_of(call, exact);
+            how = is_behind ? "with pages behind" : "with pages before";
+            outcome = made(call, exact);
+            is("status", outcome.status, FLOWSHOP_DONE);
+            is("whether all is as it was", (uint64_t)is_untouched(), 0);
+            sums[is_behind] = written();
+            requests = asked;
+            too_short(call, exact);
+        }
+        is("what is written with pages behind and before", sums[1], sums[0]);
+        if (jobs > SMALL) continue;
+        for (int all = 0; all < 2; all++) ended += refusals(call, exact, outcome, sums[1], all);
+        is("whether memory ran out", ended > 0, requests > 0);
+        refused += ended;
+    }
+    for (is_behind = 0; is_behind < 2; is_behind++) cut_off(jobs > SMALL ? 997 : 1);
+    return refused;
+}
+
+int main(void) {
+    signal(SIGSEGV, stopped);
+    signal(SIGBUS, stopped);
+    size_t refused = try_shop(1, 1);
+    refused += try_shop(3, 3);
+    refused += try_shop(9, 5);
+    refused += try_shop(MOST_JOBS, FLOWSHOP_MAX_MACHINES);
+    printf("calls at edges: %zu without memory; %d as they should be, %d not\n", refused, passed, failed);
+    return failed != 0;
+}
