@@ -15,7 +15,8 @@ use Rattle.flow_shop.proofs.LeastFound.{in-order}
 use Rattle.flow_nodes.specs.Nodes.{IsJob}
 use Rattle.flow_nodes.specs.Groups.{child_bound}
 use Rattle.flow_directions.specs.Search.{end_taken, Visit, opens, visits, signs, first_reached}
-use Rattle.flow_directions.specs.Search.{directions_of, first_below, jobs_below, child_visits, part_visits}
+use Rattle.flow_nodes.specs.Packs.{left_below}
+use Rattle.flow_directions.specs.Search.{directions_of, first_below, child_visits, part_visits}
 use Rattle.flow_directions.specs.Search.{parts_visits}
 use Rattle.flow_directions.specs.declared.found.Part.{Part}
 use Rattle.flow_directions.specs.internal.Lists.{HasLists}
@@ -95,7 +96,7 @@ pub record Stands (shop : Shop) (number : ℕ) (end : End) (first last old new :
 
 module _ (shop : Shop) (number : ℕ) (first last : List ℕ) where
   below-kept : (end : End) → flat_map (child_visits shop number end first last) (jobs_left shop.jobs (first ++ last))
-      ≡ flat_map (child_visits shop number end first last) (jobs_below shop number end first last)
+      ≡ flat_map (child_visits shop number end first last) (left_below shop number end first last)
   below-kept end =
       let p : ℕ → Bool = λ job. nat_lt (child_bound shop end first last job) number in
       flat-kept (child_visits shop number end first last) p (jobs_left shop.jobs (first ++ last))
@@ -104,7 +105,7 @@ module _ (shop : Shop) (number : ℕ) (first last : List ℕ) where
       visits-high shop number (first_with end first job) (last_with end last job)
       (ltb-false (child_bound shop end first last job) number above)))
 
-  below-each : (end : End) → AllByRecursion (IsOpen shop number end first last) (jobs_below shop number end first last)
+  below-each : (end : End) → AllByRecursion (IsOpen shop number end first last) (left_below shop number end first last)
   below-each end =
       let p : ℕ → Bool = λ job. nat_lt (child_bound shop end first last job) number in
       each-kept (IsOpen shop number end first last) p (jobs_left shop.jobs (first ++ last))
@@ -115,7 +116,7 @@ module _ (shop : Shop) (number : ℕ) (first last : List ℕ) where
         below = ltb-true (child_bound shop end first last job) number under;
       }))
 
-  below-distinct : (end : End) → AreDistinct (jobs_below shop number end first last)
+  below-distinct : (end : End) → AreDistinct (left_below shop number end first last)
   below-distinct end =
       kept-distinct (λ job. nat_lt (child_bound shop end first last job) number) (jobs_left shop.jobs (first ++ last))
       (kept-distinct (λ job. not (has (first ++ last) job)) (numbers 1 shop.jobs) (in-order shop.jobs).each.distinct)
@@ -124,7 +125,7 @@ module _ (shop : Shop) (number : ℕ) (first last : List ℕ) where
   pub stands-first : (end : End) (old new : List ℕ) (lists : Lists) (jobs : List ℕ) →
       0 < length (jobs_left shop.jobs (first ++ last)) → end_bound shop first last < number →
       end ≡ end_taken shop number first last → new ≡ old ++ sign end ∷ [] →
-      HasLists shop.jobs first last lists → jobs ≡ jobs_below shop number end first last →
+      HasLists shop.jobs first last lists → jobs ≡ left_below shop number end first last →
       Stands shop number end first last old new lists jobs
   stands-first end old new lists jobs some low is written has_lists are =
       let all : List Visit = flat_map (child_visits shop number end first last) (jobs_left shop.jobs (first ++ last)) in

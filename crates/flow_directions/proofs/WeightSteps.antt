@@ -7,7 +7,8 @@ use Rattle.flow_shop.specs.Sequences.{has}
 use Rattle.flow_shop.specs.Directions.{first_with, last_with}
 use Rattle.flow_shop.specs.declared.end.End.{End}
 use Rattle.flow_nodes.specs.Nodes.{IsNode}
-use Rattle.flow_directions.specs.Search.{fewest_below, jobs_below, weight}
+use Rattle.flow_directions.specs.Search.{fewest_below, weight}
+use Rattle.flow_nodes.specs.Packs.{left_below}
 use Rattle.flow_nodes.specs.Marks.{mark}
 use Rattle.flow_directions.specs.internal.Packs.{HasLeft, IsMarkedNode}
 use Rattle.flow_directions.specs.declared.marked_node.MarkedNode.{MarkedNode}
@@ -21,7 +22,7 @@ fewest_at shop number end first last job =
 
 module _ (shop : Shop) (number : ℕ) (end : End) (first last : List ℕ) where
   pub weight-is : weight shop number end first last
-      ≡ sum_by (fewest_at shop number end first last) (jobs_below shop number end first last)
+      ≡ sum_by (fewest_at shop number end first last) (left_below shop number end first last)
   unfolding weight
   weight-is = refl
 

@@ -1,6 +1,6 @@
 -- The search for directions that prove a number: at which end it opens a node, and what it meets.
 use Rattle.std.specs.Prelude.{ℕ, zero, suc, ◌≡◌, ◌*◌, ◌<◌, ◌≤◌, ◌↔◌, min, All, Bool, cond, ◌&&◌}
-use Rattle.std.specs.Prelude.{nat_lt, nat_le, List, [], ◌∷◌, ◌++◌, length, filter, sum_by, Option, Some, None}
+use Rattle.std.specs.Prelude.{nat_lt, nat_le, List, [], ◌∷◌, ◌++◌, length, sum_by, Option, Some, None}
 use Rattle.std.specs.List.{flat_map}
 use Rattle.flow_shop.specs.Shop.{Shop}
 use Rattle.flow_shop.specs.Paths.{span}
@@ -11,6 +11,7 @@ use Rattle.flow_shop.specs.declared.end.End.{End}
 use Rattle.flow_shop.specs.declared.end.End.TheVariants.{Front, Back}
 use Rattle.flow_nodes.specs.Groups.{child_bound}
 use Rattle.flow_nodes.specs.PlainEnd.{plain_end_by}
+use Rattle.flow_nodes.specs.Packs.{left_below}
 use Rattle.flow_directions.specs.declared.found.Found.{Found}
 use Rattle.flow_directions.specs.declared.found.Found.TheVariants.{Proved, Below, Over}
 use Rattle.flow_directions.specs.declared.found.Advanced.{Advanced}
@@ -18,14 +19,9 @@ use Rattle.flow_directions.specs.declared.found.Advanced.TheVariants as advanced
 use Rattle.flow_directions.specs.declared.found.Part.{Part}
 use Rattle.flow_directions.specs.declared.found.Part.TheVariants.{Node, Children}
 
--- the jobs left whose children at an end are below a number, in increasing order
-abbrev pub jobs_below : Shop → ℕ → End → List ℕ → List ℕ → List ℕ
-jobs_below shop number end first last =
-    filter (λ job. nat_lt (child_bound shop end first last job) number) (jobs_left shop.jobs (first ++ last))
-
 -- how many children of a node at an end are below a number
 abbrev pub count_below : Shop → ℕ → End → List ℕ → List ℕ → ℕ
-count_below shop number end first last = length (jobs_below shop number end first last)
+count_below shop number end first last = length (left_below shop number end first last)
 
 -- the sum of the bounds of all children of a node at an end
 abbrev pub bound_sum : Shop → End → List ℕ → List ℕ → ℕ
@@ -55,7 +51,7 @@ fewest_below shop number first last =
 unfoldable pub weight : Shop → ℕ → End → List ℕ → List ℕ → ℕ
 weight shop number end first last =
     sum_by (λ job. fewest_below shop number (first_with end first job) (last_with end last job))
-    (jobs_below shop number end first last)
+    (left_below shop number end first last)
 
 -- whether the search looks ahead at a node: at the plain rule's end at least 2 children are below the number, at the
 -- other end at most one and a half times as many, and at least 3 jobs are left

@@ -4,7 +4,8 @@
 ghost use Rattle.std.specs.Prelude.{◌≡◌, ℕ, ◌*◌, ◌<◌, ◌≤◌, ◌&&◌, List, nat_le};
 ghost use Rattle.flow_limits.specs.Limits.{most_machines};
 ghost use Rattle.flow_shop.specs.Shop.{Shop};
-ghost use Rattle.flow_directions.specs.Search.{end_taken, fewest_below, jobs_below, weight};
+ghost use Rattle.flow_directions.specs.Search.{end_taken, fewest_below, weight};
+ghost use Rattle.flow_nodes.specs.Packs.{left_below};
 ghost use Rattle.flow_nodes.specs.Lanes.{limit_of};
 ghost use Rattle.flow_nodes.specs.Marks.{mark};
 ghost use Rattle.flow_directions.specs.internal.Packs.{HasRoom, IsMarkedNode, jobs_at};
@@ -52,11 +53,11 @@ fn weigh<V: Lanes>(
     ensures small { result ≤ 640000 }
     ensures exact { (number : ℕ) (first last : List ℕ) → limit ≡ limit_of number →
         IsMarkedNode V.list V.CAP V.WIDTH instance.now first last pack.now marked.now →
-        jobs_at pack.now opened.now.below ≡ jobs_below instance.now number opened.now.end first last →
+        jobs_at pack.now opened.now.below ≡ left_below instance.now number opened.now.end first last →
         result < most → result ≡ weight instance.now number opened.now.end first last }
     ensures reaches { (number : ℕ) (first last : List ℕ) → limit ≡ limit_of number →
         IsMarkedNode V.list V.CAP V.WIDTH instance.now first last pack.now marked.now →
-        jobs_at pack.now opened.now.below ≡ jobs_below instance.now number opened.now.end first last →
+        jobs_at pack.now opened.now.below ≡ left_below instance.now number opened.now.end first last →
         most ≤ result → most ≤ weight instance.now number opened.now.end first last }
 {
     let groups = pack.groups.len();
@@ -105,7 +106,7 @@ pub(crate) fn look_ahead<V: Lanes>(
     ensures below { (number : ℕ) (first last : List ℕ) → limit ≡ limit_of number →
         IsMarkedNode V.list V.CAP V.WIDTH instance.now first last pack.now marked.now →
         AreEnds instance.now number first last pack.now plain.now other.now →
-        jobs_at pack.now result.below ≡ jobs_below instance.now number result.end first last }
+        jobs_at pack.now result.below ≡ left_below instance.now number result.end first last }
 {
     let groups = pack.groups.len();
     let plain_count = plain.below.count(groups);

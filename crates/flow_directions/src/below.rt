@@ -3,7 +3,7 @@
 ghost use Rattle.std.specs.Prelude.{◌≡◌, ℕ, ◌≤◌, List};
 ghost use Rattle.flow_limits.specs.Limits.{most_machines};
 ghost use Rattle.flow_shop.specs.Shop.{Shop};
-ghost use Rattle.flow_directions.specs.Search.{jobs_below};
+ghost use Rattle.flow_nodes.specs.Packs.{left_below};
 ghost use Rattle.flow_nodes.specs.Lanes.{limit_of};
 ghost use Rattle.flow_nodes.specs.Marks.{mark};
 ghost use Rattle.flow_directions.specs.internal.Packs.{HasRoom, IsMarkedNode, jobs_at};
@@ -34,7 +34,7 @@ pub(crate) fn marks_below<V: Lanes>(
     ensures within { (place : ℕ) → mark result.words place ≡ 1 → mark marked.now.left.words place ≡ 1 }
     ensures below { (shop : Shop) (number : ℕ) (first last : List ℕ) → limit ≡ limit_of number →
         IsMarkedNode V.list V.CAP V.WIDTH shop first last pack.now marked.now →
-        jobs_at pack.now result ≡ jobs_below shop number end first last }
+        jobs_at pack.now result ≡ left_below shop number end first last }
 {
     let mut below = Marks::none();
     let groups = pack.groups.as_slice();

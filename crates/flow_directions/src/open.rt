@@ -6,7 +6,8 @@ ghost use Rattle.flow_nodes.specs.Nodes.{IsNode};
 ghost use Rattle.flow_nodes.specs.Groups.{IsGroup, child_bound};
 ghost use Rattle.flow_nodes.specs.Lanes.{limit_of};
 ghost use Rattle.flow_shop.specs.Sequences.{has};
-ghost use Rattle.flow_directions.specs.Search.{bound_sum, end_taken, jobs_below};
+ghost use Rattle.flow_directions.specs.Search.{bound_sum, end_taken};
+ghost use Rattle.flow_nodes.specs.Packs.{left_below};
 ghost use Rattle.flow_nodes.specs.Marks.{mark, picked};
 ghost use Rattle.flow_directions.specs.internal.Packs.{IsMarkedNode, jobs_at};
 
@@ -99,7 +100,7 @@ pub(crate) fn open<V: Lanes>(
         result.end ≡ end_taken instance.now number first last }
     ensures below { (number : ℕ) (first last : List ℕ) → limit ≡ limit_of number →
         IsMarkedNode V.list V.CAP V.WIDTH instance.now first last pack.now marked.now →
-        jobs_at pack.now result.below ≡ jobs_below instance.now number result.end first last }
+        jobs_at pack.now result.below ≡ left_below instance.now number result.end first last }
 {
     let front = Opened {
         end: End::Front,

@@ -3,7 +3,8 @@ use Rattle.std.proofs.Common.{◌∙◌, arith}
 use Rattle.std.proofs.lemmas.List.{get_or_read}
 use Rattle.flow_shop.specs.Directions.{first_with, last_with}
 use Rattle.flow_nodes.specs.Lanes.{limit_of}
-use Rattle.flow_directions.specs.Search.{jobs_below, weight}
+use Rattle.flow_directions.specs.Search.{weight}
+use Rattle.flow_nodes.specs.Packs.{left_below}
 use Rattle.flow_directions.specs.internal.Packs.{IsMarkedNode, jobs_at}
 use Rattle.flow_nodes.proofs.ChosenNames.{chosen-short}
 use Rattle.flow_directions.proofs.WeightSteps.{fewest_at, weight-is, weight-more, job-fresh, child-marked}
@@ -64,7 +65,7 @@ more : (g : Over) (c : After-fewest-weight g) (number : ℕ) (first last : List 
     IsMarkedNode g.V.Lanes.list g.V.Lanes.CAP g.V.Lanes.WIDTH c.args.instance.now first last c.args.pack.now
     c.args.marked.now →
     jobs_at c.args.pack.now c.args.opened.now.below
-    ≡ jobs_below c.args.instance.now number c.args.opened.now.end first last →
+    ≡ left_below c.args.instance.now number c.args.opened.now.end first last →
     c.children.weight + c.fewest-weight.result
     + sum_by (fewest_at c.args.instance.now number c.args.opened.now.end first last)
     (jobs_at c.args.pack.now c.pop.new.self)

@@ -1,5 +1,6 @@
 use Rattle.std.proofs.Common.{◌≡◌, ℕ, ◌+◌, ◌*◌, ◌≤◌, List, sum_by, length}
-use Rattle.flow_directions.specs.Search.{jobs_below, weight}
+use Rattle.flow_directions.specs.Search.{weight}
+use Rattle.flow_nodes.specs.Packs.{left_below}
 use Rattle.flow_nodes.specs.Lanes.{limit_of}
 use Rattle.flow_nodes.specs.Marks.{mark}
 use Rattle.flow_directions.specs.internal.Packs.{IsMarkedNode, jobs_at}
@@ -13,7 +14,7 @@ invariant-children g l = record {
   small : l.weight + 800 * length (jobs_at l.pack l.rest) ≤ 640000;
   sum : (number : ℕ) (first last : List ℕ) → l.limit ≡ limit_of number →
       IsMarkedNode g.V.Lanes.list g.V.Lanes.CAP g.V.Lanes.WIDTH l.instance first last l.pack l.marked →
-      jobs_at l.pack l.opened.below ≡ jobs_below l.instance number l.opened.end first last →
+      jobs_at l.pack l.opened.below ≡ left_below l.instance number l.opened.end first last →
       l.weight + sum_by (fewest_at l.instance number l.opened.end first last) (jobs_at l.pack l.rest)
       ≡ weight l.instance number l.opened.end first last;
 }
