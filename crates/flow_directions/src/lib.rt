@@ -3,6 +3,7 @@
 
 mod ahead;
 mod below;
+mod choose;
 mod directions;
 mod found;
 mod laws;
@@ -12,6 +13,8 @@ mod open;
 mod pack;
 mod prover;
 mod start;
+mod stub;
+mod tree;
 mod walk;
 
 pub use directions::{advance, prove};

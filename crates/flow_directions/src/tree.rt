@@ -1,0 +1,143 @@
+//! The open nodes of a search, in a list, and what they share.
+
+ghost use Rattle.std.specs.Prelude.{◌≡◌, ◌≢◌, ℕ, ◌+◌, ◌-◌, ◌*◌, ◌<◌, ◌≤◌, List, [], ◌++◌, length, take, slice_index};
+ghost use Rattle.std.specs.Prelude.{slice_index_or, IfOk, OnOk};
+ghost use Rattle.flow_shop.specs.Sequences.{jobs_left};
+ghost use Rattle.flow_shop.specs.Directions.{first_with, last_with};
+ghost use Rattle.flow_nodes.specs.Lanes.{limit_of};
+ghost use Rattle.flow_nodes.specs.Marks.{mark};
+ghost use Rattle.flow_nodes.specs.declared.pack.Pack.{Pack};
+ghost use Rattle.flow_directions.specs.internal.Open.{children_at};
+ghost use Rattle.flow_directions.specs.internal.Tree.{IsOpenAt, IsTree};
+ghost use Rattle.flow_directions.specs.declared.stub.OpenNode.{OpenNode};
+
+use crate::stub::{OpenNode, Opener, Put};
+use flow_nodes::{LANES, Lanes, Marks, Pack};
+use flow_shop::Instance;
+use std::alloc::{AllocError, Global};
+
+/// The open nodes of a search, and what they share.
+#[derive(Drop)]
+pub(crate) struct Tree<V> {
+    /// Where memory comes from.
+    pub(crate) alloc: Global,
+    /// The nodes of the walk, and the children of these that are kept.
+    pub(crate) nodes: Vec<OpenNode<V>>,
+    /// The packs: that of one group first, and each with one group more than the one before.
+    pub(crate) packs: Vec<Pack<V>>,
+    /// What opens the nodes.
+    pub(crate) opener: Opener<V>,
+}
+
+impl<V: Lanes> Tree<V> {
+    /// A tree with no node yet, with packs of up to so many groups.
+    pub(crate) fn new(alloc: Global, instance: &Instance, groups: usize, limit: u32) -> Result<Tree<V>, AllocError>
+        requires few { groups ≤ 50 }
+        ensures tree { (number : ℕ) → limit ≡ limit_of number → limit ≤ V.CAP →
+            IfOk result (λ tree. IsTree V.CAP instance.now number tree) }
+        ensures packs { IfOk result (λ tree. length tree.packs.items ≡ groups) }
+        ensures nodes { IfOk result (λ tree. tree.nodes.items ≡ []) }
+    {
+        let mut packs = Vec::with_capacity(alloc, groups)?;
+        'packs: while packs.len() < groups {
+            let pack = Pack::new(alloc, instance, packs.len() + 1)?;
+            packs.push(pack)?;
+        }
+        Ok(Tree {
+            alloc,
+            nodes: Vec::new(alloc),
+            packs,
+            opener: Opener::new(alloc, instance, limit)?,
+        })
+    }
+
+    /// Grows the list to so many nodes, where it has fewer.
+    #[inline(never)]
+    pub(crate) fn grow(&mut self, instance: &Instance, count: usize) -> Result<(), AllocError>
+        requires few { length self.old.packs.items ≤ 50 }
+        ensures tree { (number : ℕ) → IsTree V.CAP instance.now number self.old → IsTree V.CAP instance.now number self.new }
+        ensures packs { self.new.packs ≡ self.old.packs }
+        ensures begin { take (length self.old.nodes.items) self.new.nodes.items ≡ self.old.nodes.items }
+        ensures more { length self.old.nodes.items ≤ length self.new.nodes.items }
+        ensures size { OnOk result (count ≤ length self.new.nodes.items) }
+    {
+        'nodes: while self.nodes.len() < count {
+            let node = OpenNode::new(self.alloc, instance, self.packs.len())?;
+            self.nodes.push(node)?;
+        }
+        Ok(())
+    }
+
+    /// Makes the child of the node at a place that puts a job at an end, at the place `to` of the list.
+    #[inline(always)]
+    pub(crate) fn make(&mut self, instance: &Instance, groups: usize, at: usize, put: Put, to: usize)
+        requires wide { V.WIDTH ≡ 16 }
+        requires some { 1 ≤ groups }
+        requires few { groups ≤ length self.old.packs.items }
+        requires order { at < to }
+        requires room { to < length self.old.nodes.items }
+        requires at { (number : ℕ) × (first : List ℕ) × (last : List ℕ)
+            × IsTree V.CAP instance.now number self.old
+            × IsOpenAt V.list V.CAP V.WIDTH instance.now number first last groups at self.old.packs.items
+            self.old.nodes.items }
+        requires place { put.place < groups * 16 }
+        requires marked { (empty : OpenNode V) →
+            mark (children_at put.end (slice_index_or self.old.nodes.items at empty)).below.words put.place ≡ 1 }
+        ensures tree { (number : ℕ) → IsTree V.CAP instance.now number self.old →
+            IsTree V.CAP instance.now number self.new }
+        ensures packs { self.new.packs ≡ self.old.packs }
+        ensures size { length self.new.nodes.items ≡ length self.old.nodes.items }
+        ensures above { take to self.new.nodes.items ≡ take to self.old.nodes.items }
+        ensures child { (number : ℕ) (first last : List ℕ) (none : Pack V) →
+            IsTree V.CAP instance.now number self.old →
+            IsOpenAt V.list V.CAP V.WIDTH instance.now number first last groups at self.old.packs.items
+            self.old.nodes.items →
+            IsOpenAt V.list V.CAP V.WIDTH instance.now number
+            (first_with put.end first
+            (slice_index (slice_index_or self.old.packs.items (groups - 1) none).names.items put.place))
+            (last_with put.end last
+            (slice_index (slice_index_or self.old.packs.items (groups - 1) none).names.items put.place))
+            groups to self.new.packs.items self.new.nodes.items }
+    {
+        let (above, deeper) = self.nodes.as_mut_slice().split_at_mut(to);
+        self.opener
+            .open_child(instance, &self.packs[groups - 1], &above[at], put, &mut deeper[0]);
+    }
+
+    /// Packs the jobs left at the node at a place anew, in so many groups, which they fill, and opens it at the place `to`.
+    #[inline(never)]
+    pub(crate) fn repack(&mut self, instance: &Instance, groups: usize, at: usize, to: usize)
+        requires wide { V.WIDTH ≡ 16 }
+        requires some { 1 ≤ groups }
+        requires more { groups < length self.old.packs.items }
+        requires order { at < to }
+        requires room { to < length self.old.nodes.items }
+        requires at { (number : ℕ) × (first : List ℕ) × (last : List ℕ)
+            × IsTree V.CAP instance.now number self.old
+            × IsOpenAt V.list V.CAP V.WIDTH instance.now number first last (groups + 1) at self.old.packs.items
+            self.old.nodes.items
+            × (length (jobs_left instance.now.jobs (first ++ last)) ≡ groups * 16) }
+        ensures tree { (number : ℕ) → IsTree V.CAP instance.now number self.old →
+            IsTree V.CAP instance.now number self.new }
+        ensures count { length self.new.packs.items ≡ length self.old.packs.items }
+        ensures others { (place : ℕ) (none : Pack V) → place ≢ groups - 1 →
+            slice_index_or self.new.packs.items place none ≡ slice_index_or self.old.packs.items place none }
+        ensures size { length self.new.nodes.items ≡ length self.old.nodes.items }
+        ensures above { take to self.new.nodes.items ≡ take to self.old.nodes.items }
+        ensures node { (number : ℕ) (first last : List ℕ) →
+            IsTree V.CAP instance.now number self.old →
+            IsOpenAt V.list V.CAP V.WIDTH instance.now number first last (groups + 1) at self.old.packs.items
+            self.old.nodes.items →
+            length (jobs_left instance.now.jobs (first ++ last)) ≡ groups * 16 →
+            IsOpenAt V.list V.CAP V.WIDTH instance.now number first last groups to self.new.packs.items
+            self.new.nodes.items }
+    {
+        let (fewer, more) = self.packs.as_mut_slice().split_at_mut(groups);
+        let (above, deeper) = self.nodes.as_mut_slice().split_at_mut(to);
+        let pack = &mut fewer[groups - 1];
+        pack.fill(instance, &more[0], &above[at].left);
+        deeper[0].node = above[at].node;
+        deeper[0].left = Marks::first((groups * LANES) as u16);
+        self.opener.open(pack, &mut deeper[0]);
+    }
+}
