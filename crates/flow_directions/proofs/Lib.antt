@@ -14,3 +14,5 @@ pub mod EndTaken
 pub mod WeightSteps
 pub mod StartLists
 pub mod FoundSteps
+pub mod TreeSteps
+pub mod EndChosen
