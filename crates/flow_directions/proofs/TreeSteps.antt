@@ -1,30 +1,33 @@
 -- The nodes and packs of a tree, once one of them is written.
-use Rattle.std.proofs.Common.{◌≡◌, ℕ, zero, suc, ◌+◌, ◌-◌, ◌<◌, ◌≤◌, List, [], ◌∷◌, ◌++◌, length, slice_index_or, set, take}
+use Rattle.std.proofs.Common.{◌≡◌, ℕ, zero, suc, ◌+◌, ◌-◌, ◌*◌, ◌<◌, ◌≤◌, List, [], ◌∷◌, ◌++◌, length, slice_index_or, set, take, drop}
 use Rattle.std.proofs.Common.{slice_index, Bool, true, not, nat_lt, refl, ap, sym, ◌∙◌, subst, inl, inr, arith}
 use Rattle.std.specs.List.{AllByRecursion, filter}
-use Rattle.std.proofs.lemmas.Bool.{cases_eq}
+use Rattle.std.proofs.lemmas.Bool.{cases_eq, cases_lt}
 use Rattle.std.proofs.lemmas.Bool.Decides.{Decides-ltb}
 use Rattle.std.proofs.lemmas.List.Elements.{filter_passes, recursion_from_All}
 use Rattle.std.proofs.lemmas.List.Filters.{length-filter_both}
 use Rattle.std.proofs.lemmas.List.{get_or-take, get_or-set_same, get_or-set_other, length-set, set-append_right}
+use Rattle.std.proofs.Math.Seq.{get_or-append_seam, take-length}
+use Rattle.std.proofs.lemmas.List.{append-nil, drop_all, length-append}
 use Rattle.std.proofs.lemmas.List.{get_or_append_left, get_or-append_right, get_or_default}
 use Rattle.flow_shop.specs.Shop.{Shop}
 use Rattle.flow_shop.specs.Directions.{first_with, last_with}
 use Rattle.flow_shop.specs.declared.end.End.{End}
+use Rattle.flow_shop.specs.declared.end.End.TheVariants.{Front, Back}
 use Rattle.flow_shop.specs.Sequences.{jobs_left}
 use Rattle.flow_limits.specs.Limits.{most_jobs}
 use Rattle.flow_nodes.specs.Nodes.{IsNode}
 use Rattle.flow_nodes.specs.Groups.{child_bound}
 use Rattle.flow_nodes.specs.Marks.{mark, chosen}
-use Rattle.flow_nodes.specs.Packs.{IsPack, left_below}
+use Rattle.flow_nodes.specs.Packs.{HasRoom, IsPack, left_below}
 use Rattle.flow_nodes.specs.declared.node.Node.{Node}
 use Rattle.flow_nodes.specs.declared.pack.Pack.{Pack}
 use Rattle.flow_nodes.proofs.MarkedNames.{kept, kept-yes, kept-no}
 use Rattle.flow_nodes.proofs.ChosenNames.{chosen-kept}
 use Rattle.flow_directions.specs.Search.{count_below, fewest_below}
 use Rattle.flow_directions.specs.declared.stub.OpenNode.{OpenNode}
-use Rattle.flow_directions.specs.internal.Open.{IsOpenNode}
-use Rattle.flow_directions.specs.internal.Tree.{AreKept, IsOpenAt}
+use Rattle.flow_directions.specs.internal.Open.{AreChildren, HasRoomToOpen, IsOpenNode, children_at}
+use Rattle.flow_directions.specs.internal.Tree.{AreKept, HavePacks, IsOpenAt}
 
 module _ {X : Type 0} where
   -- where the first elements stay, so does each of them
@@ -70,18 +73,72 @@ module _ {X : Type 0} where
       ∙ get_or-append_right above deeper at at other size (omega arith)
       ∙ ap (λ i. slice_index_or deeper i other) first
 
+  -- a list that is written through the whole of it
+  pub written-back : (count : ℕ) (old new : List X) → count ≡ length old → length new ≡ length old →
+      take count (new ++ drop (length new) old) ≡ new
+  written-back count old new size same =
+      let e : count ≡ length new = omega (arith, size, same) in
+      ap (λ l. take count (new ++ l)) (drop_all (length new) old (omega (arith, same)))
+      ∙ ap (take count) (append-nil new)
+      ∙ ap (λ n. take n new) e
+      ∙ take-length new
+
   -- a fact about each element stays, where it holds of the one that is written
-  pub each-set : (P : X → Type 0) (xs : List X) (at : ℕ) (x : X) → at < length xs → P x →
-      ((place : ℕ) (none : X) → place < length xs → P (slice_index_or xs place none)) →
-      (place : ℕ) (none : X) → place < length (set xs at x) → P (slice_index_or (set xs at x) place none)
+  pub each-set : (P : ℕ → X → Type 0) (xs : List X) (at : ℕ) (x : X) → at < length xs → P at x →
+      ((place : ℕ) (none : X) → place < length xs → P place (slice_index_or xs place none)) →
+      (place : ℕ) (none : X) → place < length (set xs at x) → P place (slice_index_or (set xs at x) place none)
   each-set P xs at x within here before place none low = elim (cases_eq place at) [
     | inl same ↦
-        subst (λ p. P (slice_index_or (set xs at x) p none)) (sym same)
-        (subst P (sym (get_or-set_same xs at x none within)) here)
+        subst (λ p. P p (slice_index_or (set xs at x) p none)) (sym same)
+        (subst (P at) (sym (get_or-set_same xs at x none within)) here)
     | inr apart ↦
-        subst P (sym (get_or-set_other xs at place x none apart))
+        subst (P place) (sym (get_or-set_other xs at place x none apart))
         (before place none (omega (arith, low, length-set xs at x)))
   ]
+
+  -- likewise where one more element is there
+  pub each-push : (P : ℕ → X → Type 0) (xs : List X) (x : X) → P (length xs) x →
+      ((place : ℕ) (none : X) → place < length xs → P place (slice_index_or xs place none)) →
+      (place : ℕ) (none : X) → place < length (xs ++ x ∷ []) → P place (slice_index_or (xs ++ x ∷ []) place none)
+  each-push P xs x here before place none within = elim (cases_lt place (length xs)) [
+    | inl low ↦ subst (P place) (sym (get_or_append_left xs (x ∷ []) none place low)) (before place none low)
+    | inr high ↦
+        let same : place ≡ length xs = omega (arith, high, within, length-append xs (x ∷ [])) in
+        subst (λ n. P n (slice_index_or (xs ++ x ∷ []) n none)) (sym same)
+        (subst (P (length xs)) (sym (get_or-append_seam xs x [] none)) here)
+  ]
+
+-- packs, once one of them is filled
+pub packs-set : {V : Type 0} (shop : Shop) (packs : List (Pack V)) (at : ℕ) (pack : Pack V) → at < length packs →
+    HasRoom shop pack → length pack.groups.items ≡ at + 1 → HavePacks shop packs → HavePacks shop (set packs at pack)
+packs-set shop packs at pack within room groups have = record {
+  few = omega (arith, have.few, length-set packs at pack);
+  rooms = each-set (λ _ p. HasRoom shop p) packs at pack within room have.rooms;
+  groups = each-set (λ place p. length p.groups.items ≡ place + 1) packs at pack within groups have.groups;
+}
+
+-- memory for fewer groups
+pub room-fewer : {V : Type 0} (shop : Shop) (few many : ℕ) (node : OpenNode V) → few ≤ many →
+    HasRoomToOpen shop many node → HasRoomToOpen shop few node
+room-fewer shop few many node low room = record {
+  at_front = record { enough = omega (arith, low, room.at_front.enough); machines = room.at_front.machines; };
+  at_back = record { enough = omega (arith, low, room.at_back.enough); machines = room.at_back.machines; };
+}
+
+-- how many names the pack at a place has
+pub names-count : {V : Type 0} (shop : Shop) (packs : List (Pack V)) (place : ℕ) (none : Pack V) →
+    HavePacks shop packs → place < length packs →
+    length (slice_index_or packs place none).names.items ≡ (place + 1) * 16
+names-count shop packs place none have within =
+    omega (arith, (have.rooms place none within).names, have.groups place none within)
+
+-- the children of an open node at an end
+pub children-of : {V : Type 0} (list : V → List ℕ) (cap width : ℕ) (shop : Shop) (number : ℕ) (end : End)
+    (first last : List ℕ) (pack : Pack V) (node : OpenNode V) →
+    IsOpenNode list cap width shop number first last pack node →
+    AreChildren list cap width shop number end first last pack.names.items node.left (children_at end node)
+children-of list cap width shop number Front first last pack node is = is.at_front
+children-of list cap width shop number Back first last pack node is = is.at_back
 
 module _ {V : Type 0} (list : V → List ℕ) (cap width : ℕ) (shop : Shop) (number : ℕ) where
   -- where the pack and the node are the same, the node is still open
