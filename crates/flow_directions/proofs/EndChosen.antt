@@ -69,3 +69,17 @@ module _ (shop : Shop) (number : ℕ) (first last : List ℕ) (plain other : End
       (weight shop number plain first last))) close
       ∙ ap (chosen_by true) (lt-ltb (weight shop number other first last)
       (weight shop number plain first last) lighter))
+
+-- the end where fewer are, by tests, is that of the plain rule
+pub fewer-is : (less more high : Bool) (end : End) → cond less (Some Front) (cond more (Some Back) None) ≡ Some end →
+    end ≡ cond less Front (cond more Back (cond high Front Back))
+fewer-is true more high end is = sym (some-same Front end is)
+fewer-is false true high end is = sym (some-same Back end is)
+fewer-is false false high end is = absurd (none-some end is)
+
+-- where as many are, the greater sum tells
+pub as-many : (less more high : Bool) → cond less (Some Front) (cond more (Some Back) None) ≡ None →
+    cond high Front Back ≡ cond less Front (cond more Back (cond high Front Back))
+as-many true more high is = absurd (none-some Front (sym is))
+as-many false true high is = absurd (none-some Back (sym is))
+as-many false false high is = refl

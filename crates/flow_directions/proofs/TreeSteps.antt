@@ -158,6 +158,17 @@ module _ {V : Type 0} (list : V → List ℕ) (cap width : ℕ) (shop : Shop) (n
         (sym (node empty)) (is.is_open none empty));
   }
 
+  -- the node, as it is read
+  pub open-read : (first last : List ℕ) (groups place : ℕ) (packs : List (Pack V)) (nodes : List (OpenNode V))
+      (pack : Pack V) (node : OpenNode V) → pack ≡ slice_index_or packs (groups - 1) pack →
+      node ≡ slice_index_or nodes place node →
+      IsOpenAt list cap width shop number first last groups place packs nodes →
+      IsOpenNode list cap width shop number first last pack node
+  open-read first last groups place packs nodes pack node pack_is node_is is =
+      subst (λ p. IsOpenNode list cap width shop number first last p node) (sym pack_is)
+      (subst (IsOpenNode list cap width shop number first last (slice_index_or packs (groups - 1) pack)) (sym node_is)
+      (is.is_open pack node))
+
   -- likewise where the packs stay, and the first nodes
   pub open-kept : (first last : List ℕ) (groups place count : ℕ) (packs packs2 : List (Pack V))
       (nodes nodes2 : List (OpenNode V)) → packs2 ≡ packs → take count nodes2 ≡ take count nodes → place < count →
