@@ -1,11 +1,13 @@
 -- The end at which a node is opened: that of the plain rule, or the other one.
 use Rattle.std.proofs.Common.{◌≡◌, ℕ, ◌*◌, ◌<◌, ◌≤◌, Bool, true, false, cond, ◌&&◌, nat_lt, nat_le, List, ◌++◌}
-use Rattle.std.proofs.Common.{length, ap, sym, ◌∙◌}
+use Rattle.std.proofs.Common.{length, Option, Some, None, refl, ap, sym, ◌∙◌}
 use Rattle.std.proofs.Math.Bool.{and-false}
 use Rattle.std.proofs.lemmas.Bool.{lt-ltb, le-ltb}
+use Rattle.std.proofs.lemmas.Option.{none-some}
 use Rattle.flow_shop.specs.Shop.{Shop}
 use Rattle.flow_shop.specs.Sequences.{jobs_left}
 use Rattle.flow_shop.specs.declared.end.End.{End}
+use Rattle.flow_shop.specs.declared.end.End.TheVariants.{Front, Back}
 use Rattle.flow_directions.specs.Search.{count_below, plain_end, other_end, weight, looks_ahead, end_taken}
 
 -- whether the search looks ahead, by the counts at the plain rule's end and at the other one, and that of the jobs left
@@ -69,6 +71,13 @@ module _ (shop : Shop) (number : ℕ) (first last : List ℕ) (plain other : End
       (weight shop number plain first last))) close
       ∙ ap (chosen_by true) (lt-ltb (weight shop number other first last)
       (weight shop number plain first last) lighter))
+
+some-same : (one two : End) → Some one ≡ Some two → one ≡ two
+some-same one two is = ap the_end is
+  where
+    the_end : Option End → End
+    the_end None = Front
+    the_end (Some end) = end
 
 -- the end where fewer are, by tests, is that of the plain rule
 pub fewer-is : (less more high : Bool) (end : End) → cond less (Some Front) (cond more (Some Back) None) ≡ Some end →
