@@ -1,9 +1,11 @@
 -- The nodes and packs of a tree, once one of them is written.
 use Rattle.std.proofs.Common.{◌≡◌, ℕ, zero, suc, ◌+◌, ◌-◌, ◌*◌, ◌<◌, ◌≤◌, List, [], ◌∷◌, ◌++◌, length, slice_index_or, set, take, drop}
+use Rattle.std.proofs.Common.{Option, Some, None, cond, false}
 use Rattle.std.proofs.Common.{slice_index, Bool, true, not, nat_lt, refl, ap, sym, ◌∙◌, subst, inl, inr, arith}
 use Rattle.std.specs.List.{AllByRecursion, filter}
 use Rattle.std.proofs.lemmas.Bool.{cases_eq, cases_lt}
 use Rattle.std.proofs.lemmas.Bool.Decides.{Decides-ltb}
+use Rattle.std.proofs.lemmas.Option.{none-some}
 use Rattle.std.proofs.lemmas.List.Elements.{filter_passes, recursion_from_All}
 use Rattle.std.proofs.lemmas.List.Filters.{length-filter_both}
 use Rattle.std.proofs.lemmas.List.{get_or-take, get_or-set_same, get_or-set_other, length-set, set-append_right}
@@ -48,6 +50,11 @@ module _ {X : Type 0} where
       take-take (suc few) zero xs low = absurd (omega (arith, low))
       take-take (suc few) (suc many) [] low = refl
       take-take (suc few) (suc many) (x ∷ xs) low = ap (λ l. x ∷ l) (take-take few many xs (omega (arith, low)))
+
+  -- a list that grew
+  pub grown-kept : (old new : List X) (count : ℕ) → count ≤ length old → take (length old) new ≡ old →
+      take count new ≡ take count old
+  grown-kept old new count low same = fewer-kept old new count (length old) low (same ∙ sym (take-length old))
 
   -- of a list that is parted at a place, the first element behind it is written
   pub parted-set : (above deeper : List X) (at : ℕ) (x : X) → length above ≡ at →
@@ -257,3 +264,13 @@ module _ (shop : Shop) (number : ℕ) (first last : List ℕ) where
         is.count,
         is.limits.jobs,
       )
+
+-- a place, where children are kept
+pub place-is : (keeps : Bool) (place from : ℕ) → cond keeps (Some place) None ≡ Some from →
+    (keeps ≡ true) × (place ≡ from)
+place-is true place from is = (refl, ap the_place is)
+  where
+    the_place : Option ℕ → ℕ
+    the_place None = 0
+    the_place (Some number) = number
+place-is false place from is = absurd (none-some from is)
