@@ -9,6 +9,7 @@ pub mod ChosenNames
 pub mod MarkSteps
 pub mod BelowSteps
 pub mod SpreadSteps
+pub mod StartSteps
 pub mod PackSteps
 pub mod LeftSteps
 pub mod JobsMarked
