@@ -13,3 +13,4 @@ pub mod StartSteps
 pub mod PackSteps
 pub mod LeftSteps
 pub mod JobsMarked
+pub mod OpenSteps
