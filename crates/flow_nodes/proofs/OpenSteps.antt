@@ -173,12 +173,12 @@ module _ {V : Type 0} (list : V → List ℕ) (cap width : ℕ) (shop : Shop) (n
 
   both : (i : ℕ) → (many i ≡ 1) ↔ ((mark left.words i ≡ 1) × (passes (slice_index names i) ≡ true))
   both i = elim (cases_Bool (passes (slice_index names i))) [
-    | inl yes ↦
-        let is : many i ≡ mark left.words i = cond-true _ _ _ yes in
-        (λ one. (sym is ∙ one, yes), λ pair. is ∙ pair.0)
-    | inr no ↦
-        let is : many i ≡ 0 = cond-false _ _ _ no in
-        (λ one. absurd (omega (arith, is, one)), λ pair. absurd (false≢true (sym no ∙ pair.1)))
+    | inl good ↦
+        let is : many i ≡ mark left.words i = cond-true _ _ _ good in
+        (λ one. (sym is ∙ one, good), λ pair. is ∙ pair.0)
+    | inr bad ↦
+        let is : many i ≡ 0 = cond-false _ _ _ bad in
+        (λ one. absurd (omega (arith, is, one)), λ pair. absurd (false≢true (sym bad ∙ pair.1)))
   ]
 
   -- and each place left whose child is below the number is marked
@@ -301,14 +301,14 @@ module _ (shop : Shop) (first last : List ℕ) (put job : ℕ) (put_fresh : has 
   left-after : (end other : End) → has (first_with end first put ++ last_with end last put) job ≡ false →
       has (first_with other first job ++ last_with other last job) put ≡ false
   left-after end other fresh =
-      let no : nat_eq job put ≡ false =
+      let differs : nat_eq job put ≡ false =
       (or-none (has (first ++ last) job) (nat_eq job put)
       (sym (has-push (first ++ last) put job) ∙ sym (has-child end first last put job) ∙ fresh)).1 in
       has-child other first last job put
       ∙ has-push (first ++ last) job put
       ∙ ap (λ b. b || nat_eq put job) put_fresh
       ∙ (elim (cases_eq put job) [
-        | inl same ↦ absurd (false≢true (sym no ∙ eq-eqb job put (sym same)))
+        | inl same ↦ absurd (false≢true (sym differs ∙ eq-eqb job put (sym same)))
         | inr apart ↦ ne_eqb put job apart
       ])
 
