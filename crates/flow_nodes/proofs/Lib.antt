@@ -14,3 +14,4 @@ pub mod PackSteps
 pub mod LeftSteps
 pub mod JobsMarked
 pub mod OpenSteps
+pub mod PutSteps

@@ -290,12 +290,12 @@ impl<V: Lanes> Opener<V> {
         let groups = pack.groups.len();
         match put.end {
             End::Front => {
-                self.open_at(put.end, pack, &child.node, &child.left, &mut child.front);
+                self.open_at(End::Front, pack, &child.node, &child.left, &mut child.front);
                 self.write_rest(&child.node, End::Back);
                 self.keep_children(groups, &child.left, &parent.back, &mut child.back);
             }
             End::Back => {
-                self.open_at(put.end, pack, &child.node, &child.left, &mut child.back);
+                self.open_at(End::Back, pack, &child.node, &child.left, &mut child.back);
                 self.write_rest(&child.node, End::Front);
                 self.keep_children(groups, &child.left, &parent.front, &mut child.front);
             }

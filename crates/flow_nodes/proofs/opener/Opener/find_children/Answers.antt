@@ -68,13 +68,13 @@ loop-group-preserved g c =
           let is_written : vector.items ≡ written =
           with_items_is w.index_mut.result.now written (omega (arith, size, w.index_mut.result.now.ok.0)) in
           let of_group : (shop : Shop) (jobs : List ℕ) (place : ℕ) (none : Vec g.row.V.Denot) → place / 16 ≡ group →
-              IsGroup list cap width shop jobs (slice_index_or groups (place / 16) none).items →
-              IsGroup list cap width shop jobs w.as_slice.result.now =
+          IsGroup list cap width shop jobs (slice_index_or groups (place / 16) none).items →
+          IsGroup list cap width shop jobs w.as_slice.result.now =
           λ shop jobs place none there are.
-              subst (IsGroup list cap width shop jobs)
-              (sym (w.as_slice.ensures.value ∙ ap (λ v. v.items) (w.index-groups-group.is
-              ∙ get_or_default groups group w.index-groups-group.result none c.loop-group-test.true)))
-              (subst (λ i. IsGroup list cap width shop jobs (slice_index_or groups i none).items) there are) in
+          subst (IsGroup list cap width shop jobs)
+          (sym (w.as_slice.ensures.value ∙ ap (λ v. v.items) (w.index-groups-group.is
+          ∙ get_or_default groups group w.index-groups-group.result none c.loop-group-test.true)))
+          (subst (λ i. IsGroup list cap width shop jobs (slice_index_or groups i none).items) there are) in
           let words_are = ap (λ m. m.below.words) w.children-is in
           let starts_are : c.if-word-ne0.children.starts.items ≡ set starts group vector =
           ap (λ m. m.starts.items) w.children-is in
