@@ -1,12 +1,12 @@
 -- What is kept of the children of a node at an end, and of those of its own children.
-use Rattle.std.proofs.Common.{◌≡◌, ◌≢◌, ◌↔◌, ℕ, zero, suc, ◌+◌, ◌-◌, ◌/◌, ◌%◌, ◌<◌, ◌≤◌, min, Bool, true, false, not}
+use Rattle.std.proofs.Common.{◌≡◌, ◌≢◌, ◌↔◌, ℕ, zero, suc, ◌+◌, ◌-◌, ◌/◌, ◌%◌, ◌<◌, ◌≤◌, min, Bool, true, false}
 use Rattle.std.proofs.Common.{cond, ◌||◌, nat_eq, nat_lt, filter, List, [], ◌∷◌, ◌++◌, length, slice_index}
 use Rattle.std.proofs.Common.{slice_index_or, set, refl, ap, sym, ◌∙◌, subst, inl, inr, arith, All}
 use Rattle.std.specs.Prelude.{IsBitSet, bit_and}
 use Rattle.std.specs.Int.{bit_at}
 use Rattle.std.specs.Global.{Vec}
 use Rattle.std.specs.List.{AllByRecursion}
-use Rattle.std.proofs.lemmas.Bool.{cases_eq, cases_lt, cases_Bool, eq-eqb, ne_eqb, false≢true, cond-true, cond-false}
+use Rattle.std.proofs.lemmas.Bool.{cases_eq, cases_Bool, eq-eqb, ne_eqb, false≢true, cond-true, cond-false}
 use Rattle.std.proofs.lemmas.Bool.Decides.{Decides-ltb}
 use Rattle.std.proofs.lemmas.Nat.Bits.{bit_at-lt, bit_at_and, bit_at-zero}
 use Rattle.std.proofs.lemmas.List.{get_or-set_same, get_or-set_other, length-set}
@@ -21,7 +21,7 @@ use Rattle.flow_shop.proofs.Extremes.{range-le-greatest, greatest-range-le}
 use Rattle.flow_shop.proofs.EndSteps.{front_by_recurrence, back-is, sum-child, has-child}
 use Rattle.flow_shop.proofs.Taken.{has-push}
 use Rattle.flow_nodes.specs.Lanes.{HasLane, limit_of}
-use Rattle.flow_nodes.specs.Nodes.{IsJob, IsMachine, IsNode}
+use Rattle.flow_nodes.specs.Nodes.{IsJob, IsNode}
 use Rattle.flow_nodes.specs.Groups.{child_bound}
 use Rattle.flow_nodes.specs.Marks.{mark, chosen}
 use Rattle.flow_nodes.specs.Packs.{HasLeft, left_below}

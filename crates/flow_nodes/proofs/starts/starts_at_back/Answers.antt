@@ -1,5 +1,5 @@
 use Rattle.std.proofs.Common.{◌≡◌, ℕ, ◌+◌, ◌-◌, ◌≤◌, max, ◌∷◌, length, map, slice_index, ap, sym, ◌∙◌}
-use Rattle.std.proofs.Common.{slice_index_or, subst, refl, arith, ◌<◌}
+use Rattle.std.proofs.Common.{slice_index_or, subst, refl, arith}
 use Rattle.flow_shop.specs.Shop.{numbers, time}
 use Rattle.flow_shop.specs.Least.{greatest}
 use Rattle.flow_shop.specs.Ends.{back}

@@ -1,5 +1,5 @@
 use Rattle.std.proofs.Common.{◌≡◌, ℕ, ◌+◌, ◌-◌, ◌<◌, max, [], ◌∷◌, ◌++◌, length, map, slice_index, slice_index_or}
-use Rattle.std.proofs.Common.{refl, ap, sym, ◌∙◌, subst, arith}
+use Rattle.std.proofs.Common.{refl, sym, subst, arith}
 use Rattle.flow_shop.specs.Shop.{numbers, time}
 use Rattle.flow_shop.specs.Least.{greatest}
 use Rattle.flow_shop.specs.Ends.{front}

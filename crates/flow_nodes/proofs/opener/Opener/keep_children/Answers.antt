@@ -6,7 +6,6 @@ use Rattle.std.proofs.lemmas.Bool.{cases_lt}
 use Rattle.std.proofs.lemmas.Nat.Bits.{bit_at-zero}
 use Rattle.std.proofs.lemmas.List.{get_or_default, get_or-set_same, get_or-set_other, length-set, with_items_is}
 use Rattle.flow_nodes.specs.Lanes.{HasLane}
-use Rattle.flow_nodes.specs.Nodes.{IsMachine}
 use Rattle.flow_nodes.specs.Groups.{child_bound}
 use Rattle.flow_nodes.specs.Marks.{mark}
 use Rattle.flow_nodes.specs.Open.{HasStartRoom, start_at}
