@@ -27,8 +27,8 @@ use Rattle.flow_nodes.specs.declared.pack.Pack.{Pack}
 use Rattle.flow_nodes.proofs.MarkedNames.{kept, kept-yes, kept-no}
 use Rattle.flow_nodes.proofs.ChosenNames.{chosen-kept}
 use Rattle.flow_directions.specs.Search.{count_below, fewest_below}
-use Rattle.flow_directions.specs.declared.stub.OpenNode.{OpenNode}
-use Rattle.flow_directions.specs.internal.Open.{AreChildren, HasRoomToOpen, IsOpenNode, children_at}
+use Rattle.flow_nodes.specs.declared.open.OpenNode.{OpenNode}
+use Rattle.flow_nodes.specs.Open.{AreChildren, HasRoomToOpen, IsOpenNode, children_at}
 use Rattle.flow_directions.specs.internal.Tree.{AreKept, HavePacks, IsOpenAt}
 
 module _ {X : Type 0} where
@@ -128,8 +128,8 @@ packs-set shop packs at pack within room groups have = record {
 pub room-fewer : {V : Type 0} (shop : Shop) (few many : ℕ) (node : OpenNode V) → few ≤ many →
     HasRoomToOpen shop many node → HasRoomToOpen shop few node
 room-fewer shop few many node low room = record {
-  at_front = record { enough = omega (arith, low, room.at_front.enough); machines = room.at_front.machines; };
-  at_back = record { enough = omega (arith, low, room.at_back.enough); machines = room.at_back.machines; };
+  at_front = record { enough = omega (arith, low, room.at_front.enough); machines = room.at_front.machines };
+  at_back = record { enough = omega (arith, low, room.at_back.enough); machines = room.at_back.machines };
 }
 
 -- how many names the pack at a place has

@@ -5,5 +5,4 @@ pub mod Walk
 pub mod Start
 pub mod Reached
 pub mod Opened
-pub mod Open
 pub mod Tree

@@ -13,7 +13,6 @@ mod open;
 mod pack;
 mod prover;
 mod start;
-mod stub;
 mod sums;
 mod tree;
 mod walk;

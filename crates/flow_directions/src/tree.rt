@@ -8,14 +8,13 @@ ghost use Rattle.flow_shop.specs.Sequences.{jobs_left};
 ghost use Rattle.flow_shop.specs.Directions.{first_with, last_with};
 ghost use Rattle.flow_nodes.specs.Lanes.{limit_of};
 ghost use Rattle.flow_nodes.specs.Marks.{mark};
-ghost use Rattle.flow_nodes.specs.Packs.{HasRoom, IsPack, jobs_at};
+ghost use Rattle.flow_nodes.specs.Packs.{HasRoom, HasRoomFor, IsPack, jobs_at};
 ghost use Rattle.flow_nodes.specs.declared.pack.Pack.{Pack};
-ghost use Rattle.flow_directions.specs.internal.Open.{HasRoomFor, HasRoomToOpen, IsOpenNode, children_at};
+ghost use Rattle.flow_nodes.specs.Open.{HasRoomToOpen, IsOpenNode, children_at};
 ghost use Rattle.flow_directions.specs.internal.Tree.{IsOpenAt, IsTree};
-ghost use Rattle.flow_directions.specs.declared.stub.OpenNode.{OpenNode};
+ghost use Rattle.flow_nodes.specs.declared.open.OpenNode.{OpenNode};
 
-use crate::stub::{OpenNode, Opener, Put};
-use flow_nodes::{LANES, Lanes, Marks, Pack};
+use flow_nodes::{LANES, Lanes, Marks, OpenNode, Opener, Pack, Put};
 use flow_shop::Instance;
 use std::alloc::{AllocError, Global};
 

@@ -4,7 +4,7 @@ use Rattle.std.proofs.lemmas.List.{get_or-set_same, get_or_default, length-set, 
 use Rattle.flow_shop.specs.Directions.{first_with, last_with}
 use Rattle.flow_nodes.specs.Marks.{mark}
 use Rattle.flow_nodes.specs.Packs.{IsPack}
-use Rattle.flow_directions.specs.internal.Open.{HasRoomToOpen, IsOpenNode, children_at}
+use Rattle.flow_nodes.specs.Open.{HasRoomToOpen, IsOpenNode, children_at}
 use Rattle.flow_directions.specs.internal.Tree.{IsOpenAt}
 use Rattle.flow_directions.proofs.TreeSteps.{children-of, each-set, marked-below, names-count, room-fewer, written-back}
 use Rattle.flow_directions.proofs.tree.Tree.make.Given.{Over}

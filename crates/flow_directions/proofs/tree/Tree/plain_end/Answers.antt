@@ -5,7 +5,7 @@ use Rattle.flow_shop.proofs.Lists.{some-of}
 use Rattle.flow_nodes.specs.Packs.{IsPack}
 use Rattle.flow_nodes.specs.PlainEnd.{plain_end_by}
 use Rattle.flow_directions.specs.Search.{bound_sum, count_below, plain_end}
-use Rattle.flow_directions.specs.internal.Open.{IsOpenNode}
+use Rattle.flow_nodes.specs.Open.{IsOpenNode}
 use Rattle.flow_directions.specs.internal.Tree.{IsOpenAt}
 use Rattle.flow_directions.proofs.TreeSteps.{open-read}
 use Rattle.flow_directions.proofs.EndChosen.{fewer-is, as-many}

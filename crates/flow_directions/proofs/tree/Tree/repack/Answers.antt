@@ -5,7 +5,7 @@ use Rattle.flow_shop.specs.Sequences.{jobs_left}
 use Rattle.flow_nodes.specs.Nodes.{IsNode}
 use Rattle.flow_nodes.specs.Marks.{chosen}
 use Rattle.flow_nodes.specs.Packs.{HasLeft, HasRoom, IsPack, jobs_at}
-use Rattle.flow_directions.specs.internal.Open.{HasRoomToOpen, IsOpenNode}
+use Rattle.flow_nodes.specs.Open.{HasRoomToOpen, IsOpenNode}
 use Rattle.flow_directions.specs.internal.Tree.{HavePacks, IsOpenAt}
 use Rattle.flow_directions.proofs.TreeSteps.{each-set, names-count, packs-set, room-fewer, written-back}
 use Rattle.flow_directions.proofs.tree.Tree.repack.Given.{Over}
@@ -147,7 +147,7 @@ open-requires-clause-at g c =
       at.3.limit,
       at.4.below,
       has-left g here at.0 at.4 at.5,
-      record { at_front = room.at_front; at_back = room.at_back; },
+      record { at_front = room.at_front; at_back = room.at_back },
     )
 
 pub returns-clause-tree : goal.returns-clause-tree
@@ -174,7 +174,7 @@ returns-clause-tree g c number tree =
           (sym are)
           (subst (λ n. HasRoomToOpen shop n (slice_index_or (set nodes c.args.to c.open.new.node) place none)) (sym count)
           (each-set (λ _ node. HasRoomToOpen shop (length packs) node) nodes c.args.to c.open.new.node c.requires.room
-          (c.open.ensures.room shop (length packs) (record { at_front = room.at_front; at_back = room.at_back; }))
+          (c.open.ensures.room shop (length packs) (record { at_front = room.at_front; at_back = room.at_back }))
           tree.nodes place none within));
     }
 

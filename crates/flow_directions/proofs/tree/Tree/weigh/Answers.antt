@@ -9,7 +9,7 @@ use Rattle.flow_nodes.specs.Marks.{mark}
 use Rattle.flow_nodes.specs.Packs.{jobs_at, left_below}
 use Rattle.flow_nodes.specs.declared.pack.Pack.{Pack}
 use Rattle.flow_directions.specs.Search.{weight}
-use Rattle.flow_directions.specs.internal.Open.{IsOpenNode, children_at}
+use Rattle.flow_nodes.specs.Open.{IsOpenNode, children_at}
 use Rattle.flow_directions.specs.internal.Tree.{AreKept, IsOpenAt, IsTree}
 use Rattle.flow_directions.proofs.TreeSteps.{children-kept, children-more, children-of, count-small, fewer-kept, names-count}
 use Rattle.flow_directions.proofs.TreeSteps.{open-kept, place-kept}
@@ -74,16 +74,16 @@ children-init g c =
                 (at.4.is_open none node)).count,
           );
       small = λ none. omega (
-          arith,
-          size none,
-          count-small shop at.0 at.1 at.2 end (slice_index_or nodes c.args.at c.index.result.now).node
-              (at.4.is_open none c.index.result.now).is_node,
-        );
+        arith,
+        size none,
+        count-small shop at.0 at.1 at.2 end (slice_index_or nodes c.args.at c.index.result.now).node
+            (at.4.is_open none c.index.result.now).is_node,
+      );
       sum = λ number first last none tree is. omega (
-          arith,
-          ap (sum_by (fewest_at shop number end first last)) (below-is g here number first last none is),
-          weight-is shop number end first last,
-        );
+        arith,
+        ap (sum_by (fewest_at shop number end first last)) (below-is g here number first last none is),
+        weight-is shop number end first last,
+      );
       kept = λ number first last none tree is keeps.
           ([], below-is g here number first last none is, omega arith, tt);
     }
