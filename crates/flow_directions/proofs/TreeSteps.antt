@@ -1,8 +1,8 @@
 -- The nodes and packs of a tree, once one of them is written.
-use Rattle.std.proofs.Common.{◌≡◌, ℕ, zero, suc, ◌+◌, ◌-◌, ◌*◌, ◌<◌, ◌≤◌, List, [], ◌∷◌, ◌++◌, length, slice_index_or, set, take, drop}
-use Rattle.std.proofs.Common.{Option, Some, None, cond, false}
+use Rattle.std.proofs.Common.{◌≡◌, ℕ, zero, suc, ◌+◌, ◌-◌, ◌*◌, ◌<◌, ◌≤◌, List, [], ◌∷◌, ◌++◌, length}
+use Rattle.std.proofs.Common.{slice_index_or, set, take, drop, Option, Some, None, cond, false}
 use Rattle.std.proofs.Common.{slice_index, Bool, true, not, nat_lt, refl, ap, sym, ◌∙◌, subst, inl, inr, arith}
-use Rattle.std.specs.List.{AllByRecursion, filter}
+use Rattle.std.specs.List.{AllByRecursion}
 use Rattle.std.proofs.lemmas.Bool.{cases_eq, cases_lt}
 use Rattle.std.proofs.lemmas.Bool.Decides.{Decides-ltb}
 use Rattle.std.proofs.lemmas.Option.{none-some}
@@ -26,7 +26,7 @@ use Rattle.flow_nodes.specs.declared.node.Node.{Node}
 use Rattle.flow_nodes.specs.declared.pack.Pack.{Pack}
 use Rattle.flow_nodes.proofs.MarkedNames.{kept, kept-yes, kept-no}
 use Rattle.flow_nodes.proofs.ChosenNames.{chosen-kept}
-use Rattle.flow_directions.specs.Search.{count_below, fewest_below}
+use Rattle.flow_directions.specs.Search.{count_below}
 use Rattle.flow_nodes.specs.declared.open.OpenNode.{OpenNode}
 use Rattle.flow_nodes.specs.Open.{AreChildren, HasRoomToOpen, IsOpenNode, children_at}
 use Rattle.flow_directions.specs.internal.Tree.{AreKept, HavePacks, IsOpenAt}

@@ -256,8 +256,8 @@ impl<V: Lanes> Tree<V> {
         })
     }
 
-    /// Finds the end at which the node at a place of the list is opened, where its jobs left stand in the pack of so many
-    /// groups. Writes the list only from `top` on.
+    /// Finds the end at which the node at a place of the list is opened, where its jobs left stand in the pack of so
+    /// many groups. Writes the list only from `top` on.
     pub(crate) fn choose(
         &mut self,
         instance: &Instance,

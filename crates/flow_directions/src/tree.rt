@@ -142,7 +142,8 @@ impl<V: Lanes> Tree<V> {
     #[inline(never)]
     pub(crate) fn grow(&mut self, instance: &Instance, count: usize) -> Result<(), AllocError>
         requires few { length self.old.packs.items ≤ 50 }
-        ensures tree { (number : ℕ) → IsTree V.CAP instance.now number self.old → IsTree V.CAP instance.now number self.new }
+        ensures tree { (number : ℕ) → IsTree V.CAP instance.now number self.old →
+            IsTree V.CAP instance.now number self.new }
         ensures packs { self.new.packs ≡ self.old.packs }
         ensures begin { take (length self.old.nodes.items) self.new.nodes.items ≡ self.old.nodes.items }
         ensures more { length self.old.nodes.items ≤ length self.new.nodes.items }
@@ -202,7 +203,8 @@ impl<V: Lanes> Tree<V> {
         );
     }
 
-    /// Packs the jobs left at the node at a place anew, in so many groups, which they fill, and opens it at the place `to`.
+    /// Packs the jobs left at the node at a place anew, in so many groups, which they fill, and opens it at the place
+    /// `to`.
     #[inline(never)]
     pub(crate) fn repack(&mut self, instance: &Instance, groups: usize, at: usize, to: usize)
         requires wide { V.WIDTH ≡ 16 }

@@ -2,7 +2,7 @@ use Rattle.std.proofs.Common.{◌≡◌, ℕ, ◌+◌, ◌-◌, ◌<◌, ◌≤�
 use Rattle.std.proofs.Common.{subst, arith}
 use Rattle.flow_shop.proofs.Lists.{some-of}
 use Rattle.flow_nodes.specs.Packs.{left_below}
-use Rattle.flow_directions.specs.Search.{other, other_end, plain_end}
+use Rattle.flow_directions.specs.Search.{other}
 use Rattle.flow_nodes.specs.Open.{children_at}
 use Rattle.flow_directions.specs.internal.Tree.{AreKept, IsOpenAt}
 use Rattle.flow_directions.proofs.EndChosen.{other-lighter, plain-kept}

@@ -1,4 +1,4 @@
-use Rattle.std.proofs.Common.{◌≡◌, ◌++◌, ◌+◌, ◌-◌, ◌*◌, ◌<◌, ◌≤◌, length, set, take, drop, slice_index, slice_index_or}
+use Rattle.std.proofs.Common.{◌≡◌, ◌++◌, ◌-◌, ◌<◌, ◌≤◌, length, set, take, drop, slice_index, slice_index_or}
 use Rattle.std.proofs.Common.{ap, sym, ◌∙◌, subst, arith}
 use Rattle.std.proofs.lemmas.List.{get_or-set_same, get_or_default, length-set, take-set}
 use Rattle.flow_shop.specs.Directions.{first_with, last_with}
@@ -48,8 +48,8 @@ make_child-requires-clause-at g c empty =
         ap (λ p. length p.names.items) c.index.ensures,
         names-count shop packs (c.args.groups - 1) pack at.3.packs low,
       ),
-      ap (λ ns. mark (children_at c.args.put.end (slice_index_or ns c.args.at empty)).below.words c.args.put.place) value
-          ∙ c.requires.marked empty,
+      ap (λ ns. mark (children_at c.args.put.end (slice_index_or ns c.args.at empty)).below.words c.args.put.place)
+          value ∙ c.requires.marked empty,
       room-fewer shop (length pack.groups.items) (length packs) (slice_index_or slice c.args.at empty) fewer
           (subst (λ ns. HasRoomToOpen shop (length packs) (slice_index_or ns c.args.at empty)) (sym value)
           (at.3.nodes c.args.at empty parent)),

@@ -1,4 +1,4 @@
-use Rattle.std.proofs.Common.{◌≡◌, ◌≤◌, ◌<◌, length, ap, ◌∙◌, arith}
+use Rattle.std.proofs.Common.{length, ap, ◌∙◌, arith}
 use Rattle.flow_directions.proofs.tree.Tree.new.Goals as goal
 
 pub returns-clause-tree : goal.returns-clause-tree

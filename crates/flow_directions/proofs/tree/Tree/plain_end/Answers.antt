@@ -1,10 +1,10 @@
-use Rattle.std.proofs.Common.{◌≡◌, ℕ, ◌+◌, ◌-◌, ◌<◌, ◌≤◌, List, length, cond, nat_lt, nat_le, slice_index_or, ap, sym, ◌∙◌}
+use Rattle.std.proofs.Common.{◌≡◌, ℕ, List, nat_lt, nat_le, ap, sym, ◌∙◌}
 use Rattle.std.proofs.Common.{subst, arith}
 use Rattle.flow_shop.specs.declared.end.End.TheVariants.{Front, Back}
 use Rattle.flow_shop.proofs.Lists.{some-of}
 use Rattle.flow_nodes.specs.Packs.{IsPack}
 use Rattle.flow_nodes.specs.PlainEnd.{plain_end_by}
-use Rattle.flow_directions.specs.Search.{bound_sum, count_below, plain_end}
+use Rattle.flow_directions.specs.Search.{bound_sum, count_below}
 use Rattle.flow_nodes.specs.Open.{IsOpenNode}
 use Rattle.flow_directions.specs.internal.Tree.{IsOpenAt}
 use Rattle.flow_directions.proofs.TreeSteps.{open-read}

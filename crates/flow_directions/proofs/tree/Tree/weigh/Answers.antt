@@ -1,5 +1,6 @@
-use Rattle.std.proofs.Common.{◌≡◌, ℕ, suc, ◌+◌, ◌-◌, ◌*◌, ◌<◌, ◌≤◌, true, false, List, [], ◌∷◌, ◌++◌, length, length-append}
-use Rattle.std.proofs.Common.{slice_index, slice_index_or, sum_by, append_assoc, take, refl, ap, sym, ◌∙◌, subst, inl, inr, arith}
+use Rattle.std.proofs.Common.{◌≡◌, ℕ, ◌+◌, ◌-◌, ◌*◌, ◌<◌, ◌≤◌, List, [], ◌∷◌, ◌++◌, length, length-append}
+use Rattle.std.proofs.Common.{slice_index, slice_index_or, sum_by, append_assoc, take, refl, ap}
+use Rattle.std.proofs.Common.{sym, ◌∙◌, subst, inl, inr, arith}
 use Rattle.std.proofs.lemmas.Bool.{cases_Bool, true≢false}
 use Rattle.std.proofs.lemmas.List.{append-nil, get_or_default}
 use Rattle.flow_shop.specs.Directions.{first_with, last_with}
@@ -11,8 +12,8 @@ use Rattle.flow_nodes.specs.declared.pack.Pack.{Pack}
 use Rattle.flow_directions.specs.Search.{weight}
 use Rattle.flow_nodes.specs.Open.{IsOpenNode, children_at}
 use Rattle.flow_directions.specs.internal.Tree.{AreKept, IsOpenAt, IsTree}
-use Rattle.flow_directions.proofs.TreeSteps.{children-kept, children-more, children-of, count-small, fewer-kept, names-count}
-use Rattle.flow_directions.proofs.TreeSteps.{open-kept, place-kept}
+use Rattle.flow_directions.proofs.TreeSteps.{children-kept, children-more, children-of, count-small, fewer-kept}
+use Rattle.flow_directions.proofs.TreeSteps.{names-count, open-kept, place-kept}
 use Rattle.flow_directions.proofs.WeightSteps.{fewest_at, weight-is, weight-more}
 use Rattle.flow_directions.proofs.tree.Tree.weigh.Given.{Over}
 use Rattle.flow_directions.proofs.tree.Tree.weigh.Goals as goal
@@ -36,8 +37,8 @@ below-is g c number first last none is =
     let open_is = is.is_open none node in
     ap (λ children. jobs_at pack children.below)
     (c.at.ensures ∙ ap (children_at c.args.weighing.end) c.index.ensures)
-    ∙ (children-of g.V.Lanes.list g.V.Lanes.CAP g.V.Lanes.WIDTH c.args.instance.now number c.args.weighing.end first last
-    pack (slice_index_or c.args.self.now.nodes.items c.args.at node) open_is).below
+    ∙ (children-of g.V.Lanes.list g.V.Lanes.CAP g.V.Lanes.WIDTH c.args.instance.now number c.args.weighing.end first
+    last pack (slice_index_or c.args.self.now.nodes.items c.args.at node) open_is).below
 
 pub children-init : goal.children-init
 children-init g c =
@@ -307,15 +308,15 @@ children-preserved-then-weighing g c =
             append_assoc before.0 (job ∷ []) (jobs_at pack c.pop_from.new.self)
                 ∙ ap (λ l. before.0 ++ l) (sym (first-job g got none)) ∙ before.1,
             omega (arith, before.2, length-append before.0 (job ∷ [])),
-            children-more g.V.Lanes.list g.V.Lanes.CAP g.V.Lanes.WIDTH shop number end first last c.args.groups before.0 job
-                c.args.weighing.to c.make.new.self.packs.items c.make.new.self.nodes.items
+            children-more g.V.Lanes.list g.V.Lanes.CAP g.V.Lanes.WIDTH shop number end first last c.args.groups before.0
+                job                 c.args.weighing.to c.make.new.self.packs.items c.make.new.self.nodes.items
                 (children-kept g.V.Lanes.list g.V.Lanes.CAP g.V.Lanes.WIDTH shop number end first last c.args.groups
                 before.0 c.args.weighing.to c.children.to c.children.self.packs.items c.make.new.self.packs.items
                 c.children.self.nodes.items c.make.new.self.nodes.items (ap (λ v. v.items) c.make.ensures.packs)
                 c.make.ensures.above (omega (arith, before.2)) before.3)
-                (subst (λ p. IsOpenAt g.V.Lanes.list g.V.Lanes.CAP g.V.Lanes.WIDTH shop number (first_with end first job)
-                (last_with end last job) c.args.groups p c.make.new.self.packs.items c.make.new.self.nodes.items) before.2
-                (child-is g made number first last none tree is)),
+                (subst (λ p. IsOpenAt g.V.Lanes.list g.V.Lanes.CAP g.V.Lanes.WIDTH shop number
+                (first_with end first job) (last_with end last job) c.args.groups p c.make.new.self.packs.items
+                c.make.new.self.nodes.items) before.2 (child-is g made number first last none tree is)),
           );
     }
 
@@ -373,5 +374,5 @@ returns-clause-kept g c number first last tree is keeps less =
     let done : all.0 ≡ left_below c.args.instance.now number c.args.weighing.end first last =
     sym (append-nil all.0)
     ∙ ap (λ l. all.0 ++ l) (sym (none-left g (goal.at.returns-clause-kept g c).In_default none)) ∙ all.1 in
-    subst (λ l. AreKept g.V.Lanes.list g.V.Lanes.CAP g.V.Lanes.WIDTH c.args.instance.now number c.args.weighing.end first
-    last c.args.groups l c.args.weighing.to c.children.self.packs.items c.children.self.nodes.items) done all.3
+    subst (λ l. AreKept g.V.Lanes.list g.V.Lanes.CAP g.V.Lanes.WIDTH c.args.instance.now number c.args.weighing.end
+    first last c.args.groups l c.args.weighing.to c.children.self.packs.items c.children.self.nodes.items) done all.3

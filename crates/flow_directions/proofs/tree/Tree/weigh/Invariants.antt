@@ -1,4 +1,5 @@
-use Rattle.std.proofs.Common.{◌≡◌, ℕ, ◌+◌, ◌-◌, ◌*◌, ◌≤◌, ◌<◌, true, false, List, ◌++◌, sum_by, length, take, slice_index_or}
+use Rattle.std.proofs.Common.{◌≡◌, ℕ, ◌+◌, ◌-◌, ◌*◌, ◌≤◌, ◌<◌, true, false, List, ◌++◌, sum_by, length}
+use Rattle.std.proofs.Common.{take, slice_index_or}
 use Rattle.flow_nodes.specs.Marks.{mark}
 use Rattle.flow_nodes.specs.Packs.{jobs_at, left_below}
 use Rattle.flow_nodes.specs.declared.pack.Pack.{Pack}
