@@ -309,7 +309,7 @@ children-preserved-then-weighing g c =
                 ∙ ap (λ l. before.0 ++ l) (sym (first-job g got none)) ∙ before.1,
             omega (arith, before.2, length-append before.0 (job ∷ [])),
             children-more g.V.Lanes.list g.V.Lanes.CAP g.V.Lanes.WIDTH shop number end first last c.args.groups before.0
-                job                 c.args.weighing.to c.make.new.self.packs.items c.make.new.self.nodes.items
+                job c.args.weighing.to c.make.new.self.packs.items c.make.new.self.nodes.items
                 (children-kept g.V.Lanes.list g.V.Lanes.CAP g.V.Lanes.WIDTH shop number end first last c.args.groups
                 before.0 c.args.weighing.to c.children.to c.children.self.packs.items c.make.new.self.packs.items
                 c.children.self.nodes.items c.make.new.self.nodes.items (ap (λ v. v.items) c.make.ensures.packs)
