@@ -4,8 +4,6 @@ pub mod SearchProves
 pub mod SearchReaches
 pub mod SearchByChildren
 pub mod WalkSteps
-pub mod ChildSteps
-pub mod PackedSteps
 pub mod LeftSteps
 pub mod JobsMarked
 pub mod BoundSums

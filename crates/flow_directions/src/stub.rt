@@ -64,7 +64,7 @@ impl<V: Lanes> OpenNode<V> {
     /// Memory for a node whose jobs left stand in so many groups or fewer.
     pub fn new(alloc: Global, instance: &Instance, groups: usize) -> Result<OpenNode<V>, AllocError>
         requires { groups ≤ 50 }
-        ensures { IfOk result (λ open. HasRoomToOpen instance.now groups open) }
+        ensures { IfOk result (λ node. HasRoomToOpen instance.now groups node) }
     {
         Err(AllocError)
     }
@@ -91,23 +91,23 @@ impl<V: Lanes> Opener<V> {
     }
 
     /// Opens a node at both ends. Its jobs left stand at marked places of a pack.
-    pub fn open(&mut self, pack: &Pack<V>, open: &mut OpenNode<V>)
+    pub fn open(&mut self, pack: &Pack<V>, node: &mut OpenNode<V>)
         requires wide { V.WIDTH ≡ 16 }
         requires limit { self.old.limit ≤ V.CAP }
         requires at { (shop : Shop) × (number : ℕ) × (first : List ℕ) × (last : List ℕ)
-            × IsNode shop first last open.old.node × IsPack V.list V.CAP V.WIDTH shop pack.now
+            × IsNode shop first last node.old.node × IsPack V.list V.CAP V.WIDTH shop pack.now
             × HasRoomFor shop self.old × (self.old.limit ≡ limit_of number) × (end_bound shop first last < number)
-            × HasLeft shop first last pack.now.names.items open.old.left
-            × HasRoomToOpen shop (length pack.now.groups.items) open.old }
+            × HasLeft shop first last pack.now.names.items node.old.left
+            × HasRoomToOpen shop (length pack.now.groups.items) node.old }
         ensures limit { self.new.limit ≡ self.old.limit }
         ensures opener { (shop : Shop) → HasRoomFor shop self.old → HasRoomFor shop self.new }
-        ensures room { (shop : Shop) (groups : ℕ) → HasRoomToOpen shop groups open.old →
-            HasRoomToOpen shop groups open.new }
-        ensures open { (shop : Shop) (number : ℕ) (first last : List ℕ) → IsNode shop first last open.old.node →
+        ensures room { (shop : Shop) (groups : ℕ) → HasRoomToOpen shop groups node.old →
+            HasRoomToOpen shop groups node.new }
+        ensures open { (shop : Shop) (number : ℕ) (first last : List ℕ) → IsNode shop first last node.old.node →
             IsPack V.list V.CAP V.WIDTH shop pack.now → HasRoomFor shop self.old → self.old.limit ≡ limit_of number →
-            end_bound shop first last < number → HasLeft shop first last pack.now.names.items open.old.left →
-            HasRoomToOpen shop (length pack.now.groups.items) open.old →
-            IsOpenNode V.list V.CAP V.WIDTH shop number first last pack.now open.new }
+            end_bound shop first last < number → HasLeft shop first last pack.now.names.items node.old.left →
+            HasRoomToOpen shop (length pack.now.groups.items) node.old →
+            IsOpenNode V.list V.CAP V.WIDTH shop number first last pack.now node.new }
     {
     }
 

@@ -46,18 +46,18 @@ pub record AreChildren {V : Type 0} (list : V → List ℕ) (cap width : ℕ) (s
 
 -- what is kept of its children at an end
 abbrev pub children_at : {V : Type 0} → End → OpenNode V → Children V
-children_at Front open = open.front
-children_at Back open = open.back
+children_at Front node = node.front
+children_at Back node = node.back
 
 -- memory for the starts of so many groups
-pub record HasRoomToOpen {V : Type 0} (shop : Shop) (groups : ℕ) (open : OpenNode V) : Type 0 where
-  pub front_count : groups ≤ length open.front.starts.items
-  pub back_count : groups ≤ length open.back.starts.items
+pub record HasRoomToOpen {V : Type 0} (shop : Shop) (groups : ℕ) (node : OpenNode V) : Type 0 where
+  pub front_count : groups ≤ length node.front.starts.items
+  pub back_count : groups ≤ length node.back.starts.items
 
 -- a node that is opened at both ends, whose jobs left stand in a pack
 pub record IsOpenNode {V : Type 0} (list : V → List ℕ) (cap width : ℕ) (shop : Shop) (number : ℕ)
-    (first last : List ℕ) (pack : Pack V) (open : OpenNode V) : Type 0 where
-  pub is_node : IsNode shop first last open.node
-  pub left : HasLeft shop first last pack.names.items open.left
-  pub front : AreChildren list cap width shop number Front first last pack.names.items open.left open.front
-  pub back : AreChildren list cap width shop number Back first last pack.names.items open.left open.back
+    (first last : List ℕ) (pack : Pack V) (node : OpenNode V) : Type 0 where
+  pub is_node : IsNode shop first last node.node
+  pub left : HasLeft shop first last pack.names.items node.left
+  pub front : AreChildren list cap width shop number Front first last pack.names.items node.left node.front
+  pub back : AreChildren list cap width shop number Back first last pack.names.items node.left node.back
