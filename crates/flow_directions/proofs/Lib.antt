@@ -12,3 +12,8 @@ pub mod EndTaken
 pub mod WeightSteps
 pub mod StartLists
 pub mod FoundSteps
+pub mod TreeSteps
+pub mod PackNames
+pub mod LevelSteps
+pub mod MetSteps
+pub mod LevelMoves
