@@ -7,17 +7,22 @@ use Rattle.flow_shop.specs.Shop.{Shop}
 use Rattle.flow_shop.specs.Sequences.{jobs_left, AreDistinct}
 use Rattle.flow_shop.specs.Directions.{first_with, last_with}
 use Rattle.flow_shop.specs.declared.end.End.{End}
+use Rattle.flow_shop.specs.declared.end.End.TheVariants.{Front, Back}
+use Rattle.flow_shop.proofs.Lists.{some-of}
 use Rattle.flow_nodes.specs.Groups.{group_count}
 use Rattle.flow_nodes.specs.Marks.{mark, chosen}
 use Rattle.flow_nodes.specs.declared.marks.Marks.{Marks}
 use Rattle.flow_nodes.specs.declared.pack.Pack.{Pack}
-use Rattle.flow_directions.specs.internal.Open.{children_at}
+use Rattle.flow_nodes.specs.Packs.{left_below}
+use Rattle.flow_directions.specs.Search.{end_taken}
+use Rattle.flow_directions.specs.internal.Open.{IsOpenNode, children_at}
 use Rattle.flow_directions.specs.internal.Tree.{AreKept, IsOpenAt}
-use Rattle.flow_directions.specs.internal.Levels.{HasChildren, IsLevel, IsNext, IsOpen, jobs_of, names_at, names_of}
+use Rattle.flow_directions.specs.internal.Levels.{HasChildren, IsBegun, IsLevel, IsNext, IsOpen, jobs_of, names_of}
 use Rattle.flow_directions.specs.declared.stub.OpenNode.{OpenNode}
 use Rattle.flow_directions.specs.declared.level.Level.{Level}
-use Rattle.flow_directions.proofs.PackNames.{names-same}
+use Rattle.flow_directions.proofs.PackNames.{names-is, names-same}
 use Rattle.flow_directions.proofs.TreeSteps.{open-moved, place-kept}
+use Rattle.flow_directions.proofs.WalkSteps.{below-each, below-distinct}
 
 -- a level, before and after the place of its next child is taken
 pub record IsTurn (names : List ℕ) (place : ℕ) (old new : Level) : Type 0 where
@@ -167,4 +172,61 @@ module _ {V : Type 0} (list : V → List ℕ) (cap width : ℕ) (shop : Shop) (n
       distinct = is.distinct.1;
       behind = λ from k. absurd (none-some from (sym none ∙ k));
       kept = λ from k. absurd (none-some from (sym none ∙ k));
+    }
+
+-- the children of an open node at an end
+children-of : {V : Type 0} (list : V → List ℕ) (cap width : ℕ) (shop : Shop) (number : ℕ) (first last : List ℕ)
+    (pack : Pack V) (node : OpenNode V) (end : End) →
+    IsOpenNode list cap width shop number first last pack node →
+    chosen (children_at end node).below.words pack.names.items ≡ left_below shop number end first last
+children-of list cap width shop number first last pack node Front is = is.front.below
+children-of list cap width shop number first last pack node Back is = is.back.below
+
+-- a level of which no child is searched yet
+pub level-begun : {V : Type 0} (list : V → List ℕ) (cap width : ℕ) (shop : Shop) (number : ℕ) (packs : List (Pack V))
+    (nodes : List (OpenNode V)) (left : ℕ) (first last : List ℕ) (at top : ℕ) (end : End) (node : OpenNode V)
+    (kept : Option ℕ) (job : ℕ) →
+    IsOpenAt list cap width shop number first last (group_count left) at packs nodes →
+    group_count left - 1 < length packs → at < top →
+    ((empty : OpenNode V) → slice_index_or nodes at empty ≡ node) →
+    length (jobs_left shop.jobs (first ++ last)) ≡ left → end ≡ end_taken shop number first last →
+    ((from : ℕ) → kept ≡ Some from →
+    (at < from) × (from + length (left_below shop number end first last) ≤ top)) →
+    ((from : ℕ) → kept ≡ Some from →
+    AreKept list cap width shop number end first last (group_count left) (left_below shop number end first last) from
+    packs nodes) →
+    IsBegun list cap width shop number packs nodes left first last (record {
+      at = at;
+      top = top;
+      end = end;
+      rest = (children_at end node).below;
+      kept = kept;
+      job = job;
+    })
+level-begun list cap width shop number packs nodes left first last at top end node kept job is within low here count
+    taken behind are =
+    let none = some-of packs (omega (arith, within)) in
+    let pack = slice_index_or packs (group_count left - 1) none in
+    let rest : chosen (children_at end node).below.words (names_of packs left) ≡ left_below shop number end first last =
+    ap (chosen (children_at end node).below.words) (names-is packs (group_count left - 1) none within)
+    ∙ children-of list cap width shop number first last pack node end
+    (subst (IsOpenNode list cap width shop number first last pack) (here node) (is.is_open none node)) in
+    record {
+      is_level = record {
+        count = count;
+        is_open = is;
+        low = low;
+        within = λ empty place marked.
+            ap (λ n. mark (children_at end n).below.words place) (here empty) ∙ marked;
+        each = subst (AllByRecursion (IsOpen shop number end first last)) (sym rest)
+            (below-each shop number first last end);
+        distinct = subst AreDistinct (sym rest) (below-distinct shop number first last end);
+        behind = λ from k.
+            let before = behind from k in (before.0, omega (arith, before.1, ap length rest));
+        kept = λ from k.
+            subst (λ jobs. AreKept list cap width shop number end first last (group_count left) jobs from packs nodes)
+            (sym rest) (are from k);
+      };
+      end = taken;
+      rest = rest;
     }

@@ -12,7 +12,6 @@ pub mod EndTaken
 pub mod WeightSteps
 pub mod StartLists
 pub mod FoundSteps
-pub mod TreeSteps
 pub mod PackNames
 pub mod LevelSteps
 pub mod MetSteps
