@@ -1,14 +1,22 @@
 -- Sums of the bounds of children, group by group and lane by lane.
-use Rattle.std.proofs.Common.{◌≡◌, ◌≢◌, ℕ, suc, ◌+◌, ◌*◌, ◌<◌, cond, nat_eq, List, [], ◌∷◌, length}
-use Rattle.std.proofs.Common.{slice_index, take, drop, refl, ap, ◌∙◌, arith}
+use Rattle.std.proofs.Common.{◌≡◌, ◌≢◌, ℕ, suc, ◌+◌, ◌*◌, ◌/◌, ◌%◌, ◌<◌, cond, false, nat_eq, List, [], ◌∷◌, ◌++◌, length}
+use Rattle.std.proofs.Common.{slice_index, slice_index_or, take, drop, refl, ap, sym, ◌∙◌, subst, arith}
+use Rattle.std.specs.Global.{Vec}
 use Rattle.std.specs.Int.{bit_at}
 use Rattle.std.specs.List.{sum_by}
 use Rattle.std.proofs.lemmas.Bool.{cond-true, cond-false, eq-eqb, ne_eqb}
 use Rattle.std.proofs.lemmas.List.{drop_more}
 use Rattle.std.proofs.lemmas.Nat.Bits.{bit_at-zero}
 use Rattle.std.proofs.lemmas.List.Sums.{sum_by-cons, sum_by-append}
-use Rattle.flow_nodes.specs.Marks.{picked, chosen}
+use Rattle.flow_shop.specs.Shop.{Shop}
+use Rattle.flow_shop.specs.Sequences.{has}
+use Rattle.flow_nodes.specs.Groups.{IsGroup}
+use Rattle.flow_nodes.specs.Marks.{mark, picked, chosen}
+use Rattle.flow_nodes.specs.Packs.{HasLeft, IsPack}
+use Rattle.flow_nodes.specs.declared.marks.Marks.{Marks}
+use Rattle.flow_nodes.specs.declared.pack.Pack.{Pack}
 use Rattle.flow_nodes.proofs.ChosenNames.{chosen-group, chosen-nothing}
+use Rattle.flow_nodes.proofs.JobsMarked.{group-name, marked-left}
 
 picked-next : (word lane : ℕ) (names : List ℕ) → lane < length names →
     picked word lane (drop lane names)
@@ -72,3 +80,34 @@ group-sum f words names group low =
     (chosen (drop (suc group) words) (drop (suc group * 16) names))
     ∙ ap (λ g. sum_by f (picked (slice_index words group) 0 (take 16 (drop (group * 16) names)))
     + sum_by f (chosen (drop g words) (drop (g * 16) names))) e
+
+-- the mark of a lane of a word
+lane-mark : (words : List ℕ) (group lane : ℕ) → lane < 16 →
+    mark words (group * 16 + lane) ≡ bit_at (slice_index words group) lane
+lane-mark words group lane low =
+    let word : (group * 16 + lane) / 16 ≡ group = omega (arith, low) in
+    let there : (group * 16 + lane) % 16 ≡ lane = omega (arith, low) in
+    ap (λ w. bit_at (slice_index words w) ((group * 16 + lane) % 16)) word
+    ∙ ap (bit_at (slice_index words group)) there
+
+-- a pack has the group at a place, and its jobs at marked lanes are left
+pub group-at : {V : Type 0} (list : V → List ℕ) (cap width : ℕ) (shop : Shop) (first last : List ℕ) (pack : Pack V)
+    (left : Marks) (group : ℕ) (names : List ℕ) (vector : Vec V) (vectors : List V) →
+    IsPack list cap width shop pack → HasLeft shop first last pack.names.items left → group < length pack.groups.items →
+    names ≡ take 16 (drop (group * 16) pack.names.items) → vector ≡ slice_index_or pack.groups.items group vector →
+    vectors ≡ vector.items →
+    IsGroup list cap width shop names vectors
+    × ((lane : ℕ) → lane < 16 → bit_at (slice_index left.words group) lane ≡ 1 →
+    has (first ++ last) (slice_index names lane) ≡ false)
+group-at list cap width shop first last pack left group names vector vectors is has_left within names_are vector_is
+    vectors_are = (
+      subst (λ l. IsGroup list cap width shop l vectors) (sym names_are)
+          (subst (IsGroup list cap width shop (take 16 (drop (group * 16) pack.names.items)))
+          (sym (vectors_are ∙ ap (λ v. v.items) vector_is)) (is.each group vector within)),
+      λ lane low bit.
+          ap (λ l. has (first ++ last) (slice_index l lane)) names_are
+          ∙ ap (has (first ++ last)) (group-name pack.names.items group lane low)
+          ∙ marked-left shop.jobs (first ++ last) left.words pack.names.items has_left (group * 16 + lane)
+          (omega (arith, low, within, is.room.names))
+          (lane-mark left.words group lane low ∙ bit),
+    )

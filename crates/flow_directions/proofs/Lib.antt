@@ -16,3 +16,5 @@ pub mod PackNames
 pub mod LevelSteps
 pub mod MetSteps
 pub mod LevelMoves
+pub mod TreeSteps
+pub mod EndChosen

@@ -15,6 +15,7 @@ mod pack;
 mod prover;
 mod start;
 mod stub;
+mod sums;
 mod tree;
 mod walk;
 

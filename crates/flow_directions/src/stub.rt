@@ -63,7 +63,6 @@ pub struct Opener<V> {
 impl<V: Lanes> OpenNode<V> {
     /// Memory for a node whose jobs left stand in so many groups or fewer.
     pub fn new(alloc: Global, instance: &Instance, groups: usize) -> Result<OpenNode<V>, AllocError>
-        requires { groups ≤ 50 }
         ensures { IfOk result (λ node. HasRoomToOpen instance.now groups node) }
     {
         Err(AllocError)
@@ -103,15 +102,14 @@ impl<V: Lanes> Opener<V> {
         ensures opener { (shop : Shop) → HasRoomFor shop self.old → HasRoomFor shop self.new }
         ensures room { (shop : Shop) (groups : ℕ) → HasRoomToOpen shop groups node.old →
             HasRoomToOpen shop groups node.new }
-        ensures open { (shop : Shop) (number : ℕ) (first last : List ℕ) → IsNode shop first last node.old.node →
-            IsPack V.list V.CAP V.WIDTH shop pack.now → HasRoomFor shop self.old → self.old.limit ≡ limit_of number →
-            end_bound shop first last < number → HasLeft shop first last pack.now.names.items node.old.left →
-            HasRoomToOpen shop (length pack.now.groups.items) node.old →
+        ensures node { (shop : Shop) (number : ℕ) (first last : List ℕ) → self.old.limit ≡ limit_of number →
+            IsNode shop first last node.old.node → IsPack V.list V.CAP V.WIDTH shop pack.now →
+            HasLeft shop first last pack.now.names.items node.old.left →
             IsOpenNode V.list V.CAP V.WIDTH shop number first last pack.now node.new }
-    {
-    }
+    {}
 
     /// Makes the child of a node that puts a job at an end, opened at both ends.
+    #[inline(never)]
     pub fn open_child(
         &mut self,
         instance: &Instance,
@@ -124,10 +122,11 @@ impl<V: Lanes> Opener<V> {
         requires limit { self.old.limit ≤ V.CAP }
         requires at { (number : ℕ) × (first : List ℕ) × (last : List ℕ)
             × IsOpenNode V.list V.CAP V.WIDTH instance.now number first last pack.now parent.now
-            × IsPack V.list V.CAP V.WIDTH instance.now pack.now
-            × HasRoomFor instance.now self.old × (self.old.limit ≡ limit_of number)
-            × (end_bound instance.now first last < number) × (put.place < length pack.now.names.items)
+            × IsPack V.list V.CAP V.WIDTH instance.now pack.now × HasRoomFor instance.now self.old
+            × (self.old.limit ≡ limit_of number) × (end_bound instance.now first last < number)
+            × (put.place < length pack.now.names.items)
             × (mark (children_at put.end parent.now).below.words put.place ≡ 1)
+            × HasRoomToOpen instance.now (length pack.now.groups.items) parent.now
             × HasRoomToOpen instance.now (length pack.now.groups.items) child.old }
         ensures limit { self.new.limit ≡ self.old.limit }
         ensures opener { (shop : Shop) → HasRoomFor shop self.old → HasRoomFor shop self.new }
@@ -135,14 +134,11 @@ impl<V: Lanes> Opener<V> {
             HasRoomToOpen shop groups child.new }
         ensures child { (number : ℕ) (first last : List ℕ) →
             IsOpenNode V.list V.CAP V.WIDTH instance.now number first last pack.now parent.now →
-            IsPack V.list V.CAP V.WIDTH instance.now pack.now →
-            HasRoomFor instance.now self.old → self.old.limit ≡ limit_of number →
-            end_bound instance.now first last < number → put.place < length pack.now.names.items →
+            IsPack V.list V.CAP V.WIDTH instance.now pack.now → HasRoomFor instance.now self.old →
+            self.old.limit ≡ limit_of number →
             mark (children_at put.end parent.now).below.words put.place ≡ 1 →
-            HasRoomToOpen instance.now (length pack.now.groups.items) child.old →
             IsOpenNode V.list V.CAP V.WIDTH instance.now number
             (first_with put.end first (slice_index pack.now.names.items put.place))
             (last_with put.end last (slice_index pack.now.names.items put.place)) pack.now child.new }
-    {
-    }
+    {}
 }

@@ -1,13 +1,16 @@
 //! The open nodes of a search, in a list, and what they share.
 
 ghost use Rattle.std.specs.Prelude.{◌≡◌, ◌≢◌, ℕ, ◌+◌, ◌-◌, ◌*◌, ◌<◌, ◌≤◌, List, [], ◌++◌, length, take, slice_index};
-ghost use Rattle.std.specs.Prelude.{slice_index_or, IfOk, OnOk};
+ghost use Rattle.std.specs.Prelude.{set, slice_index_or, IfOk, OnOk};
+ghost use Rattle.flow_shop.specs.Shop.{Shop};
+ghost use Rattle.flow_shop.specs.Ends.{end_bound};
 ghost use Rattle.flow_shop.specs.Sequences.{jobs_left};
 ghost use Rattle.flow_shop.specs.Directions.{first_with, last_with};
 ghost use Rattle.flow_nodes.specs.Lanes.{limit_of};
 ghost use Rattle.flow_nodes.specs.Marks.{mark};
+ghost use Rattle.flow_nodes.specs.Packs.{HasRoom, IsPack, jobs_at};
 ghost use Rattle.flow_nodes.specs.declared.pack.Pack.{Pack};
-ghost use Rattle.flow_directions.specs.internal.Open.{children_at};
+ghost use Rattle.flow_directions.specs.internal.Open.{HasRoomFor, HasRoomToOpen, IsOpenNode, children_at};
 ghost use Rattle.flow_directions.specs.internal.Tree.{IsOpenAt, IsTree};
 ghost use Rattle.flow_directions.specs.declared.stub.OpenNode.{OpenNode};
 
@@ -29,9 +32,94 @@ pub(crate) struct Tree<V> {
     pub(crate) opener: Opener<V>,
 }
 
+/// A child to be made: of the node at a place of a list, at the place `to`.
+#[derive(Clone, Copy)]
+struct Making {
+    /// The place of the node.
+    at: usize,
+    /// Which job it puts, and at which end.
+    put: Put,
+    /// The place of the child.
+    to: usize,
+}
+
+/// Makes a child of a node of a list.
+#[inline(always)]
+fn make_child<V: Lanes>(
+    nodes: &mut [OpenNode<V>],
+    opener: &mut Opener<V>,
+    instance: &Instance,
+    pack: &Pack<V>,
+    making: Making,
+)
+    requires wide { V.WIDTH ≡ 16 }
+    requires limit { opener.old.limit ≤ V.CAP }
+    requires order { making.at < making.to }
+    requires room { making.to < length nodes.old }
+    requires at { (empty : OpenNode V) → (number : ℕ) × (first : List ℕ) × (last : List ℕ)
+        × IsOpenNode V.list V.CAP V.WIDTH instance.now number first last pack.now
+        (slice_index_or nodes.old making.at empty)
+        × IsPack V.list V.CAP V.WIDTH instance.now pack.now × HasRoomFor instance.now opener.old
+        × (opener.old.limit ≡ limit_of number) × (end_bound instance.now first last < number)
+        × (making.put.place < length pack.now.names.items)
+        × (mark (children_at making.put.end (slice_index_or nodes.old making.at empty)).below.words making.put.place
+        ≡ 1)
+        × HasRoomToOpen instance.now (length pack.now.groups.items) (slice_index_or nodes.old making.at empty)
+        × HasRoomToOpen instance.now (length pack.now.groups.items) (slice_index_or nodes.old making.to empty) }
+    ensures limit { opener.new.limit ≡ opener.old.limit }
+    ensures opener { (shop : Shop) → HasRoomFor shop opener.old → HasRoomFor shop opener.new }
+    ensures child { (child : OpenNode V) × (nodes.new ≡ set nodes.old making.to child)
+        × ((shop : Shop) (groups : ℕ) (empty : OpenNode V) →
+        HasRoomToOpen shop groups (slice_index_or nodes.old making.to empty) → HasRoomToOpen shop groups child)
+        × ((number : ℕ) (first last : List ℕ) (empty : OpenNode V) →
+        IsOpenNode V.list V.CAP V.WIDTH instance.now number first last pack.now
+        (slice_index_or nodes.old making.at empty) →
+        IsPack V.list V.CAP V.WIDTH instance.now pack.now → HasRoomFor instance.now opener.old →
+        opener.old.limit ≡ limit_of number →
+        mark (children_at making.put.end (slice_index_or nodes.old making.at empty)).below.words making.put.place ≡ 1 →
+        IsOpenNode V.list V.CAP V.WIDTH instance.now number
+        (first_with making.put.end first (slice_index pack.now.names.items making.put.place))
+        (last_with making.put.end last (slice_index pack.now.names.items making.put.place)) pack.now child) }
+{
+    let (above, deeper) = nodes.split_at_mut(making.to);
+    opener.open_child(
+        instance,
+        pack,
+        &above[making.at],
+        making.put,
+        &mut deeper[0],
+    );
+}
+
+/// Fills the pack of so many groups with the jobs at marked places of the pack that has one group more.
+#[inline(always)]
+fn refill<V: Lanes>(packs: &mut [Pack<V>], instance: &Instance, groups: usize, left: &Marks)
+    requires wide { V.WIDTH ≡ 16 }
+    requires some { 1 ≤ groups }
+    requires more { groups < length packs.old }
+    requires rooms { (none : Pack V) → HasRoom instance.now (slice_index_or packs.old (groups - 1) none) }
+    requires from { (none : Pack V) → HasRoom instance.now (slice_index_or packs.old groups none) }
+    requires fits { (none : Pack V) → length (jobs_at (slice_index_or packs.old groups none) left.now)
+        ≤ length (slice_index_or packs.old (groups - 1) none).names.items }
+    ensures pack { (pack : Pack V) × (packs.new ≡ set packs.old (groups - 1) pack)
+        × IsPack V.list V.CAP V.WIDTH instance.now pack
+        × ((none : Pack V) → length pack.groups.items
+        ≡ length (slice_index_or packs.old (groups - 1) none).groups.items)
+        × ((none : Pack V) → take (length (jobs_at (slice_index_or packs.old groups none) left.now)) pack.names.items
+        ≡ jobs_at (slice_index_or packs.old groups none) left.now) }
+{
+    let (fewer, more) = packs.split_at_mut(groups);
+    fewer[groups - 1].fill(instance, &more[0], left);
+}
+
 impl<V: Lanes> Tree<V> {
     /// A tree with no node yet, with packs of up to so many groups.
-    pub(crate) fn new(alloc: Global, instance: &Instance, groups: usize, limit: u32) -> Result<Tree<V>, AllocError>
+    pub(crate) fn new(
+        alloc: Global,
+        instance: &Instance,
+        groups: usize,
+        limit: u32,
+    ) -> Result<Tree<V>, AllocError>
         requires few { groups ≤ 50 }
         ensures tree { (number : ℕ) → limit ≡ limit_of number → limit ≤ V.CAP →
             IfOk result (λ tree. IsTree V.CAP instance.now number tree) }
@@ -70,7 +158,14 @@ impl<V: Lanes> Tree<V> {
 
     /// Makes the child of the node at a place that puts a job at an end, at the place `to` of the list.
     #[inline(always)]
-    pub(crate) fn make(&mut self, instance: &Instance, groups: usize, at: usize, put: Put, to: usize)
+    pub(crate) fn make(
+        &mut self,
+        instance: &Instance,
+        groups: usize,
+        at: usize,
+        put: Put,
+        to: usize,
+    )
         requires wide { V.WIDTH ≡ 16 }
         requires some { 1 ≤ groups }
         requires few { groups ≤ length self.old.packs.items }
@@ -99,9 +194,13 @@ impl<V: Lanes> Tree<V> {
             (slice_index (slice_index_or self.old.packs.items (groups - 1) none).names.items put.place))
             groups to self.new.packs.items self.new.nodes.items }
     {
-        let (above, deeper) = self.nodes.as_mut_slice().split_at_mut(to);
-        self.opener
-            .open_child(instance, &self.packs[groups - 1], &above[at], put, &mut deeper[0]);
+        make_child(
+            self.nodes.as_mut_slice(),
+            &mut self.opener,
+            instance,
+            &self.packs[groups - 1],
+            Making { at, put, to },
+        );
     }
 
     /// Packs the jobs left at the node at a place anew, in so many groups, which they fill, and opens it at the place `to`.
@@ -132,12 +231,16 @@ impl<V: Lanes> Tree<V> {
             IsOpenAt V.list V.CAP V.WIDTH instance.now number first last groups to self.new.packs.items
             self.new.nodes.items }
     {
-        let (fewer, more) = self.packs.as_mut_slice().split_at_mut(groups);
-        let (above, deeper) = self.nodes.as_mut_slice().split_at_mut(to);
-        let pack = &mut fewer[groups - 1];
-        pack.fill(instance, &more[0], &above[at].left);
-        deeper[0].node = above[at].node;
-        deeper[0].left = Marks::first((groups * LANES) as u16);
-        self.opener.open(pack, &mut deeper[0]);
+        refill(
+            self.packs.as_mut_slice(),
+            instance,
+            groups,
+            &self.nodes[at].left,
+        );
+        let node = self.nodes[at].node;
+        let packed = &mut self.nodes[to];
+        packed.node = node;
+        packed.left = Marks::first((groups * LANES) as u16);
+        self.opener.open(&self.packs[groups - 1], packed);
     }
 }

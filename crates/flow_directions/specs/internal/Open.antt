@@ -50,14 +50,20 @@ children_at Front node = node.front
 children_at Back node = node.back
 
 -- memory for the starts of so many groups
+pub record HasStartRoom {V : Type 0} (shop : Shop) (groups : ℕ) (starts : List (Vec V)) : Type 0 where
+  pub enough : groups ≤ length starts
+  pub machines : (group : ℕ) (none : Vec V) → group < length starts →
+      length (slice_index_or starts group none).items ≡ shop.machines
+
+-- memory for the starts of so many groups at both ends
 pub record HasRoomToOpen {V : Type 0} (shop : Shop) (groups : ℕ) (node : OpenNode V) : Type 0 where
-  pub front_count : groups ≤ length node.front.starts.items
-  pub back_count : groups ≤ length node.back.starts.items
+  pub at_front : HasStartRoom shop groups node.front.starts.items
+  pub at_back : HasStartRoom shop groups node.back.starts.items
 
 -- a node that is opened at both ends, whose jobs left stand in a pack
 pub record IsOpenNode {V : Type 0} (list : V → List ℕ) (cap width : ℕ) (shop : Shop) (number : ℕ)
     (first last : List ℕ) (pack : Pack V) (node : OpenNode V) : Type 0 where
   pub is_node : IsNode shop first last node.node
-  pub left : HasLeft shop first last pack.names.items node.left
-  pub front : AreChildren list cap width shop number Front first last pack.names.items node.left node.front
-  pub back : AreChildren list cap width shop number Back first last pack.names.items node.left node.back
+  pub has_left : HasLeft shop first last pack.names.items node.left
+  pub at_front : AreChildren list cap width shop number Front first last pack.names.items node.left node.front
+  pub at_back : AreChildren list cap width shop number Back first last pack.names.items node.left node.back
