@@ -2,12 +2,14 @@
 use Rattle.std.proofs.Common.{◌≡◌, ℕ, ◌+◌, ◌-◌, ◌*◌, ◌<◌, ◌≤◌, List, [], ◌∷◌, ◌++◌, length, slice_index}
 use Rattle.std.proofs.Common.{slice_index_or, take, Option, Some, None, ap, sym, ◌∙◌, subst, arith}
 use Rattle.std.specs.List.{AllByRecursion}
+use Rattle.std.specs.Prelude.{Result, Ok, Err, OnOk}
 use Rattle.std.proofs.lemmas.Option.{none-some}
 use Rattle.flow_shop.specs.Shop.{Shop}
 use Rattle.flow_shop.specs.Sequences.{jobs_left, AreDistinct}
 use Rattle.flow_shop.specs.Directions.{first_with, last_with}
 use Rattle.flow_shop.specs.declared.end.End.{End}
 use Rattle.flow_shop.specs.declared.end.End.TheVariants.{Front, Back}
+use Rattle.flow_shop.proofs.EndSteps.{count-child}
 use Rattle.flow_shop.proofs.Lists.{some-of}
 use Rattle.flow_nodes.specs.Groups.{group_count}
 use Rattle.flow_nodes.specs.Marks.{mark, chosen}
@@ -179,8 +181,8 @@ children-of : {V : Type 0} (list : V → List ℕ) (cap width : ℕ) (shop : Sho
     (pack : Pack V) (node : OpenNode V) (end : End) →
     IsOpenNode list cap width shop number first last pack node →
     chosen (children_at end node).below.words pack.names.items ≡ left_below shop number end first last
-children-of list cap width shop number first last pack node Front is = is.front.below
-children-of list cap width shop number first last pack node Back is = is.back.below
+children-of list cap width shop number first last pack node Front is = is.at_front.below
+children-of list cap width shop number first last pack node Back is = is.at_back.below
 
 -- a level of which no child is searched yet
 pub level-begun : {V : Type 0} (list : V → List ℕ) (cap width : ℕ) (shop : Shop) (number : ℕ) (packs : List (Pack V))
@@ -230,3 +232,21 @@ level-begun list cap width shop number packs nodes left first last at top end no
       end = taken;
       rest = rest;
     }
+
+-- how many jobs are left at the child that is searched next
+pub next-count : {V : Type 0} (list : V → List ℕ) (cap width : ℕ) (shop : Shop) (number : ℕ) (packs : List (Pack V))
+    (nodes : List (OpenNode V)) (left : ℕ) (first last : List ℕ) (place : ℕ) (level : Level) →
+    IsNext list cap width shop number packs nodes (left + 1) first last place level →
+    length (jobs_left shop.jobs (first_with level.end first level.job ++ last_with level.end last level.job)) ≡ left
+next-count list cap width shop number packs nodes left first last place level next =
+    let open_job = next.has_children.each.0 in
+    omega (
+      arith,
+      next.has_children.count,
+      count-child shop.jobs level.end first last level.job open_job.is_job.0 open_job.is_job.1 open_job.left,
+    )
+
+-- what holds in any case holds where something is returned
+pub on-ok : {T E : Type 0} (result : Result T E) (P : Type 0) → P → OnOk result P
+on-ok (Ok x) P is = is
+on-ok (Err e) P is = tt

@@ -18,3 +18,5 @@ pub mod MetSteps
 pub mod LevelMoves
 pub mod TreeSteps
 pub mod EndChosen
+pub mod WalkStands
+pub mod PartSteps

@@ -125,6 +125,7 @@ impl<V: Lanes> Tree<V> {
         ensures size { length self.new.nodes.items ≡ length self.old.nodes.items }
         ensures end { here.new.end ≡ here.old.end }
         ensures job { here.new.job ≡ here.old.job }
+        ensures rest { here.new.rest ≡ here.old.rest }
         ensures top { here.new.top ≡ here.old.top }
         ensures order { result.at < result.top }
         ensures behind { here.old.top ≤ result.top }
@@ -156,6 +157,49 @@ impl<V: Lanes> Tree<V> {
         }
     }
 
+    /// Packs the jobs left at the node at a spot anew, where they are whole groups, and opens it behind the spot then. They
+    /// are so many, and stand in the pack that the node above it has.
+    #[inline(always)]
+    fn settle(&mut self, instance: &Instance, spot: Spot, left: u16) -> Result<Spot, AllocError>
+        requires wide { V.WIDTH ≡ 16 }
+        requires some { 1 ≤ left }
+        requires few { group_count (left + 1) ≤ length self.old.packs.items }
+        requires order { spot.at < spot.top }
+        requires room { spot.top ≤ length self.old.nodes.items }
+        requires at { (number : ℕ) × (first : List ℕ) × (last : List ℕ)
+            × IsTree V.CAP instance.now number self.old
+            × IsOpenAt V.list V.CAP V.WIDTH instance.now number first last (group_count (left + 1)) spot.at
+            self.old.packs.items self.old.nodes.items
+            × (length (jobs_left instance.now.jobs (first ++ last)) ≡ left) }
+        ensures tree { (number : ℕ) → IsTree V.CAP instance.now number self.old →
+            OnOk result (IsTree V.CAP instance.now number self.new) }
+        ensures count { length self.new.packs.items ≡ length self.old.packs.items }
+        ensures others { (more : ℕ) (none : Pack V) → left < more →
+            slice_index_or self.new.packs.items (group_count more - 1) none
+            ≡ slice_index_or self.old.packs.items (group_count more - 1) none }
+        ensures above { take spot.top self.new.nodes.items ≡ take spot.top self.old.nodes.items }
+        ensures order { IfOk result (λ new. new.at < new.top) }
+        ensures behind { IfOk result (λ new. spot.top ≤ new.top) }
+        ensures room { IfOk result (λ new. new.top ≤ length self.new.nodes.items) }
+        ensures node { (number : ℕ) (first last : List ℕ) → IsTree V.CAP instance.now number self.old →
+            IsOpenAt V.list V.CAP V.WIDTH instance.now number first last (group_count (left + 1)) spot.at
+            self.old.packs.items self.old.nodes.items →
+            length (jobs_left instance.now.jobs (first ++ last)) ≡ left →
+            IfOk result (λ new. IsOpenAt V.list V.CAP V.WIDTH instance.now number first last (group_count left) new.at
+            self.new.packs.items self.new.nodes.items) }
+    {
+        let spare = left as usize % LANES;
+        if spare != 0 {
+            return Ok(spot);
+        }
+        self.grow(instance, spot.top + 1)?;
+        self.repack(instance, group_count(left), spot.at, spot.top);
+        Ok(Spot {
+            at: spot.top,
+            top: spot.top + 1,
+        })
+    }
+
     /// Goes to the child of a level that puts the job of a place. So many jobs are left at the child.
     #[inline(always)]
     pub(crate) fn go(
@@ -182,6 +226,7 @@ impl<V: Lanes> Tree<V> {
         ensures above { take here.old.top self.new.nodes.items ≡ take here.old.top self.old.nodes.items }
         ensures end { here.new.end ≡ here.old.end }
         ensures job { here.new.job ≡ here.old.job }
+        ensures rest { here.new.rest ≡ here.old.rest }
         ensures top { here.new.top ≡ here.old.top }
         ensures behind { IfOk result (λ level. here.old.top ≤ level.top) }
         ensures room { IfOk result (λ level. level.top < length self.new.nodes.items) }
@@ -197,16 +242,8 @@ impl<V: Lanes> Tree<V> {
             self.new.nodes.items left (first_with here.old.end first here.old.job)
             (last_with here.old.end last here.old.job) level) }
     {
-        let mut spot = self.child(instance, here, place, left);
-        let spare = left as usize % LANES;
-        if spare == 0 {
-            self.grow(instance, spot.top + 1)?;
-            self.repack(instance, group_count(left), spot.at, spot.top);
-            spot = Spot {
-                at: spot.top,
-                top: spot.top + 1,
-            };
-        }
+        let child = self.child(instance, here, place, left);
+        let spot = self.settle(instance, child, left)?;
         self.enter(instance, spot, left)
     }
 }

@@ -62,6 +62,13 @@ abbrev pub IsLevel : {V : Type 0} → (V → List ℕ) → ℕ → ℕ → Shop 
 IsLevel list cap width shop number packs nodes left first last level =
     HasChildren list cap width shop number packs nodes left first last (jobs_of (names_of packs) left level) level
 
+-- a level whose job makes the child that is searched
+pub record IsAbove {V : Type 0} (list : V → List ℕ) (cap width : ℕ) (shop : Shop) (number : ℕ)
+    (packs : List (Pack V)) (nodes : List (OpenNode V)) (left : ℕ) (first last : List ℕ) (level : Level) :
+    Type 0 where
+  pub is_level : IsLevel list cap width shop number packs nodes left first last level
+  pub opened : IsOpen shop number level.end first last level.job
+
 -- a level of which no child is searched yet: all those below the number at the end that is taken are still to be
 pub record IsBegun {V : Type 0} (list : V → List ℕ) (cap width : ℕ) (shop : Shop) (number : ℕ)
     (packs : List (Pack V)) (nodes : List (OpenNode V)) (left : ℕ) (first last : List ℕ) (level : Level) :
@@ -132,6 +139,6 @@ pub record IsAt {V : Type 0} (list : V → List ℕ) (cap width : ℕ) (shop : S
 -- level's node
 pub record StandsBelow {V : Type 0} (list : V → List ℕ) (cap width : ℕ) (shop : Shop) (number : ℕ)
     (first last : List ℕ) (left : ℕ) (lists : Lists) (tree : Tree V) (levels : List Level) : Type 0 where
-  pub are_levels : AreLevels (IsLevel list cap width shop number tree.packs.items tree.nodes.items) left first last
+  pub are_levels : AreLevels (IsAbove list cap width shop number tree.packs.items tree.nodes.items) left first last
       levels
   pub has_lists : HasLists shop.jobs (first_of first levels) (last_of last levels) lists
