@@ -1,13 +1,16 @@
 -- What a search found: at a node where nothing is opened, and what it shows.
-use Rattle.std.proofs.Common.{◌≡◌, ℕ, ◌<◌, ◌≤◌, List, [], ◌++◌, length, Some, ap, sym, ◌∙◌, subst, arith}
-use Rattle.std.specs.Prelude.{Result, Ok, Err, IfOk, IfErr, All, set, slice_index_or, take}
+use Rattle.std.proofs.Common.{◌≡◌, ℕ, ◌<◌, ◌≤◌, List, [], ◌∷◌, ◌++◌, length, length-append, Some, ap, sym, ◌∙◌, subst}
+use Rattle.std.proofs.Common.{arith}
+use Rattle.std.specs.Prelude.{Result, Ok, Err, IfOk, IfErr, All}
+use Rattle.std.specs.List.{flat_map}
 use Rattle.std.specs.Global.{Vec}
-use Rattle.std.proofs.lemmas.List.{get_or-set_same}
 use Rattle.flow_shop.specs.Shop.{Shop}
 use Rattle.flow_shop.specs.Paths.{span}
 use Rattle.flow_shop.specs.Sequences.{jobs_left, AreJobs}
 use Rattle.flow_shop.specs.Ends.{end_bound}
-use Rattle.flow_shop.specs.Directions.{ProvesFrom}
+use Rattle.flow_shop.specs.Directions.{ProvesFrom, sign}
+use Rattle.flow_shop.specs.declared.end.End.{End}
+use Rattle.flow_directions.specs.Search.{Continues, IsPart, Visit, child_visits, end_taken, opens, parts_visits, visits}
 use Rattle.flow_directions.specs.Search.{signs, first_reached, directions_of, first_below, IsAdvanced, IsFound, Shows}
 use Rattle.flow_directions.specs.declared.found.Found.{Found}
 use Rattle.flow_directions.specs.declared.found.Advanced.{Advanced}
@@ -15,18 +18,12 @@ use Rattle.flow_directions.specs.declared.found.Advanced.TheVariants as advanced
 use Rattle.flow_directions.specs.declared.found.Found.TheVariants.{Proved, Below, Over}
 use Rattle.flow_directions.specs.declared.found.ProveFault.{ProveFault}
 use Rattle.flow_directions.specs.declared.found.ProveFault.TheVariants.{Jobs, Memory}
-use Rattle.flow_nodes.specs.Marks.{chosen}
-use Rattle.flow_directions.specs.internal.Packs.{HasRoom, IsPack, IsMarkedNode}
 use Rattle.flow_directions.specs.internal.Reached.{IsSequenceAfter}
-use Rattle.flow_directions.specs.internal.Start.{IsStart}
-use Rattle.flow_directions.specs.internal.Walk.{Ends, IsAt}
-use Rattle.flow_directions.specs.declared.pack.Pack.{Pack}
-use Rattle.flow_directions.specs.declared.start.StartNode.{StartNode}
-use Rattle.flow_directions.specs.declared.walk.SearchStop.{SearchStop}
-use Rattle.flow_directions.specs.declared.walk.SearchStop.TheVariants.{Below as StopBelow, Over as StopOver}
-use Rattle.flow_directions.specs.declared.walk.SearchStop.TheVariants.{Memory as StopMemory}
-use Rattle.flow_directions.specs.declared.walk.Written.{Written}
-use Rattle.flow_nodes.specs.declared.marks.Marks.{Marks}
+use Rattle.flow_directions.specs.internal.Levels.{first_of, last_of, met_with}
+use Rattle.flow_directions.specs.declared.found.Part.{Part}
+use Rattle.flow_directions.specs.declared.level.Level.{Level}
+use Rattle.flow_directions.proofs.MetSteps.{met-opens}
+use Rattle.flow_directions.proofs.VisitSteps.{visits-open}
 use Rattle.flow_directions.proofs.VisitSteps.{visits-high, visits-whole}
 use Rattle.flow_directions.proofs.SearchProves.{directions_prove}
 use Rattle.flow_directions.proofs.SearchReaches.{reached_is_below}
@@ -91,63 +88,38 @@ no-jobs-fault (Err fault) is e =
     let apart : Memory ≡ Jobs = sym is ∙ same in
     absurd (cc)
 
--- the search of a start, once the first pack has the jobs left
-module _ {V : Type 0} (list : V → List ℕ) (cap width : ℕ) (shop : Shop) (number : ℕ) (start : StartNode)
-    (packs new : List (Pack V)) (old pack : Pack V) (words : Marks) (some : 1 ≤ length packs)
-    (fits : (none : Pack V) → start.left ≤ length (slice_index_or packs 0 none).names.items)
-    (rooms : All (λ pack. HasRoom shop pack) packs) (old_is : old ≡ slice_index_or packs 0 old)
-    (new_is : new ≡ set packs 0 pack) (is_pack : IsPack list cap width shop pack)
-    (count : length pack.groups.items ≡ length old.groups.items)
-    (begin : (names : List ℕ) → start.left ≤ length names → chosen words.words names ≡ take start.left names)
-    (jobs : (first last : List ℕ) → IsStart shop first last start →
-    take start.left pack.names.items ≡ jobs_left shop.jobs (first ++ last)) where
-  long-names : start.left ≤ length pack.names.items
-  long-names =
-      let room : HasRoom shop (slice_index_or packs 0 old) = rooms 0 old (omega (arith, some)) in
-      omega (arith, fits old, room.names, ap (λ p. length p.groups.items) old_is, count, is_pack.room.names)
-
-  first-pack : (none : Pack V) → slice_index_or new 0 none ≡ pack
-  first-pack none = ap (λ ps. slice_index_or ps 0 none) new_is
-      ∙ get_or-set_same packs 0 pack none (omega (arith, some))
-
-  pub start-at : (first last : List ℕ) → IsStart shop first last start → end_bound shop first last < number →
-      IsAt list cap width shop number first last start.left start.lists
-      (record { node = start.node; left = words }) new
-  start-at first last is low = record {
-    below = low;
-    is_marked = λ none.
-        subst (λ p. IsMarkedNode list cap width shop first last p (record { node = start.node; left = words }))
-        (sym (first-pack none)) (record {
-          is_node = is.is_node;
-          is_pack = is_pack;
-          left = begin pack.names.items long-names ∙ jobs first last is;
-        });
-    has_lists = is.has_lists;
-    count = sym is.left;
-  }
-
--- how the search of a start ends, where nothing was written before
-module _ (shop : Shop) (number budget : ℕ) (first last old : List ℕ) (new : Written) (none : old ≡ []) where
-  -- at a sequence below the number
-  pub ends-below : (stop : SearchStop) → stop ≡ StopBelow →
-      Ends shop number budget first last old new (Err stop) →
-      (first_below shop number first last ≡ Some new.lists.jobs.items)
-      × (new.directions.items ≡ directions_of shop number first last) × (length new.directions.items ≤ budget)
-  ends-below StopBelow is ends =
-      (ends.0, ends.1 ∙ ap (λ xs. xs ++ directions_of shop number first last) none, ends.2)
-  ends-below StopOver is ends = absurd (cc)
-  ends-below StopMemory is ends = absurd (cc)
-
-  -- or past the budget
-  pub ends-over : (stop : SearchStop) → stop ≡ StopOver → AreJobs shop.jobs (first ++ last) →
-      Ends shop number budget first last old new (Err stop) →
-      IsAdvanced shop number budget first last (advanced.Rest new.directions new.rest)
-  ends-over StopBelow is are ends = absurd (cc)
-  ends-over StopOver is are ends = (
-    subst (λ xs. budget < length (xs ++ directions_of shop number first last)) none ends.0,
-    ends.1,
-    (sym (ap (λ xs. xs ++ directions_of shop number first last) none) ∙ ends.2, ends.3),
-    ends.4 are,
-    ends.6,
-  )
-  ends-over StopMemory is are ends = absurd (cc)
+-- what is found past the budget
+pub found-over : (shop : Shop) (number budget left : ℕ) (first last : List ℕ) (text : Vec ℕ) (parts : Vec Part)
+    (names : ℕ → List ℕ) (levels : List Level) → length text.items ≡ budget →
+    Continues (visits shop number first last) text.items
+    (met_with shop number names left first last levels
+    (visits shop number (first_of first levels) (last_of last levels))) →
+    end_bound shop (first_of first levels) (last_of last levels) < number →
+    0 < length (jobs_left shop.jobs (first_of first levels ++ last_of last levels)) →
+    parts_visits shop number parts.items
+    ≡ met_with shop number names left first last levels
+    (visits shop number (first_of first levels) (last_of last levels)) →
+    All (IsPart shop) parts.items → length parts.items ≤ length (jobs_left shop.jobs (first ++ last)) →
+    IsAdvanced shop number budget first last (advanced.Rest text parts)
+found-over shop number budget left first last text parts names levels full continues low some met each few =
+    let first2 : List ℕ = first_of first levels in
+    let last2 : List ℕ = last_of last levels in
+    let end : End = end_taken shop number first2 last2 in
+    let more : List Visit = flat_map (child_visits shop number end first2 last2) (jobs_left shop.jobs (first2 ++ last2))
+    in
+    let opened : met_with shop number names left first last levels (visits shop number first2 last2)
+    ≡ opens end ∷ met_with shop number names left first last levels more =
+    ap (met_with shop number names left first last levels) (visits-open shop number first2 last2 some low)
+    ∙ met-opens shop number names left first last levels end more in
+    let longer = ap length (continues.0 ∙ ap (λ v. text.items ++ signs v) opened) in (
+      omega (
+        arith,
+        longer,
+        full,
+        length-append text.items (sign end ∷ signs (met_with shop number names left first last levels more)),
+      ),
+      full,
+      subst (Continues (visits shop number first last) text.items) (sym met) continues,
+      each,
+      few,
+    )

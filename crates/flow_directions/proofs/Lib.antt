@@ -4,8 +4,6 @@ pub mod SearchProves
 pub mod SearchReaches
 pub mod SearchByChildren
 pub mod WalkSteps
-pub mod ChildSteps
-pub mod PackedSteps
 pub mod LeftSteps
 pub mod JobsMarked
 pub mod BoundSums
@@ -14,5 +12,11 @@ pub mod EndTaken
 pub mod WeightSteps
 pub mod StartLists
 pub mod FoundSteps
+pub mod PackNames
+pub mod LevelSteps
+pub mod MetSteps
+pub mod LevelMoves
 pub mod TreeSteps
 pub mod EndChosen
+pub mod WalkStands
+pub mod PartSteps

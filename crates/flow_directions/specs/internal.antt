@@ -1,7 +1,7 @@
 pub mod Left
 pub mod Lists
 pub mod Packs
-pub mod Walk
+pub mod Levels
 pub mod Start
 pub mod Reached
 pub mod Opened

@@ -7,6 +7,7 @@ mod choose;
 mod directions;
 mod found;
 mod laws;
+mod level;
 mod lists;
 mod marked_node;
 mod open;

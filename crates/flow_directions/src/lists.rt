@@ -2,8 +2,10 @@
 
 ghost use Rattle.std.specs.Prelude.{◌≡◌, ℕ, ◌+◌, ◌<◌, ◌≤◌, List, [], ◌++◌, length, IfOk};
 ghost use Rattle.flow_shop.specs.Directions.{first_with, last_with};
+ghost use Rattle.flow_directions.specs.internal.Left.{IsNodePart, AreChildrenPart};
 ghost use Rattle.flow_directions.specs.internal.Lists.{HasLists};
 
+use crate::found::Part;
 use flow_shop::End;
 use std::alloc::{AllocError, Global};
 
@@ -79,6 +81,33 @@ impl Lists {
         ensures { (jobs : ℕ) (first last : List ℕ) → HasLists jobs first last self.now → result.now ≡ last }
     {
         &self.jobs[self.jobs.len() - self.last..]
+    }
+
+    /// The part of a search that is the node.
+    pub(crate) fn node(&self, alloc: Global) -> Result<Part, AllocError>
+        requires { (jobs : ℕ) × (first : List ℕ) × (last : List ℕ) × HasLists jobs first last self.now }
+        ensures { (jobs : ℕ) (first last : List ℕ) → HasLists jobs first last self.now →
+            IfOk result (λ part. IsNodePart first last part) }
+    {
+        let first = Vec::from_slice(alloc, self.begin())?;
+        let last = Vec::from_slice(alloc, self.end())?;
+        Ok(Part::Node { first, last })
+    }
+
+    /// The part of a search that is the children of the node that put some jobs at an end.
+    pub(crate) fn children(&self, alloc: Global, end: End, jobs: Vec<u16>) -> Result<Part, AllocError>
+        requires { (count : ℕ) × (first : List ℕ) × (last : List ℕ) × HasLists count first last self.now }
+        ensures { (count : ℕ) (first last : List ℕ) → HasLists count first last self.now →
+            IfOk result (λ part. AreChildrenPart first last end jobs.items part) }
+    {
+        let first = Vec::from_slice(alloc, self.begin())?;
+        let last = Vec::from_slice(alloc, self.end())?;
+        Ok(Part::Children {
+            first,
+            last,
+            end,
+            jobs,
+        })
     }
 
     /// The jobs, where the lists have all of them.

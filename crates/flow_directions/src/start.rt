@@ -1,17 +1,21 @@
 //! The node at which a search begins.
 
-ghost use Rattle.std.specs.Prelude.{◌≡◌, ◌↔◌, ℕ, ◌≤◌, Err, List, ◌++◌, length, take, IfOk};
+ghost use Rattle.std.specs.Prelude.{◌≡◌, ◌↔◌, ℕ, ◌<◌, ◌≤◌, Err, List, [], ◌++◌, length, take, IfOk, OnOk};
+ghost use Rattle.flow_shop.specs.Ends.{end_bound};
 ghost use Rattle.flow_shop.specs.Sequences.{jobs_left, AreJobs};
-ghost use Rattle.flow_directions.specs.internal.Packs.{HasRoom, IsPack};
+ghost use Rattle.flow_nodes.specs.Groups.{group_count};
+ghost use Rattle.flow_nodes.specs.Packs.{HasRoom, IsPack};
+ghost use Rattle.flow_directions.specs.internal.Levels.{IsAt};
 ghost use Rattle.flow_directions.specs.internal.Start.{IsStart};
+ghost use Rattle.flow_directions.specs.internal.Tree.{IsTree};
 ghost use Rattle.flow_directions.specs.declared.found.ProveFault.TheVariants.{Jobs};
 
 use crate::found::ProveFault;
 use crate::lists::Lists;
-use crate::pack::Pack;
-use flow_nodes::{Lanes, Node};
+use crate::tree::Tree;
+use flow_nodes::{Lanes, Marks, Node, Pack, group_count};
 use flow_shop::{End, Instance, JobSet, insert_all};
-use std::alloc::Global;
+use std::alloc::{AllocError, Global};
 
 /// The node at which a search begins.
 #[derive(Drop)]
@@ -63,7 +67,7 @@ impl StartNode {
     }
 
     /// Fills a pack with the jobs left, in order.
-    pub(crate) fn pack<V: Lanes>(&self, instance: &Instance, pack: &mut Pack<V>)
+    fn pack<V: Lanes>(&self, instance: &Instance, pack: &mut Pack<V>)
         requires wide { V.WIDTH ≡ 16 }
         requires room { HasRoom instance.now pack.old }
         requires fits { self.now.left ≤ length pack.old.names.items }
@@ -81,5 +85,36 @@ impl StartNode {
             }
         }
         pack.load(instance);
+    }
+
+    /// Opens the node at the first place of a tree's list, which has none yet. The jobs left are packed in the last pack.
+    pub(crate) fn open<V: Lanes>(
+        &self,
+        instance: &Instance,
+        tree: &mut Tree<V>,
+    ) -> Result<(), AllocError>
+        requires wide { V.WIDTH ≡ 16 }
+        requires some { 1 ≤ self.now.left }
+        requires packs { length tree.old.packs.items ≡ group_count self.now.left }
+        requires at { (number : ℕ) × (first : List ℕ) × (last : List ℕ) × IsStart instance.now first last self.now
+            × (end_bound instance.now first last < number) × IsTree V.CAP instance.now number tree.old }
+        ensures count { length tree.new.packs.items ≡ length tree.old.packs.items }
+        ensures size { OnOk result (1 ≤ length tree.new.nodes.items) }
+        ensures tree { (number : ℕ) (first last : List ℕ) → IsStart instance.now first last self.now →
+            end_bound instance.now first last < number → IsTree V.CAP instance.now number tree.old →
+            OnOk result (IsTree V.CAP instance.now number tree.new) }
+        ensures at { (number : ℕ) (first last : List ℕ) → IsStart instance.now first last self.now →
+            end_bound instance.now first last < number → IsTree V.CAP instance.now number tree.old →
+            OnOk result (IsAt V.list V.CAP V.WIDTH instance.now number first last self.now.left self.now.lists
+            tree.new) }
+    {
+        tree.grow(instance, 1)?;
+        let pack = &mut tree.packs[group_count(self.left) - 1];
+        self.pack(instance, pack);
+        let root = &mut tree.nodes[0];
+        root.node = self.node;
+        root.left = Marks::first(self.left);
+        tree.opener.open(pack, root);
+        Ok(())
     }
 }

@@ -1,21 +1,23 @@
 //! The walk through the nodes that the search opens.
 
-ghost use Rattle.std.specs.Prelude.{◌≡◌, ℕ, ◌≤◌, List, [], length, All, IfOk};
+ghost use Rattle.std.specs.Prelude.{◌≡◌, ℕ, ◌+◌, ◌≤◌, List, [], ◌++◌, length, All, IfOk};
+ghost use Rattle.flow_shop.specs.Shop.{Shop};
 ghost use Rattle.flow_shop.specs.Directions.{sign};
+ghost use Rattle.flow_shop.specs.Sequences.{AreJobs, IsSequence};
+ghost use Rattle.flow_nodes.specs.Groups.{group_count};
 ghost use Rattle.flow_nodes.specs.Lanes.{limit_of};
-ghost use Rattle.flow_directions.specs.internal.Lists.{HasLists};
-ghost use Rattle.flow_directions.specs.internal.Packs.{HasRoom};
-ghost use Rattle.flow_directions.specs.internal.Left.{IsNodeLeft, AreChildrenLeft};
-ghost use Rattle.flow_directions.specs.internal.Walk.{Ends, IsAt, KeepsPacks};
-ghost use Rattle.flow_directions.specs.declared.walk.SearchStop.TheVariants.{Memory};
+ghost use Rattle.flow_nodes.specs.Marks.{chosen};
+ghost use Rattle.flow_directions.specs.Search.{IsAdvanced, IsPart, Visit, parts_visits, visits};
+ghost use Rattle.flow_directions.specs.internal.Levels.{IsAt, StandsBelow, first_of, last_of, met_with, names_of};
+ghost use Rattle.flow_directions.specs.internal.Reached.{IsSequenceAfter};
+ghost use Rattle.flow_directions.specs.internal.Tree.{IsTree};
 
-use crate::found::Part;
+use crate::found::{Advanced, Part};
+use crate::level::{Level, Spot};
 use crate::lists::Lists;
-use crate::marked_node::MarkedNode;
-use crate::open::open;
-use crate::pack::Pack;
-use flow_nodes::{Lanes, Marks};
-use flow_shop::{End, Instance};
+use crate::tree::Tree;
+use flow_nodes::{Lanes, Marks, Pack, group_count};
+use flow_shop::{End, Instance, Sequence, makespan};
 use std::alloc::{AllocError, Global};
 
 /// What a search is to prove, and with how much.
@@ -23,79 +25,8 @@ use std::alloc::{AllocError, Global};
 pub(crate) struct Terms {
     /// The number.
     pub(crate) number: u64,
-    /// The limit that stands for it in 32 bits.
-    pub(crate) limit: u32,
     /// The most directions.
     pub(crate) budget: u64,
-    /// Where the memory for what is left comes from.
-    pub(crate) alloc: Global,
-}
-
-/// What a search wrote, where it stands, and what it left.
-#[derive(Drop)]
-pub(crate) struct Written {
-    /// The directions.
-    pub(crate) directions: Vec<u8>,
-    /// The parts with which the search goes on, where it is over its budget.
-    pub(crate) rest: Vec<Part>,
-    /// The lists of the node at which it stands.
-    pub(crate) lists: Lists,
-}
-
-/// Why a search stops early.
-#[derive(Clone, Copy)]
-pub(crate) enum SearchStop {
-    /// It stands at a sequence below the number.
-    Below,
-    /// There are more directions than its budget.
-    Over,
-    /// Memory ran out.
-    Memory,
-}
-
-impl From<AllocError> for SearchStop {
-    ghost from_gives = { λ _ stop. stop ≡ Memory };
-
-    fn from(_error: AllocError) -> SearchStop {
-        SearchStop::Memory
-    }
-}
-
-impl Written {
-    /// Leaves the node at which the search stands.
-    #[inline(never)]
-    fn leave_node(&mut self, alloc: Global) -> Result<(), AllocError>
-        requires { (jobs : ℕ) × (first : List ℕ) × (last : List ℕ) × HasLists jobs first last self.old.lists }
-        ensures directions { self.new.directions ≡ self.old.directions }
-        ensures lists { self.new.lists ≡ self.old.lists }
-        ensures rest { (jobs : ℕ) (first last : List ℕ) → HasLists jobs first last self.old.lists →
-            IfOk result (λ _. IsNodeLeft first last self.old.rest.items self.new.rest.items) }
-    {
-        let first = Vec::from_slice(alloc, self.lists.begin())?;
-        let last = Vec::from_slice(alloc, self.lists.end())?;
-        self.rest.push(Part::Node { first, last })?;
-        Ok(())
-    }
-
-    /// Leaves some children of the node at which the search stands.
-    #[inline(never)]
-    fn leave_children(&mut self, alloc: Global, end: End, jobs: Vec<u16>) -> Result<(), AllocError>
-        requires { (count : ℕ) × (first : List ℕ) × (last : List ℕ) × HasLists count first last self.old.lists }
-        ensures directions { self.new.directions ≡ self.old.directions }
-        ensures lists { self.new.lists ≡ self.old.lists }
-        ensures rest { (count : ℕ) (first last : List ℕ) → HasLists count first last self.old.lists →
-            IfOk result (λ _. AreChildrenLeft first last end jobs.items self.old.rest.items self.new.rest.items) }
-    {
-        let first = Vec::from_slice(alloc, self.lists.begin())?;
-        let last = Vec::from_slice(alloc, self.lists.end())?;
-        self.rest.push(Part::Children {
-            first,
-            last,
-            end,
-            jobs,
-        })?;
-        Ok(())
-    }
 }
 
 /// The sign of an end.
@@ -109,68 +40,131 @@ fn sign_of(end: End) -> u8
     }
 }
 
-/// Searches a node that is below the number, at which so many jobs are left, and writes its directions.
+/// The jobs that a pack has at marked places, in order.
+fn jobs_at<V: Lanes>(alloc: Global, pack: &Pack<V>, marks: &Marks) -> Result<Vec<u16>, AllocError>
+    requires few { length pack.now.groups.items ≤ 50 }
+    requires names { length pack.now.names.items ≡ length pack.now.groups.items * 16 }
+    ensures { IfOk result (λ jobs. jobs.items ≡ chosen marks.now.words pack.now.names.items) }
+{
+    let mut rest = *marks;
+    let mut jobs = Vec::new(alloc);
+    'places: while let Some(place) = rest.pop(pack.groups.len()) {
+        jobs.push(pack.names[place])?;
+    }
+    Ok(jobs)
+}
+
+/// The sequence of jobs that are known to be one, with its makespan; it was reached after these directions.
+pub(crate) fn sequence_of(
+    alloc: Global,
+    instance: &Instance,
+    jobs: &[u16],
+    directions: Vec<u8>,
+) -> Result<Advanced, AllocError>
+    requires { IsSequence instance.now.jobs jobs.now }
+    ensures found { IfOk result (λ found. IsSequenceAfter instance.now jobs.now directions.items found) }
+{
+    let sequence = Sequence::of_known(alloc, jobs)?;
+    let makespan = makespan(instance, &sequence);
+    Ok(Advanced::Below {
+        sequence,
+        makespan,
+        directions,
+    })
+}
+
+/// The parts with which a search goes on that is over its budget at the child of the last of some levels: the child, and
+/// then the children of each level that are still to be searched, the last one's first. So many jobs are left at the
+/// child.
+#[inline(never)]
+fn parts_left<V: Lanes>(
+    tree: &Tree<V>,
+    lists: &mut Lists,
+    levels: &mut Vec<Level>,
+    left: u16,
+) -> Result<Vec<Part>, AllocError>
+    requires few { group_count (left + length levels.old.items) ≤ length tree.now.packs.items }
+    requires at { (shop : Shop) × (number : ℕ) × (first : List ℕ) × (last : List ℕ) × IsTree V.CAP shop number tree.now
+        × StandsBelow V.list V.CAP V.WIDTH shop number first last (left + length levels.old.items) lists.old tree.now
+        levels.old.items }
+    ensures parts { (shop : Shop) (number : ℕ) (first last : List ℕ) → IsTree V.CAP shop number tree.now →
+        StandsBelow V.list V.CAP V.WIDTH shop number first last (left + length levels.old.items) lists.old tree.now
+        levels.old.items → IfOk result (λ parts. parts_visits shop number parts.items
+        ≡ met_with shop number (names_of tree.now.packs.items) (left + length levels.old.items) first last
+        levels.old.items (visits shop number (first_of first levels.old.items) (last_of last levels.old.items))) }
+    ensures each { (shop : Shop) (number : ℕ) (first last : List ℕ) → IsTree V.CAP shop number tree.now →
+        StandsBelow V.list V.CAP V.WIDTH shop number first last (left + length levels.old.items) lists.old tree.now
+        levels.old.items → AreJobs shop.jobs (first ++ last) → IfOk result (λ parts. All (IsPart shop) parts.items) }
+    ensures count { IfOk result (λ parts. length parts.items ≡ length levels.old.items + 1) }
+{
+    let alloc = tree.alloc;
+    let mut left = left;
+    let mut parts = Vec::with_capacity(alloc, levels.len() + 1)?;
+    parts.push(lists.node(alloc)?)?;
+    'levels: while let Some(level) = levels.pop() {
+        left += 1;
+        lists.take(level.end);
+        let jobs = jobs_at(alloc, &tree.packs[group_count(left) - 1], &level.rest)?;
+        parts.push(lists.children(alloc, level.end, jobs)?)?;
+    }
+    Ok(parts)
+}
+
+/// Searches the node that stands at the first place of a tree's list, at which so many jobs are left.
 pub(crate) fn search<V: Lanes>(
     instance: &Instance,
     terms: Terms,
-    written: &mut Written,
-    packs: &mut [Pack<V>],
-    marked: &MarkedNode,
+    mut tree: Tree<V>,
+    mut lists: Lists,
     left: u16,
-) -> Result<(), SearchStop>
+) -> Result<Advanced, AllocError>
     requires wide { V.WIDTH ≡ 16 }
-    requires limit { terms.limit ≡ limit_of terms.number }
-    requires cap { terms.limit ≤ V.CAP }
     requires some { 1 ≤ left }
-    requires within { length written.old.directions.items ≤ terms.budget }
-    requires rest { written.old.rest.items ≡ [] }
-    requires packs { All (λ pack. HasRoom instance.now pack) packs.old }
-    requires few { 1 ≤ length packs.old }
-    requires at { (first : List ℕ) × (last : List ℕ)
-        × IsAt V.list V.CAP V.WIDTH instance.now terms.number first last left written.old.lists marked.now packs.old }
-    ensures packs { KeepsPacks instance.now packs.old packs.new }
-    ensures ends { (first last : List ℕ) →
-        IsAt V.list V.CAP V.WIDTH instance.now terms.number first last left written.old.lists marked.now packs.old →
-        Ends instance.now terms.number terms.budget first last written.old.directions.items written.new result }
+    requires tree { IsTree V.CAP instance.now terms.number tree }
+    requires few { group_count left ≤ length tree.packs.items }
+    requires room { 1 ≤ length tree.nodes.items }
+    requires at { (first : List ℕ) × (last : List ℕ) × AreJobs instance.now.jobs (first ++ last)
+        × IsAt V.list V.CAP V.WIDTH instance.now terms.number first last left lists tree }
+    ensures found { (first last : List ℕ) → AreJobs instance.now.jobs (first ++ last) →
+        IsAt V.list V.CAP V.WIDTH instance.now terms.number first last left lists tree →
+        IfOk result (λ found. IsAdvanced instance.now terms.number terms.budget first last found) }
 {
-    // The next pack has room for the jobs left: the search goes on there, with half the groups or fewer.
-    if packs.len() > 1 && packs[1].names.len() >= left as usize {
-        let (here, deeper) = packs.split_at_mut(1);
-        deeper[0].fill(instance, &here[0], &marked.left);
-        let packed = MarkedNode {
-            node: marked.node,
-            left: Marks::first(left),
-        };
-        return search(instance, terms, written, deeper, &packed, left);
+    let alloc = tree.alloc;
+    let mut directions = Vec::new(alloc);
+    let mut levels = Vec::with_capacity(alloc, left as usize)?;
+    if terms.budget == 0 {
+        let parts = parts_left(&tree, &mut lists, &mut levels, left)?;
+        return Ok(Advanced::Rest { directions, parts });
     }
-    if written.directions.len() as u64 >= terms.budget {
-        written.leave_node(terms.alloc)?;
-        return Err(SearchStop::Over);
-    }
-    let opened = open(instance, &packs[0], marked, terms.limit);
-    if written.directions.push(sign_of(opened.end)).is_err() {
-        return Err(SearchStop::Memory);
-    }
-    let groups = packs[0].groups.len();
-    let mut below = opened.below;
-    'children: while let Some(place) = below.pop(groups) {
-        let job = packs[0].names[place];
-        written.lists.put(opened.end, job);
-        if left == 1 {
-            return Err(SearchStop::Below);
-        }
-        let child = marked.child(instance, opened.end, place, job);
-        match search(instance, terms, written, packs, &child, left - 1) {
-            Ok(()) => written.lists.take(opened.end),
-            Err(SearchStop::Over) => {
-                written.lists.take(opened.end);
-                let jobs = packs[0].jobs(terms.alloc, &below)?;
-                written.leave_children(terms.alloc, opened.end, jobs)?;
-                return Err(SearchStop::Over);
+    let mut left = left;
+    let mut here = tree.enter(instance, Spot { at: 0, top: 1 }, left)?;
+    directions.push(sign_of(here.end))?;
+    'walk: loop {
+        match here.next(&tree.packs[group_count(left) - 1]) {
+            None => {
+                let Some(level) = levels.pop() else {
+                    return Ok(Advanced::Proved(directions));
+                };
+                here = level;
+                lists.take(here.end);
+                left += 1;
             }
-            Err(SearchStop::Below) => return Err(SearchStop::Below),
-            Err(SearchStop::Memory) => return Err(SearchStop::Memory),
+            Some(place) => {
+                lists.put(here.end, here.job);
+                left -= 1;
+                if left == 0 {
+                    return sequence_of(alloc, instance, lists.all(), directions);
+                }
+                if directions.len() as u64 >= terms.budget {
+                    levels.push(here)?;
+                    let parts = parts_left(&tree, &mut lists, &mut levels, left)?;
+                    return Ok(Advanced::Rest { directions, parts });
+                }
+                let child = tree.go(instance, &mut here, place, left)?;
+                levels.push(here)?;
+                here = child;
+                directions.push(sign_of(here.end))?;
+            }
         }
     }
-    Ok(())
 }

@@ -36,7 +36,7 @@ impl<V: Lanes> Pack<V> {
     }
 
     /// Writes the times of the jobs named.
-    pub(crate) fn load(&mut self, instance: &Instance)
+    pub fn load(&mut self, instance: &Instance)
         requires wide { V.WIDTH ≡ 16 }
         requires room { HasRoom instance.now self.old }
         ensures pack { IsPack V.list V.CAP V.WIDTH instance.now self.new }

@@ -1,0 +1,113 @@
+-- The parts of a search: what is met there, and that they are parts.
+use Rattle.std.proofs.Common.{◌≡◌, ℕ, ◌+◌, ◌-◌, ◌<◌, ◌≤◌, List, [], ◌∷◌, ◌++◌, length, ap, sym, ◌∙◌, subst, arith}
+use Rattle.std.proofs.Common.{append-nil}
+use Rattle.std.specs.List.{flat_map, AllByRecursion}
+use Rattle.std.specs.Prelude.{All}
+use Rattle.std.specs.Global.{Vec}
+use Rattle.std.proofs.lemmas.List.Elements.{All-from_recursion}
+use Rattle.flow_shop.specs.Shop.{Shop}
+use Rattle.flow_shop.specs.Sequences.{AreDistinct, AreJobs}
+use Rattle.flow_shop.specs.Directions.{first_with, last_with}
+use Rattle.flow_shop.specs.declared.end.End.{End}
+use Rattle.flow_nodes.specs.declared.pack.Pack.{Pack}
+use Rattle.flow_directions.specs.Search.{IsPart, child_visits, part_visits, visits}
+use Rattle.flow_directions.specs.internal.Left.{AreChildrenPart, IsNodePart}
+use Rattle.flow_directions.specs.internal.Levels.{AreLevels, IsAbove, IsOpen, first_of, last_of}
+use Rattle.flow_directions.specs.declared.found.Part.{Part}
+use Rattle.flow_directions.specs.declared.found.Part.TheVariants.{Node, Children}
+use Rattle.flow_directions.specs.declared.stub.OpenNode.{OpenNode}
+use Rattle.flow_directions.specs.declared.level.Level.{Level}
+use Rattle.flow_directions.proofs.NodeLists.{child-jobs}
+
+-- a node
+
+pub met-node : (shop : Shop) (number : ℕ) (first last : List ℕ) (part : Part) → IsNodePart first last part →
+    part_visits shop number part ≡ visits shop number first last
+met-node shop number first last part is =
+    let begin : Vec ℕ = is.0 in
+    let behind : Vec ℕ = is.1 in
+    ap (part_visits shop number) is.4
+    ∙ ap (λ xs. visits shop number xs behind.items) is.2
+    ∙ ap (λ xs. visits shop number first xs) is.3
+
+pub node-part : (shop : Shop) (first last : List ℕ) (part : Part) → IsNodePart first last part →
+    AreJobs shop.jobs (first ++ last) → IsPart shop part
+node-part shop first last part is are =
+    let begin : Vec ℕ = is.0 in
+    let behind : Vec ℕ = is.1 in
+    subst (IsPart shop) (sym is.4)
+    (subst (λ xs. AreJobs shop.jobs (xs ++ behind.items)) (sym is.2)
+    (subst (λ xs. AreJobs shop.jobs (first ++ xs)) (sym is.3) are))
+
+-- some children
+
+pub met-children : (shop : Shop) (number : ℕ) (end : End) (first last jobs : List ℕ) (part : Part) →
+    AreChildrenPart first last end jobs part →
+    part_visits shop number part ≡ flat_map (child_visits shop number end first last) jobs
+met-children shop number end first last jobs part is =
+    let begin : Vec ℕ = is.0 in
+    let behind : Vec ℕ = is.1 in
+    let named : Vec ℕ = is.2 in
+    ap (part_visits shop number) is.6
+    ∙ ap (λ js. flat_map (child_visits shop number end begin.items behind.items) js) is.5
+    ∙ ap (λ begins. flat_map (child_visits shop number end begins behind.items) jobs) is.3
+    ∙ ap (λ ends. flat_map (child_visits shop number end first ends) jobs) is.4
+
+module _ (shop : Shop) (number : ℕ) (end : End) (first last : List ℕ) where
+  each-child-is : AreJobs shop.jobs (first ++ last) → (jobs : List ℕ) →
+      AllByRecursion (IsOpen shop number end first last) jobs →
+      AllByRecursion (λ job. AreJobs shop.jobs (first_with end first job ++ last_with end last job)) jobs
+  each-child-is are [] each = tt
+  each-child-is are (other ∷ jobs) each = (
+    child-jobs shop.jobs end first last other are each.0.is_job.0 each.0.is_job.1 each.0.left,
+    each-child-is are jobs each.1,
+  )
+
+  each-job-is : (jobs : List ℕ) → AllByRecursion (IsOpen shop number end first last) jobs →
+      AllByRecursion (λ job. (1 ≤ job) × (job ≤ shop.jobs)) jobs
+  each-job-is [] each = tt
+  each-job-is (other ∷ jobs) each = (each.0.is_job, each-job-is jobs each.1)
+
+  -- each of them is a node
+  each-are : (jobs : List ℕ) (begin behind named : Vec ℕ) → begin.items ≡ first → behind.items ≡ last →
+      named.items ≡ jobs → AllByRecursion (IsOpen shop number end first last) jobs →
+      AreJobs shop.jobs (first ++ last) →
+      All (λ job. AreJobs shop.jobs (first_with end begin.items job ++ last_with end behind.items job)) named.items
+  each-are jobs begin behind named first_is last_is named_is each are =
+      let all = All-from_recursion (λ job. AreJobs shop.jobs (first_with end first job ++ last_with end last job)) jobs
+      (each-child-is are jobs each) in
+      subst (λ js. All (λ job. AreJobs shop.jobs (first_with end begin.items job
+      ++ last_with end behind.items job)) js) (sym named_is)
+      (subst (λ begins. All (λ job. AreJobs shop.jobs (first_with end begins job
+      ++ last_with end behind.items job)) jobs) (sym first_is)
+      (subst (λ ends. All (λ job. AreJobs shop.jobs (first_with end first job
+      ++ last_with end ends job)) jobs) (sym last_is) all))
+
+  pub children-part : (jobs : List ℕ) (part : Part) → AreChildrenPart first last end jobs part →
+      AllByRecursion (IsOpen shop number end first last) jobs → AreDistinct jobs →
+      AreJobs shop.jobs (first ++ last) → IsPart shop part
+  children-part jobs part is each distinct are =
+      let begin : Vec ℕ = is.0 in
+      let behind : Vec ℕ = is.1 in
+      let named : Vec ℕ = is.2 in
+      let are_jobs : AreJobs shop.jobs jobs = record {
+        range = All-from_recursion (λ job. (1 ≤ job) × (job ≤ shop.jobs)) jobs (each-job-is jobs each);
+        distinct = distinct;
+      } in
+      subst (IsPart shop) (sym is.6) (
+        subst (λ xs. AreJobs shop.jobs (xs ++ behind.items)) (sym is.3)
+            (subst (λ xs. AreJobs shop.jobs (first ++ xs)) (sym is.4) are),
+        subst (AreJobs shop.jobs) (sym is.5) are_jobs,
+        each-are jobs begin behind named is.3 is.4 is.5 each are,
+      )
+
+-- the lists to which levels lead have distinct jobs
+pub levels-jobs : {V : Type 0} (list : V → List ℕ) (cap width : ℕ) (shop : Shop) (number : ℕ)
+    (packs : List (Pack V)) (nodes : List (OpenNode V)) (left : ℕ) (first last : List ℕ) (levels : List Level) →
+    AreLevels (IsAbove list cap width shop number packs nodes) left first last levels →
+    AreJobs shop.jobs (first ++ last) → AreJobs shop.jobs (first_of first levels ++ last_of last levels)
+levels-jobs list cap width shop number packs nodes left first last [] above are = are
+levels-jobs list cap width shop number packs nodes left first last (l ∷ ls) above are =
+    let job = above.0.opened in
+    levels-jobs list cap width shop number packs nodes (left - 1) (first_with l.end first l.job) (last_with l.end last l.job)
+    ls above.1 (child-jobs shop.jobs l.end first last l.job are job.is_job.0 job.is_job.1 job.left)
