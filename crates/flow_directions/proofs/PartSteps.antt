@@ -15,7 +15,7 @@ use Rattle.flow_directions.specs.internal.Left.{AreChildrenPart, IsNodePart}
 use Rattle.flow_directions.specs.internal.Levels.{AreLevels, IsAbove, IsOpen, first_of, last_of}
 use Rattle.flow_directions.specs.declared.found.Part.{Part}
 use Rattle.flow_directions.specs.declared.found.Part.TheVariants.{Node, Children}
-use Rattle.flow_directions.specs.declared.stub.OpenNode.{OpenNode}
+use Rattle.flow_nodes.specs.declared.open.OpenNode.{OpenNode}
 use Rattle.flow_directions.specs.declared.level.Level.{Level}
 use Rattle.flow_directions.proofs.NodeLists.{child-jobs}
 

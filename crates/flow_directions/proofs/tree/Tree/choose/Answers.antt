@@ -8,7 +8,7 @@ use Rattle.flow_nodes.specs.Marks.{chosen}
 use Rattle.flow_directions.specs.Search.{count_below, looks_ahead, other}
 use Rattle.flow_nodes.specs.Open.{children_at}
 use Rattle.flow_directions.specs.internal.Tree.{IsOpenAt}
-use Rattle.flow_directions.proofs.EndChosen.{close-is, plain-far}
+use Rattle.flow_directions.proofs.EndTaken.{close-is, plain-far}
 use Rattle.flow_directions.proofs.TreeSteps.{children-of, grown-kept, names-count}
 use Rattle.flow_directions.proofs.tree.Tree.choose.Given.{Over}
 use Rattle.flow_directions.proofs.tree.Tree.choose.Goals as goal

@@ -5,7 +5,7 @@ use Rattle.flow_nodes.specs.Packs.{left_below}
 use Rattle.flow_directions.specs.Search.{other}
 use Rattle.flow_nodes.specs.Open.{children_at}
 use Rattle.flow_directions.specs.internal.Tree.{AreKept, IsOpenAt}
-use Rattle.flow_directions.proofs.EndChosen.{other-lighter, plain-kept}
+use Rattle.flow_directions.proofs.EndTaken.{other-lighter, plain-kept}
 use Rattle.flow_directions.proofs.TreeSteps.{children-kept, children-of, fewer-kept, grown-kept, open-kept, place-is}
 use Rattle.flow_directions.proofs.tree.Tree.look_ahead.Given.{Over}
 use Rattle.flow_directions.proofs.tree.Tree.look_ahead.Goals as goal

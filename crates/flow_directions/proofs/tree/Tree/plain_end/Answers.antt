@@ -8,7 +8,7 @@ use Rattle.flow_directions.specs.Search.{bound_sum, count_below}
 use Rattle.flow_nodes.specs.Open.{IsOpenNode}
 use Rattle.flow_directions.specs.internal.Tree.{IsOpenAt}
 use Rattle.flow_directions.proofs.TreeSteps.{open-read}
-use Rattle.flow_directions.proofs.EndChosen.{fewer-is, as-many}
+use Rattle.flow_directions.proofs.EndTaken.{fewer-is, as-many}
 use Rattle.flow_directions.proofs.tree.Tree.plain_end.Given.{Over}
 use Rattle.flow_directions.proofs.tree.Tree.plain_end.Goals as goal
 use Rattle.flow_directions.proofs.tree.Tree.plain_end.Goals.{After-index-open, After-index-pack}
