@@ -10,5 +10,6 @@ pub mod MarkSteps
 pub mod BelowSteps
 pub mod SpreadSteps
 pub mod PackSteps
+pub mod TurnedTimes
 pub mod LeftSteps
 pub mod JobsMarked

@@ -121,8 +121,15 @@ fn make_child(frames: &mut [NodeFrame], depth: usize, instance: &Instance, row: 
 }
 
 /// Fills the pack of so many groups with the jobs at marked places of the pack that has one group more.
-fn refill<V: Lanes>(packs: &mut [Pack<V>], instance: &Instance, groups: usize, left: &Marks)
+fn refill<V: Lanes>(
+    packs: &mut [Pack<V>],
+    instance: &Instance,
+    rows: &[Row],
+    groups: usize,
+    left: &Marks,
+)
     requires wide { V.WIDTH ≡ 16 }
+    requires rows { AreRows instance.now rows.now }
     requires some { 1 ≤ groups }
     requires more { groups < length packs.old }
     requires rooms { (none : Pack V) → HasRoom instance.now (slice_index_or packs.old (groups - 1) none) }
@@ -139,7 +146,7 @@ fn refill<V: Lanes>(packs: &mut [Pack<V>], instance: &Instance, groups: usize, l
         ≡ chosen left.now.words (names_at packs.old groups) }
 {
     let (fewer, more) = packs.split_at_mut(groups);
-    fewer[groups - 1].fill(instance, &more[0], left);
+    fewer[groups - 1].fill(instance, rows, &more[0], left);
 }
 
 impl<V: Lanes> Path<V> {
@@ -147,10 +154,12 @@ impl<V: Lanes> Path<V> {
     fn new(
         alloc: Global,
         instance: &Instance,
+        rows: &[Row],
         node: Node,
         limit: u32,
     ) -> Result<Path<V>, AllocError>
         requires wide { V.WIDTH ≡ 16 }
+        requires rows { AreRows instance.now rows.now }
         ensures size { IfOk result (λ path. length path.frames.items ≡ instance.now.jobs) }
         ensures depth { IfOk result (λ path. path.depth ≡ 0) }
         ensures node { IfOk result (λ path. (here path).node ≡ node) }
@@ -167,7 +176,7 @@ impl<V: Lanes> Path<V> {
             let pack = Pack::new(alloc, instance, packs.len() + 1)?;
             packs.push(pack)?;
         }
-        packs[group_count(jobs) - 1].fill_all(instance);
+        packs[group_count(jobs) - 1].fill_all(instance, rows);
         let root = NodeFrame {
             node,
             left: Marks::first(jobs),
@@ -292,8 +301,9 @@ impl<V: Lanes> Path<V> {
     }
 
     /// Packs the jobs left at the node anew, so many of them, which are whole groups.
-    fn pack(&mut self, instance: &Instance, left: u16)
+    fn pack(&mut self, instance: &Instance, rows: &[Row], left: u16)
         requires wide { V.WIDTH ≡ 16 }
+        requires rows { AreRows instance.now rows.now }
         requires whole { left % 16 ≡ 0 }
         requires some { 1 ≤ left }
         requires few { left < instance.now.jobs }
@@ -319,6 +329,7 @@ impl<V: Lanes> Path<V> {
         refill(
             self.packs.as_mut_slice(),
             instance,
+            rows,
             group_count(left),
             &frame.left,
         );
@@ -355,7 +366,7 @@ impl<V: Lanes> Path<V> {
         self.put(instance, rows, place);
         let spare = left as usize % LANES;
         if spare == 0 {
-            self.pack(instance, left);
+            self.pack(instance, rows, left);
         }
     }
 }
@@ -378,7 +389,7 @@ fn walk<V: Lanes>(
         return Ok(0);
     }
     let rows = rows(alloc, instance)?;
-    let mut path = Path::<V>::new(alloc, instance, root, limit_of(number))?;
+    let mut path = Path::<V>::new(alloc, instance, rows.as_slice(), root, limit_of(number))?;
     let Some(end) = end_at(text, 0) else {
         return Err(CheckFault::Tree(DIRECTIONS));
     };
