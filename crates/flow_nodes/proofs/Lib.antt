@@ -13,3 +13,4 @@ pub mod PackSteps
 pub mod TurnedTimes
 pub mod LeftSteps
 pub mod JobsMarked
+pub mod LeftBelow

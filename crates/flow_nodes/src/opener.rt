@@ -17,6 +17,7 @@ ghost use Rattle.flow_nodes.specs.internal.Children.{greatest_at};
 ghost use Rattle.flow_nodes.specs.Packs.{HasLeft, HasRoomFor, IsPack, jobs_at, left_below};
 ghost use Rattle.flow_nodes.specs.internal.Spread.{IsSpread};
 
+use crate::few_groups::mark_few;
 use crate::lanes::Lanes;
 use crate::marks::Marks;
 use crate::node::Node;
@@ -24,6 +25,9 @@ use crate::pack::Pack;
 use flow_limits::MAX_MACHINES;
 use flow_shop::{End, Instance};
 use std::alloc::{AllocError, Global};
+
+/// So many groups or fewer are looked at with no vectors that they share.
+const FEW_GROUPS: usize = 3;
 
 /// Opens nodes: finds their children below a number. It has memory for what the groups of a node share.
 #[derive(Drop)]
@@ -231,7 +235,18 @@ impl<V: Lanes> Opener<V> {
             HasLeft shop first last pack.now.names.items left.now →
             jobs_at pack.now below.new ≡ left_below shop number end first last }
     {
-        self.write(node, end);
-        self.mark_groups(end, pack.groups.as_slice(), left, below);
+        if pack.groups.len() <= FEW_GROUPS {
+            mark_few(
+                node,
+                end,
+                pack.groups.as_slice(),
+                left,
+                self.limit,
+                below,
+            );
+        } else {
+            self.write(node, end);
+            self.mark_groups(end, pack.groups.as_slice(), left, below);
+        }
     }
 }
