@@ -1,7 +1,7 @@
 //! The children of a node that are below a number, where few groups have the jobs left: from the numbers of the node,
 //! with no vectors that the groups share.
 
-ghost use Rattle.std.specs.Prelude.{◌≡◌, ℕ, ◌/◌, ◌%◌, ◌<◌, ◌≤◌, ◌↔◌, false, List, ◌++◌, length, slice_index};
+ghost use Rattle.std.specs.Prelude.{◌≡◌, ◌⊎◌, ℕ, ◌/◌, ◌%◌, ◌<◌, ◌≤◌, ◌↔◌, false, List, ◌++◌, length, slice_index};
 ghost use Rattle.std.specs.Prelude.{slice_index_or, IsBitSet};
 ghost use Rattle.std.specs.Global.{Vec};
 ghost use Rattle.flow_limits.specs.Limits.{most_machines};
@@ -20,9 +20,19 @@ use crate::marks::Marks;
 use crate::node::Node;
 use flow_shop::End;
 
+/// The number of machines, which the constant is, unless it is 0.
+#[inline(always)]
+pub(crate) fn known_or<const M: usize>(machines: usize) -> usize
+    requires constant { (M ≡ 0) ⊎ (M ≡ machines) }
+    ensures { result ≡ machines }
+{
+    if M == 0 { machines } else { M }
+}
+
 /// The bounds of the children that put the jobs of a group at the front.
 #[inline(always)]
-fn small_front_bounds<V: Lanes>(node: &Node, group: &[V]) -> V
+fn small_front_bounds<V: Lanes, const M: usize>(node: &Node, group: &[V]) -> V
+    requires constant { (M ≡ 0) ⊎ (M ≡ length group.now) }
     requires machines { length group.now ≤ most_machines }
     requires small { IsSmall V.CAP (length group.now) node.now }
     ensures { (shop : Shop) (first last jobs : List ℕ) (lane : ℕ) → IsNode shop first last node.now →
@@ -31,7 +41,8 @@ fn small_front_bounds<V: Lanes>(node: &Node, group: &[V]) -> V
 {
     let mut free = V::each(0);
     let mut bounds = free;
-    for place in 0..group.len() {
+    let machines = known_or::<M>(group.len());
+    for place in 0..machines {
         let near = node.front[place];
         let rest = node.work[place] + node.back[place];
         let start = free.at_least(V::each(near));
@@ -43,7 +54,8 @@ fn small_front_bounds<V: Lanes>(node: &Node, group: &[V]) -> V
 
 /// The bounds of the children that put the jobs of a group at the back.
 #[inline(always)]
-fn small_back_bounds<V: Lanes>(node: &Node, group: &[V]) -> V
+fn small_back_bounds<V: Lanes, const M: usize>(node: &Node, group: &[V]) -> V
+    requires constant { (M ≡ 0) ⊎ (M ≡ length group.now) }
     requires machines { length group.now ≤ most_machines }
     requires small { IsSmall V.CAP (length group.now) node.now }
     ensures { (shop : Shop) (first last jobs : List ℕ) (lane : ℕ) → IsNode shop first last node.now →
@@ -52,7 +64,7 @@ fn small_back_bounds<V: Lanes>(node: &Node, group: &[V]) -> V
 {
     let mut free = V::each(0);
     let mut bounds = free;
-    let mut machine = group.len();
+    let mut machine = known_or::<M>(group.len());
     while machine > 0 {
         let place = machine - 1;
         let near = node.back[place];
@@ -68,7 +80,8 @@ fn small_back_bounds<V: Lanes>(node: &Node, group: &[V]) -> V
 /// The children below a limit, of those that put the jobs of a group at an end: a bit for each lane, and no other bits.
 /// The bit of a lane whose job is not left may be set or not.
 #[inline(always)]
-fn small_below<V: Lanes>(node: &Node, end: End, group: &[V], limit: u32) -> u64
+fn small_below<V: Lanes, const M: usize>(node: &Node, end: End, group: &[V], limit: u32) -> u64
+    requires constant { (M ≡ 0) ⊎ (M ≡ length group.now) }
     requires machines { length group.now ≤ most_machines }
     requires small { IsSmall V.CAP (length group.now) node.now }
     requires limit { limit ≤ V.CAP }
@@ -79,15 +92,15 @@ fn small_below<V: Lanes>(node: &Node, end: End, group: &[V], limit: u32) -> u64
     ensures none { (lane : ℕ) → V.WIDTH ≤ lane → ¬ IsBitSet result lane }
 {
     match end {
-        End::Front => small_front_bounds(node, group).below(limit),
-        End::Back => small_back_bounds(node, group).below(limit),
+        End::Front => small_front_bounds::<V, M>(node, group).below(limit),
+        End::Back => small_back_bounds::<V, M>(node, group).below(limit),
     }
 }
 
 /// Marks the jobs left that make children below a number at an end, among those of the groups, where the limit stands
 /// for the number.
 #[inline(always)]
-pub(crate) fn mark_few<V: Lanes>(
+pub(crate) fn mark_few<V: Lanes, const M: usize>(
     node: &Node,
     end: End,
     groups: &[Vec<V>],
@@ -96,6 +109,8 @@ pub(crate) fn mark_few<V: Lanes>(
     below: &mut Marks,
 )
     requires wide { V.WIDTH ≡ 16 }
+    requires constant { (group : ℕ) (none : Vec V) → group < length groups.now →
+        (M ≡ 0) ⊎ (M ≡ length (slice_index_or groups.now group none).items) }
     requires limit { limit ≤ V.CAP }
     requires few { length groups.now ≤ most_groups }
     requires machines { (group : ℕ) (none : Vec V) → group < length groups.now →
@@ -114,7 +129,7 @@ pub(crate) fn mark_few<V: Lanes>(
     for group in 0..groups.len() {
         let word = left.words[group];
         if word != 0 {
-            let bits = small_below(node, end, groups[group].as_slice(), limit);
+            let bits = small_below::<V, M>(node, end, groups[group].as_slice(), limit);
             below.words[group] = (bits & u64::from(word)) as u16;
         } else {
             below.words[group] = 0;

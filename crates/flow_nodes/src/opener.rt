@@ -1,6 +1,6 @@
 //! The children of a node that are below a number, from vectors that the groups of the node share.
 
-ghost use Rattle.std.specs.Prelude.{◌≡◌, ℕ, ◌+◌, ◌/◌, ◌%◌, ◌<◌, ◌≤◌, ◌↔◌, false, List, ◌++◌, length, slice_index};
+ghost use Rattle.std.specs.Prelude.{◌≡◌, ◌⊎◌, ℕ, ◌+◌, ◌/◌, ◌%◌, ◌<◌, ◌≤◌, ◌↔◌, false, List, ◌++◌, length, slice_index};
 ghost use Rattle.std.specs.Prelude.{slice_index_or, IsBitSet, IfOk};
 ghost use Rattle.std.specs.Global.{Vec};
 ghost use Rattle.flow_nodes.specs.declared.node.Node.{Node};
@@ -211,9 +211,10 @@ impl<V: Lanes> Opener<V> {
         }
     }
 
-    /// Marks the jobs of a pack whose children at an end are below the number, of those left.
+    /// Marks the jobs of a pack whose children at an end are below the number, of those left. The constant is the number
+    /// of machines, or 0.
     #[inline(always)]
-    pub fn mark_below(
+    pub fn mark_below<const M: usize>(
         &mut self,
         node: &Node,
         end: End,
@@ -222,6 +223,8 @@ impl<V: Lanes> Opener<V> {
         below: &mut Marks,
     )
         requires wide { V.WIDTH ≡ 16 }
+        requires constant { (M ≡ 0) ⊎ ((group : ℕ) (none : Vec V) → group < length pack.now.groups.items →
+            M ≡ length (slice_index_or pack.now.groups.items group none).items) }
         requires limit { self.old.limit ≤ V.CAP }
         requires at { (shop : Shop) × (number : ℕ) × (first : List ℕ) × (last : List ℕ)
             × IsNode shop first last node.now × IsPack V.list V.CAP V.WIDTH shop pack.now × HasRoomFor shop self.old
@@ -236,7 +239,7 @@ impl<V: Lanes> Opener<V> {
             jobs_at pack.now below.new ≡ left_below shop number end first last }
     {
         if pack.groups.len() <= FEW_GROUPS {
-            mark_few(
+            mark_few::<V, M>(
                 node,
                 end,
                 pack.groups.as_slice(),

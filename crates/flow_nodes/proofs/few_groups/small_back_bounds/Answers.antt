@@ -11,15 +11,15 @@ use Rattle.flow_nodes.proofs.few_groups.small_back_bounds.Goals as goal
 
 pub loop-machine-init : goal.loop-machine-init
 loop-machine-init g c = record {
-  within = omega arith;
+  within = omega (arith, c.known_or-machine.ensures);
   free = λ shop first last jobs lane is are within.
-      let few : shop.machines ≡ length c.args.group.now = sym are.machines in
+      let few : shop.machines ≡ c.known_or-machine.result = sym are.machines ∙ sym c.known_or-machine.ensures in
       subst (λ n. HasLane g.V.Lanes.CAP g.V.Lanes.WIDTH (g.V.Lanes.list c.each-free.result) lane n)
       (sym (back-none shop first last (slice_index jobs lane) c.args.node.now is (are.each lane within))
       ∙ ap (λ m. back shop (slice_index jobs lane ∷ last) (m + 1)) few)
       (c.each-free.ensures lane within);
   bounds = λ shop first last jobs lane is are within.
-      let few : shop.machines ≡ length c.args.group.now = sym are.machines in
+      let few : shop.machines ≡ c.known_or-machine.result = sym are.machines ∙ sym c.known_or-machine.ensures in
       subst (λ n. HasLane g.V.Lanes.CAP g.V.Lanes.WIDTH (g.V.Lanes.list c.each-free.result) lane n)
       (sym (back-greatest-none shop first last (slice_index jobs lane) c.args.node.now is (are.each lane within))
       ∙ ap (λ m. greatest (map (back_child_at shop first last (slice_index jobs lane))

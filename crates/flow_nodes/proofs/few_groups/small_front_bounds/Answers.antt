@@ -24,7 +24,8 @@ loop-place-preserved g c = record {
       let job : ℕ = slice_index jobs lane in
       let near : ℕ = slice_index c.args.node.now.front place in
       let free : ℕ = front shop (first ++ job ∷ []) place in
-      let below : place < length c.args.group.now = c.loop-place-test.true in
+      let below : place < length c.args.group.now =
+      omega (arith, c.loop-place-test.true, c.known_or-machines.ensures) in
       let few : length c.args.group.now ≡ shop.machines = are.machines in
       let start = c.at_least-start.ensures lane free near
       (c.loop-place.invariant.free shop first last jobs lane is are within) (c.each.ensures lane within) in
@@ -40,7 +41,8 @@ loop-place-preserved g c = record {
       let job : ℕ = slice_index jobs lane in
       let near : ℕ = slice_index c.args.node.now.front place in
       let free : ℕ = front shop (first ++ job ∷ []) place in
-      let below : place < length c.args.group.now = c.loop-place-test.true in
+      let below : place < length c.args.group.now =
+      omega (arith, c.loop-place-test.true, c.known_or-machines.ensures) in
       let few : length c.args.group.now ≡ shop.machines = are.machines in
       let start = c.at_least-start.ensures lane free near
       (c.loop-place.invariant.free shop first last jobs lane is are within) (c.each.ensures lane within) in
@@ -57,7 +59,7 @@ loop-place-preserved g c = record {
 pub returns : goal.returns
 returns g c shop first last jobs lane is are within =
     let few : length c.args.group.now ≡ shop.machines = are.machines in
-    let all : c.loop-place.place ≡ shop.machines = omega (arith, few, c.loop-place-test.false) in
+    let all : c.loop-place.place ≡ shop.machines = omega (arith, few, c.loop-place-test.false, c.known_or-machines.ensures) in
     subst (λ m. HasLane g.V.Lanes.CAP g.V.Lanes.WIDTH (g.V.Lanes.list c.loop-place.bounds) lane
     (greatest (map (front_child_at shop first last (slice_index jobs lane)) (numbers 1 m)))) all
     (c.loop-place.invariant.bounds shop first last jobs lane is are within)
