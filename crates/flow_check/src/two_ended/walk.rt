@@ -440,6 +440,26 @@ fn walk<V: Lanes, const M: usize>(
     }
 }
 
+/// The same with narrow lanes, in which the number has to fit.
+fn walk_narrow(
+    alloc: Global,
+    instance: &Instance,
+    number: u64,
+    text: &[u8],
+) -> Result<usize, CheckFault>
+    requires { limit_of number ≤ 65535 }
+    ensures within { IfOk result (λ place. place ≤ length text.now) }
+    ensures read { EndsAt text.now (read_node instance.now number instance.now.jobs [] [] text.now) result
+        ⊎ (result ≡ Err Memory) }
+{
+    match instance.machines() {
+        5 => walk::<u16x16, 5>(alloc, instance, number, text),
+        10 => walk::<u16x16, 10>(alloc, instance, number, text),
+        20 => walk::<u16x16, 20>(alloc, instance, number, text),
+        _ => walk::<u16x16, 0>(alloc, instance, number, text),
+    }
+}
+
 /// Where the directions end, at the beginning of a text, that prove a number; or the fault of those that should stand
 /// there; or `Memory`.
 pub(crate) fn directions_end(
@@ -454,12 +474,7 @@ pub(crate) fn directions_end(
         HasDirectionsFault instance.now number instance.now.jobs [] [] text.now fault ⊎ (fault ≡ Memory)) }
 {
     if fits_narrow_lanes(number) {
-        match instance.machines() {
-            5 => walk::<u16x16, 5>(alloc, instance, number, text),
-            10 => walk::<u16x16, 10>(alloc, instance, number, text),
-            20 => walk::<u16x16, 20>(alloc, instance, number, text),
-            _ => walk::<u16x16, 0>(alloc, instance, number, text),
-        }
+        walk_narrow(alloc, instance, number, text)
     } else {
         walk::<u32x16, 0>(alloc, instance, number, text)
     }
