@@ -11,7 +11,9 @@ pub mod BelowSteps
 pub mod SpreadSteps
 pub mod StartSteps
 pub mod PackSteps
+pub mod TurnedTimes
 pub mod LeftSteps
 pub mod JobsMarked
 pub mod OpenSteps
 pub mod PutSteps
+pub mod LeftBelow

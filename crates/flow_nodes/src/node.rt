@@ -1,6 +1,6 @@
 //! Nodes: the front and the back on each machine, and the time of the jobs left.
 
-ghost use Rattle.std.specs.Prelude.{◌≡◌, ℕ, ◌+◌, ◌-◌, ◌<◌, ◌≤◌, List, [], ◌∷◌, ◌++◌, All, map, slice_index, false};
+ghost use Rattle.std.specs.Prelude.{◌≡◌, ◌⊎◌, ℕ, ◌+◌, ◌-◌, ◌<◌, ◌≤◌, List, [], ◌∷◌, ◌++◌, All, map, slice_index, false};
 ghost use Rattle.flow_limits.specs.Limits.{most_machines, greatest_completion, greatest_time};
 ghost use Rattle.flow_shop.specs.Shop.{Shop, AreOf, numbers, time, time_between};
 ghost use Rattle.flow_shop.specs.Rows.{IsRow};
@@ -12,6 +12,7 @@ ghost use Rattle.flow_shop.specs.Ends.{back, end_bound, front};
 ghost use Rattle.flow_nodes.specs.Groups.{IsCappedBound, child_bound};
 ghost use Rattle.flow_nodes.specs.Nodes.{IsJob, IsMachine, IsNode, work};
 
+use crate::few_groups::known_or;
 use crate::single::{greater, number_of, single, sum};
 use flow_limits::MAX_MACHINES;
 use flow_shop::{End, Instance, Row};
@@ -179,16 +180,23 @@ fn work_without(
 }
 
 impl Node {
-    /// Becomes the child of a node that puts a job that is left at an end.
+    /// Becomes the child of a node that puts a job that is left at an end. The constant is the number of machines, or 0.
     #[inline(always)]
-    pub fn become_child(&mut self, node: &Node, instance: &Instance, end: End, row: &Row)
-        requires { (first : List ℕ) × (last : List ℕ) × (job : ℕ) × IsNode instance.now first last node.now
+    pub fn become_child<const M: usize>(
+        &mut self,
+        node: &Node,
+        instance: &Instance,
+        end: End,
+        row: &Row,
+    )
+        requires constant { (M ≡ 0) ⊎ (M ≡ instance.now.machines) }
+        requires at { (first : List ℕ) × (last : List ℕ) × (job : ℕ) × IsNode instance.now first last node.now
             × IsJob instance.now job × (has (first ++ last) job ≡ false) × IsRow instance.now job row.now }
         ensures { (first last : List ℕ) (job : ℕ) → IsNode instance.now first last node.now →
             IsJob instance.now job → has (first ++ last) job ≡ false → IsRow instance.now job row.now →
             IsNode instance.now (first_with end first job) (last_with end last job) self.new }
     {
-        let machines = usize::from(instance.machines());
+        let machines = known_or::<M>(usize::from(instance.machines()));
         match end {
             End::Front => {
                 front_with(&node.front, &row.times, machines, &mut self.front);

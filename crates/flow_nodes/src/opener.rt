@@ -1,6 +1,6 @@
 //! The children of a node that are below a number, from vectors that the groups of the node share.
 
-ghost use Rattle.std.specs.Prelude.{◌≡◌, ℕ, ◌+◌, ◌/◌, ◌%◌, ◌<◌, ◌≤◌, ◌↔◌, false, List, ◌++◌, length, slice_index};
+ghost use Rattle.std.specs.Prelude.{◌≡◌, ◌⊎◌, ℕ, ◌+◌, ◌/◌, ◌%◌, ◌<◌, ◌≤◌, ◌↔◌, false, List, ◌++◌, length, slice_index};
 ghost use Rattle.std.specs.Prelude.{slice_index_or, IsBitSet, IfOk};
 ghost use Rattle.std.specs.Global.{Vec};
 ghost use Rattle.flow_nodes.specs.declared.node.Node.{Node};
@@ -17,6 +17,7 @@ ghost use Rattle.flow_nodes.specs.internal.Children.{greatest_at};
 ghost use Rattle.flow_nodes.specs.Packs.{HasLeft, HasRoomFor, IsPack, jobs_at, left_below};
 ghost use Rattle.flow_nodes.specs.internal.Spread.{IsSpread};
 
+use crate::few_groups::mark_few;
 use crate::lanes::Lanes;
 use crate::marks::Marks;
 use crate::node::Node;
@@ -24,6 +25,9 @@ use crate::pack::Pack;
 use flow_limits::MAX_MACHINES;
 use flow_shop::{End, Instance, Row, rows};
 use std::alloc::{AllocError, Global};
+
+/// So many groups or fewer are looked at with no vectors that they share.
+const FEW_GROUPS: usize = 3;
 
 /// Opens nodes: finds their children below a number. It has memory for what the groups of a node share.
 #[derive(Drop)]
@@ -216,9 +220,10 @@ impl<V: Lanes> Opener<V> {
         }
     }
 
-    /// Marks the jobs of a pack whose children at an end are below the number, of those left.
+    /// Marks the jobs of a pack whose children at an end are below the number, of those left. The constant is the number
+    /// of machines, or 0.
     #[inline(always)]
-    pub fn mark_below(
+    pub fn mark_below<const M: usize>(
         &mut self,
         node: &Node,
         end: End,
@@ -227,6 +232,8 @@ impl<V: Lanes> Opener<V> {
         below: &mut Marks,
     )
         requires wide { V.WIDTH ≡ 16 }
+        requires constant { (M ≡ 0) ⊎ ((group : ℕ) (none : Vec V) → group < length pack.now.groups.items →
+            M ≡ length (slice_index_or pack.now.groups.items group none).items) }
         requires limit { self.old.limit ≤ V.CAP }
         requires at { (shop : Shop) × (number : ℕ) × (first : List ℕ) × (last : List ℕ)
             × IsNode shop first last node.now × IsPack V.list V.CAP V.WIDTH shop pack.now × HasRoomFor shop self.old
@@ -240,7 +247,18 @@ impl<V: Lanes> Opener<V> {
             HasLeft shop first last pack.now.names.items left.now →
             jobs_at pack.now below.new ≡ left_below shop number end first last }
     {
-        self.write(node, end);
-        self.mark_groups(end, pack.groups.as_slice(), left, below);
+        if pack.groups.len() <= FEW_GROUPS {
+            mark_few::<V, M>(
+                node,
+                end,
+                pack.groups.as_slice(),
+                left,
+                self.limit,
+                below,
+            );
+        } else {
+            self.write(node, end);
+            self.mark_groups(end, pack.groups.as_slice(), left, below);
+        }
     }
 }

@@ -1,13 +1,14 @@
 //! Packs: the times of jobs side by side, sixteen to a group, and the names of the jobs.
 
 ghost use Rattle.std.specs.Prelude.{◌≡◌, ◌≤◌, ◌*◌, [], length, take, IfOk};
+ghost use Rattle.flow_shop.specs.Rows.{AreRows};
 ghost use Rattle.flow_shop.specs.Sequences.{jobs_left};
 ghost use Rattle.flow_nodes.specs.Packs.{HasRoom, IsPack, jobs_at};
 
-use crate::group::{LANES, write_group};
+use crate::group::{LANES, turn_group};
 use crate::lanes::Lanes;
 use crate::marks::Marks;
-use flow_shop::Instance;
+use flow_shop::{Instance, Row};
 use std::alloc::{AllocError, Global};
 
 /// Groups of sixteen jobs.
@@ -36,8 +37,9 @@ impl<V: Lanes> Pack<V> {
     }
 
     /// Writes the times of the jobs named.
-    pub fn load(&mut self, instance: &Instance)
+    pub fn load(&mut self, instance: &Instance, rows: &[Row])
         requires wide { V.WIDTH ≡ 16 }
+        requires rows { AreRows instance.now rows.now }
         requires room { HasRoom instance.now self.old }
         ensures pack { IsPack V.list V.CAP V.WIDTH instance.now self.new }
         ensures names { self.new.names ≡ self.old.names }
@@ -46,13 +48,14 @@ impl<V: Lanes> Pack<V> {
         for group in 0..self.groups.len() {
             let from = group * LANES;
             let names = &self.names[from..from + LANES];
-            write_group(instance, names, self.groups[group].as_mut_slice());
+            turn_group(instance, rows, names, self.groups[group].as_mut_slice());
         }
     }
 
     /// Fills the pack with the jobs that another one has at marked places, in order.
-    pub fn fill(&mut self, instance: &Instance, from: &Pack<V>, marks: &Marks)
+    pub fn fill(&mut self, instance: &Instance, rows: &[Row], from: &Pack<V>, marks: &Marks)
         requires wide { V.WIDTH ≡ 16 }
+        requires rows { AreRows instance.now rows.now }
         requires room { HasRoom instance.now self.old }
         requires from { HasRoom instance.now from.now }
         requires fits { length (jobs_at from.now marks.now) ≤ length self.old.names.items }
@@ -68,12 +71,13 @@ impl<V: Lanes> Pack<V> {
             count += 1;
             next = place + 1;
         }
-        self.load(instance);
+        self.load(instance, rows);
     }
 
     /// Fills the pack with all jobs of an instance, in increasing order.
-    pub fn fill_all(&mut self, instance: &Instance)
+    pub fn fill_all(&mut self, instance: &Instance, rows: &[Row])
         requires wide { V.WIDTH ≡ 16 }
+        requires rows { AreRows instance.now rows.now }
         requires room { HasRoom instance.now self.old }
         requires fits { instance.now.jobs ≤ length self.old.names.items }
         ensures pack { IsPack V.list V.CAP V.WIDTH instance.now self.new }
@@ -83,6 +87,6 @@ impl<V: Lanes> Pack<V> {
         for job in 1..instance.jobs() + 1 {
             self.names[job as usize - 1] = job;
         }
-        self.load(instance);
+        self.load(instance, rows);
     }
 }

@@ -1,6 +1,7 @@
 -- What is kept of the nodes whose children are read.
 use Rattle.std.specs.Prelude.{ℕ, zero, suc, ◌≡◌, ◌+◌, ◌-◌, ◌<◌, ◌≤◌, false, List, [], ◌∷◌, ◌++◌, length, take}
 use Rattle.std.specs.Prelude.{slice_index, slice_index_or}
+use Rattle.std.specs.Global.{Vec}
 use Rattle.std.specs.List.{AllByRecursion}
 use Rattle.flow_shop.specs.Shop.{Shop}
 use Rattle.flow_shop.specs.Sequences.{has}
@@ -79,6 +80,12 @@ pub record HavePacks {V : Type 0} (shop : Shop) (packs : List (Pack V)) : Type 0
   pub rooms : (place : ℕ) (none : Pack V) → place < length packs → HasRoom shop (slice_index_or packs place none)
   pub groups : (place : ℕ) (none : Pack V) → place < length packs →
       length (slice_index_or packs place none).groups.items ≡ place + 1
+
+-- so many machines are those of each group of the pack at a place
+pub record HasMachines {V : Type 0} (machines place : ℕ) (packs : List (Pack V)) : Type 0 where
+  pub each : (none : Pack V) (group : ℕ) (other : Vec V) →
+      group < length (slice_index_or packs place none).groups.items →
+      machines ≡ length (slice_index_or (slice_index_or packs place none).groups.items group other).items
 
 -- the packs of nodes at which so many jobs are left, or more
 pub record ArePacks {V : Type 0} (list : V → List ℕ) (cap width : ℕ) (shop : Shop) (left : ℕ)

@@ -14,7 +14,7 @@ ghost use Rattle.flow_nodes.specs.Marks.{mark, chosen};
 ghost use Rattle.flow_nodes.specs.Packs.{HasLeft, HasRoom, HasRoomFor, IsPack, left_below};
 ghost use Rattle.flow_nodes.specs.declared.pack.Pack.{Pack};
 ghost use Rattle.flow_check.specs.TwoEndedFaults.{HasDirectionsFault};
-ghost use Rattle.flow_check.specs.internal.Frames.{ArePacks, HavePacks, IsNext, IsReady};
+ghost use Rattle.flow_check.specs.internal.Frames.{ArePacks, HasMachines, HavePacks, IsNext, IsReady};
 ghost use Rattle.flow_check.specs.internal.Frames.{frame_at, here, above, names_at};
 ghost use Rattle.flow_check.specs.internal.ReadDirections.{EndsAt, first_end, read_node};
 ghost use Rattle.flow_check.specs.declared.fault.CheckFault.TheVariants.{Memory};
@@ -74,9 +74,17 @@ fn end_at(text: &[u8], place: usize) -> Option<End>
 }
 
 impl NodeFrame {
-    /// Becomes the frame of the child that puts the job of a place at the end of a frame's node.
+    /// Becomes the frame of the child that puts the job of a place at the end of a frame's node. Here and below the
+    /// constant is the number of machines, or 0.
     #[inline(always)]
-    fn become_child(&mut self, frame: &NodeFrame, instance: &Instance, row: &Row, place: usize)
+    fn become_child<const M: usize>(
+        &mut self,
+        frame: &NodeFrame,
+        instance: &Instance,
+        row: &Row,
+        place: usize,
+    )
+        requires constant { (M ≡ 0) ⊎ (M ≡ instance.now.machines) }
         requires place { place < most_jobs }
         requires at { (first : List ℕ) × (last : List ℕ) × (job : ℕ) × IsNode instance.now first last frame.now.node
             × IsJob instance.now job × (has (first ++ last) job ≡ false) × IsRow instance.now job row.now }
@@ -90,7 +98,7 @@ impl NodeFrame {
             self.new.left }
     {
         self.node
-            .become_child(&frame.node, instance, frame.end, row);
+            .become_child::<M>(&frame.node, instance, frame.end, row);
         self.left = frame.left;
         self.left.clear(place);
     }
@@ -98,7 +106,14 @@ impl NodeFrame {
 
 /// Makes the frame behind that of a node the frame of its child that puts the job of a place.
 #[inline(always)]
-fn make_child(frames: &mut [NodeFrame], depth: usize, instance: &Instance, row: &Row, place: usize)
+fn make_child<const M: usize>(
+    frames: &mut [NodeFrame],
+    depth: usize,
+    instance: &Instance,
+    row: &Row,
+    place: usize,
+)
+    requires constant { (M ≡ 0) ⊎ (M ≡ instance.now.machines) }
     requires place { place < most_jobs }
     requires room { depth + 1 < length frames.old }
     requires at { (first : List ℕ) × (last : List ℕ) × (job : ℕ)
@@ -117,12 +132,19 @@ fn make_child(frames: &mut [NodeFrame], depth: usize, instance: &Instance, row: 
         (last_with (frame_at frames.old depth).end last job) names (frame_at frames.new (depth + 1)).left }
 {
     let (above, deeper) = frames.split_at_mut(depth + 1);
-    deeper[0].become_child(&above[depth], instance, row, place);
+    deeper[0].become_child::<M>(&above[depth], instance, row, place);
 }
 
 /// Fills the pack of so many groups with the jobs at marked places of the pack that has one group more.
-fn refill<V: Lanes>(packs: &mut [Pack<V>], instance: &Instance, groups: usize, left: &Marks)
+fn refill<V: Lanes>(
+    packs: &mut [Pack<V>],
+    instance: &Instance,
+    rows: &[Row],
+    groups: usize,
+    left: &Marks,
+)
     requires wide { V.WIDTH ≡ 16 }
+    requires rows { AreRows instance.now rows.now }
     requires some { 1 ≤ groups }
     requires more { groups < length packs.old }
     requires rooms { (none : Pack V) → HasRoom instance.now (slice_index_or packs.old (groups - 1) none) }
@@ -139,7 +161,7 @@ fn refill<V: Lanes>(packs: &mut [Pack<V>], instance: &Instance, groups: usize, l
         ≡ chosen left.now.words (names_at packs.old groups) }
 {
     let (fewer, more) = packs.split_at_mut(groups);
-    fewer[groups - 1].fill(instance, &more[0], left);
+    fewer[groups - 1].fill(instance, rows, &more[0], left);
 }
 
 impl<V: Lanes> Path<V> {
@@ -147,10 +169,12 @@ impl<V: Lanes> Path<V> {
     fn new(
         alloc: Global,
         instance: &Instance,
+        rows: &[Row],
         node: Node,
         limit: u32,
     ) -> Result<Path<V>, AllocError>
         requires wide { V.WIDTH ≡ 16 }
+        requires rows { AreRows instance.now rows.now }
         ensures size { IfOk result (λ path. length path.frames.items ≡ instance.now.jobs) }
         ensures depth { IfOk result (λ path. path.depth ≡ 0) }
         ensures node { IfOk result (λ path. (here path).node ≡ node) }
@@ -167,7 +191,7 @@ impl<V: Lanes> Path<V> {
             let pack = Pack::new(alloc, instance, packs.len() + 1)?;
             packs.push(pack)?;
         }
-        packs[group_count(jobs) - 1].fill_all(instance);
+        packs[group_count(jobs) - 1].fill_all(instance, rows);
         let root = NodeFrame {
             node,
             left: Marks::first(jobs),
@@ -185,8 +209,9 @@ impl<V: Lanes> Path<V> {
 
     /// Begins with the children of the node at an end, of those below the number, where so many groups of jobs are left.
     #[inline(always)]
-    fn open(&mut self, end: End, groups: usize)
+    fn open<const M: usize>(&mut self, end: End, groups: usize)
         requires wide { V.WIDTH ≡ 16 }
+        requires constant { (M ≡ 0) ⊎ HasMachines M (groups - 1) self.old.packs.items }
         requires limit { self.old.opener.limit ≤ V.CAP }
         requires some { 1 ≤ groups }
         requires few { groups ≤ length self.old.packs.items }
@@ -212,7 +237,7 @@ impl<V: Lanes> Path<V> {
     {
         let frame = &mut self.frames[self.depth];
         frame.end = end;
-        self.opener.mark_below(
+        self.opener.mark_below::<M>(
             &frame.node,
             end,
             &self.packs[groups - 1],
@@ -258,7 +283,8 @@ impl<V: Lanes> Path<V> {
 
     /// Goes to the child of the node that the job of a place makes, at the end of the node.
     #[inline(always)]
-    fn put(&mut self, instance: &Instance, rows: &[Row], place: usize)
+    fn put<const M: usize>(&mut self, instance: &Instance, rows: &[Row], place: usize)
+        requires constant { (M ≡ 0) ⊎ (M ≡ instance.now.machines) }
         requires place { place < most_jobs }
         requires rows { AreRows instance.now rows.now }
         requires room { self.old.depth + 1 < length self.old.frames.items }
@@ -281,7 +307,7 @@ impl<V: Lanes> Path<V> {
     {
         let depth = self.depth;
         let job = self.frames[depth].job;
-        make_child(
+        make_child::<M>(
             self.frames.as_mut_slice(),
             depth,
             instance,
@@ -292,8 +318,9 @@ impl<V: Lanes> Path<V> {
     }
 
     /// Packs the jobs left at the node anew, so many of them, which are whole groups.
-    fn pack(&mut self, instance: &Instance, left: u16)
+    fn pack(&mut self, instance: &Instance, rows: &[Row], left: u16)
         requires wide { V.WIDTH ≡ 16 }
+        requires rows { AreRows instance.now rows.now }
         requires whole { left % 16 ≡ 0 }
         requires some { 1 ≤ left }
         requires few { left < instance.now.jobs }
@@ -319,6 +346,7 @@ impl<V: Lanes> Path<V> {
         refill(
             self.packs.as_mut_slice(),
             instance,
+            rows,
             group_count(left),
             &frame.left,
         );
@@ -328,8 +356,9 @@ impl<V: Lanes> Path<V> {
     /// Goes to the child of the node that the job of a place makes, at the end of the node, where so many jobs are left.
     /// Where these are whole groups, they are packed anew.
     #[inline(always)]
-    fn go(&mut self, instance: &Instance, rows: &[Row], place: usize, left: u16)
+    fn go<const M: usize>(&mut self, instance: &Instance, rows: &[Row], place: usize, left: u16)
         requires wide { V.WIDTH ≡ 16 }
+        requires constant { (M ≡ 0) ⊎ (M ≡ instance.now.machines) }
         requires place { place < most_jobs }
         requires rows { AreRows instance.now rows.now }
         requires room { self.old.depth + 1 < length self.old.frames.items }
@@ -352,22 +381,23 @@ impl<V: Lanes> Path<V> {
             (last_with (here self.old).end last (here self.old).job)
             (names_at self.new.packs.items (group_count left - 1)) (here self.new).left }
     {
-        self.put(instance, rows, place);
+        self.put::<M>(instance, rows, place);
         let spare = left as usize % LANES;
         if spare == 0 {
-            self.pack(instance, left);
+            self.pack(instance, rows, left);
         }
     }
 }
 
 /// Where the directions end, at the beginning of a text, that prove a number; or the first fault.
-fn walk<V: Lanes>(
+fn walk<V: Lanes, const M: usize>(
     alloc: Global,
     instance: &Instance,
     number: u64,
     text: &[u8],
 ) -> Result<usize, CheckFault>
     requires wide { V.WIDTH ≡ 16 }
+    requires constant { (M ≡ 0) ⊎ (M ≡ instance.now.machines) }
     requires number { limit_of number ≤ V.CAP }
     ensures within { IfOk result (λ place. place ≤ length text.now) }
     ensures read { EndsAt text.now (read_node instance.now number instance.now.jobs [] [] text.now) result
@@ -378,12 +408,12 @@ fn walk<V: Lanes>(
         return Ok(0);
     }
     let rows = rows(alloc, instance)?;
-    let mut path = Path::<V>::new(alloc, instance, root, limit_of(number))?;
+    let mut path = Path::<V>::new(alloc, instance, rows.as_slice(), root, limit_of(number))?;
     let Some(end) = end_at(text, 0) else {
         return Err(CheckFault::Tree(DIRECTIONS));
     };
     let mut left = instance.jobs();
-    path.open(end, group_count(left));
+    path.open::<M>(end, group_count(left));
     let mut place = 1;
     'walk: loop {
         match path.next(group_count(left)) {
@@ -402,11 +432,31 @@ fn walk<V: Lanes>(
                     return Err(CheckFault::Tree(DIRECTIONS));
                 };
                 left -= 1;
-                path.go(instance, rows.as_slice(), at, left);
-                path.open(end, group_count(left));
+                path.go::<M>(instance, rows.as_slice(), at, left);
+                path.open::<M>(end, group_count(left));
                 place += 1;
             }
         }
+    }
+}
+
+/// The same with narrow lanes, in which the number has to fit.
+fn walk_narrow(
+    alloc: Global,
+    instance: &Instance,
+    number: u64,
+    text: &[u8],
+) -> Result<usize, CheckFault>
+    requires { limit_of number ≤ 65535 }
+    ensures within { IfOk result (λ place. place ≤ length text.now) }
+    ensures read { EndsAt text.now (read_node instance.now number instance.now.jobs [] [] text.now) result
+        ⊎ (result ≡ Err Memory) }
+{
+    match instance.machines() {
+        5 => walk::<u16x16, 5>(alloc, instance, number, text),
+        10 => walk::<u16x16, 10>(alloc, instance, number, text),
+        20 => walk::<u16x16, 20>(alloc, instance, number, text),
+        _ => walk::<u16x16, 0>(alloc, instance, number, text),
     }
 }
 
@@ -424,8 +474,8 @@ pub(crate) fn directions_end(
         HasDirectionsFault instance.now number instance.now.jobs [] [] text.now fault ⊎ (fault ≡ Memory)) }
 {
     if fits_narrow_lanes(number) {
-        walk::<u16x16>(alloc, instance, number, text)
+        walk_narrow(alloc, instance, number, text)
     } else {
-        walk::<u32x16>(alloc, instance, number, text)
+        walk::<u32x16, 0>(alloc, instance, number, text)
     }
 }

@@ -10,7 +10,7 @@ use Rattle.flow_check.specs.internal.Frames.{ArePacks, IsNext, IsOpen, IsReady, 
 use Rattle.flow_check.specs.internal.Frames.{above, names_at}
 use Rattle.flow_check.specs.internal.ReadDirections.{first_end, read_node}
 use Rattle.flow_check.proofs.DirectionSteps.{read-sign}
-use Rattle.flow_check.proofs.PackNames.{names-count, packs-above}
+use Rattle.flow_check.proofs.PackNames.{names-count, pack-machines, packs-above}
 use Rattle.flow_check.proofs.WalkSteps.{IsOpened, Stands, count-above, last-above}
 use Rattle.flow_check.proofs.WalkSteps.{path-opened, stands-root, stands-back}
 use Rattle.flow_check.proofs.WalkSteps.{fails-low, fails-sign}
@@ -74,6 +74,18 @@ walk-init g c =
           (stands-root shop number text names (here new) low some
           (sym c.in-Some.ensures.value ∙ ap Some (sym c.open.ensures.end)) opened_all.below opened_all.frame);
     }
+
+pub open-requires-clause-constant : goal.open-requires-clause-constant
+open-requires-clause-constant g c =
+    let made = c.in_ok-path.ensures in
+    pack-machines c.args.instance.now c.in_ok-path.path.packs.items g.row.M (c.group_count.result - 1) made.packs.have
+    (omega (
+      arith,
+      c.group_count.ensures,
+      c.jobs-left.ensures.value,
+      c.root-root.ensures.limits.some_job,
+      made.packs.have.count,
+    )) c.requires.constant
 
 pub next-requires-clause-names : goal.next-requires-clause-names
 next-requires-clause-names g c =
@@ -255,6 +267,19 @@ go-requires-clause-at g c =
       turn-next shop number whole text c.walk.place c.walk.left groups c.in-Some-next.at old mid at
           c.group_count-in-walk.ensures turn (c.walk.left - 1) refl,
     )
+
+pub open-requires-in-Some-next-clause-constant : goal.open-requires-in-Some-next-clause-constant
+open-requires-in-Some-next-clause-constant g c =
+    pack-machines c.args.instance.now c.go.new.self.packs.items g.row.M (c.group_count-in-Some-next.result - 1)
+    c.go.ensures.packs.have
+    (omega (
+      arith,
+      c.group_count-in-Some-next.ensures,
+      c.go.ensures.packs.have.count,
+      c.walk.invariant.left,
+      c.walk.invariant.some,
+      c.if-left-eq1.false,
+    )) c.requires.constant
 
 pub open-requires-in-Some-next-clause-at : goal.open-requires-in-Some-next-clause-at
 open-requires-in-Some-next-clause-at g c =

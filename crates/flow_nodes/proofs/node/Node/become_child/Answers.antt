@@ -8,49 +8,49 @@ use Rattle.flow_nodes.proofs.node.Node.become_child.Goals as goal
 use Rattle.flow_nodes.proofs.node.Node.become_child.Goals.{in-Front, in-Back}
 
 pub front_with-requires-clause-small : goal.front_with-requires-clause-small
-front_with-requires-clause-small c place low =
-    fronts-within c.args.instance.now c.requires.0 c.requires.1 c.args.node.now c.requires.3 place
-    (omega (arith, low, c.from-machines.ensures, c.machines.ensures.value))
+front_with-requires-clause-small g c place low =
+    fronts-within c.args.instance.now c.requires.at.0 c.requires.at.1 c.args.node.now c.requires.at.3 place
+    (omega (arith, low, c.known_or-machines.ensures, c.from.ensures, c.machines.ensures.value))
 
 pub front_with-requires-clause-times : goal.front_with-requires-clause-times
-front_with-requires-clause-times c place low =
-    row-small c.args.instance.now c.requires.2 c.args.row.now place c.requires.3.limits c.requires.6
-    (omega (arith, low, c.from-machines.ensures, c.machines.ensures.value))
+front_with-requires-clause-times g c place low =
+    row-small c.args.instance.now c.requires.at.2 c.args.row.now place c.requires.at.3.limits c.requires.at.6
+    (omega (arith, low, c.known_or-machines.ensures, c.from.ensures, c.machines.ensures.value))
 
 pub back_with-requires-clause-small : goal.back_with-requires-clause-small
-back_with-requires-clause-small c place low =
-    backs-within c.args.instance.now c.requires.0 c.requires.1 c.args.node.now c.requires.3 place
-    (omega (arith, low, c.from-machines.ensures, c.machines.ensures.value))
+back_with-requires-clause-small g c place low =
+    backs-within c.args.instance.now c.requires.at.0 c.requires.at.1 c.args.node.now c.requires.at.3 place
+    (omega (arith, low, c.known_or-machines.ensures, c.from.ensures, c.machines.ensures.value))
 
 pub back_with-requires-clause-times : goal.back_with-requires-clause-times
-back_with-requires-clause-times c place low =
-    row-small c.args.instance.now c.requires.2 c.args.row.now place c.requires.3.limits c.requires.6
-    (omega (arith, low, c.from-machines.ensures, c.machines.ensures.value))
+back_with-requires-clause-times g c place low =
+    row-small c.args.instance.now c.requires.at.2 c.args.row.now place c.requires.at.3.limits c.requires.at.6
+    (omega (arith, low, c.known_or-machines.ensures, c.from.ensures, c.machines.ensures.value))
 
 pub work_without-requires-clause-covers : goal.work_without-requires-clause-covers
-work_without-requires-clause-covers c place low =
+work_without-requires-clause-covers g c place low =
     let shop = c.args.instance.now in
-    let within : place < shop.machines = omega (arith, low, c.from-machines.ensures, c.machines.ensures.value) in
+    let within : place < shop.machines = omega (arith, low, c.known_or-machines.ensures, c.from.ensures, c.machines.ensures.value) in
     let same : place ≡ place + 1 - 1 = omega arith in
     omega (
       arith,
       ap (slice_index c.args.row.now.times) same,
       ap (slice_index c.args.node.now.work) same,
-      (c.requires.6 (place + 1) (omega arith) (omega (arith, within))).0,
-      work-covers shop c.requires.0 c.requires.1 c.args.node.now c.requires.2 (place + 1) c.requires.3 c.requires.4
-          c.requires.5 (omega arith) (omega (arith, within)),
+      (c.requires.at.6 (place + 1) (omega arith) (omega (arith, within))).0,
+      work-covers shop c.requires.at.0 c.requires.at.1 c.args.node.now c.requires.at.2 (place + 1) c.requires.at.3 c.requires.at.4
+          c.requires.at.5 (omega arith) (omega (arith, within)),
     )
 
 pub returns : goal.returns
-returns c first last job is range fresh row =
+returns g c first last job is range fresh row =
     child-node c.args.instance.now c.args.end first last job c.args.node.now (record {
       front = c.match-end.self.front;
       back = c.match-end.self.back;
       work = c.work_without.new.fewer;
     }) is range fresh fronts backs works
   where
-    few : c.from-machines.result ≡ c.args.instance.now.machines
-    few = omega (arith, c.from-machines.ensures, c.machines.ensures.value)
+    few : c.known_or-machines.result ≡ c.args.instance.now.machines
+    few = omega (arith, c.known_or-machines.ensures, c.from.ensures, c.machines.ensures.value)
 
     times : AreOf c.args.instance.now (time c.args.instance.now job) c.args.row.now.times
     times = row-times c.args.instance.now job c.args.row.now row

@@ -10,7 +10,7 @@ loop-group-preserved g c =
     let group = c.loop-group.group in
     let groups = c.loop-group.self.groups.items in
     let names = c.loop-group.self.names.items in
-    let vector = with_items c.index_mut.result.now c.write_group.new.group in
+    let vector = with_items c.index_mut.result.now c.turn_group.new.group in
     let long : group < length groups = omega (
       arith,
       c.loop-group-test.true,
@@ -18,21 +18,21 @@ loop-group-preserved g c =
       c.loop-group.invariant.count,
       c.args.self.now.groups.ok.0,
     ) in
-    let wide : length c.write_group.new.group ≡ c.index_mut.result.now.len = omega (
+    let wide : length c.turn_group.new.group ≡ c.index_mut.result.now.len = omega (
       arith,
-      c.write_group.ensures.machines,
+      c.turn_group.ensures.machines,
       c.loop-group.invariant.room.machines group c.index_mut.result.now long,
       ap (λ v. length v.items) c.index_mut.ensures.value,
       c.index_mut.result.now.ok.0,
     ) in
-    let is : vector.items ≡ c.write_group.new.group =
-    with_items_is c.index_mut.result.now c.write_group.new.group wide in
+    let is : vector.items ≡ c.turn_group.new.group =
+    with_items_is c.index_mut.result.now c.turn_group.new.group wide in
     let size : group * 16 + 16 - group * 16 ≡ 16 = omega arith in
     let part = ap (λ n. take n (drop (group * 16) c.deref.result.now)) size
     ∙ ap (λ l. take 16 (drop (group * 16) l)) c.deref.ensures.value in
     record {
       room = room-grouped c.args.instance.now groups group vector long c.loop-group.self _ c.loop-group.invariant.room
-          refl refl refl (ap length is ∙ c.write_group.ensures.machines);
+          refl refl refl (ap length is ∙ c.turn_group.ensures.machines);
       names = c.loop-group.invariant.names;
       count = length-set groups group vector ∙ c.loop-group.invariant.count;
       done = groups-more c.args.instance.now groups group vector long g.V.Lanes.list g.V.Lanes.CAP g.V.Lanes.WIDTH names
@@ -40,5 +40,5 @@ loop-group-preserved g c =
           (subst (IsGroup g.V.Lanes.list g.V.Lanes.CAP g.V.Lanes.WIDTH c.args.instance.now
           (take 16 (drop (group * 16) names))) (sym is)
           (subst (λ l. IsGroup g.V.Lanes.list g.V.Lanes.CAP g.V.Lanes.WIDTH c.args.instance.now l
-          c.write_group.new.group) part c.write_group.ensures));
+          c.turn_group.new.group) part c.turn_group.ensures));
     }

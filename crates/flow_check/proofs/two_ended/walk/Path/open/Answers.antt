@@ -1,4 +1,4 @@
-use Rattle.std.proofs.Common.{◌≡◌, ◌-◌, ◌<◌, length, slice_index_or, ap, sym, ◌∙◌, subst, arith}
+use Rattle.std.proofs.Common.{◌≡◌, ◌-◌, ◌<◌, length, slice_index_or, ap, sym, ◌∙◌, subst, inl, inr, arith}
 use Rattle.std.proofs.lemmas.List.{get_or-set_same, get_or_default}
 use Rattle.flow_nodes.specs.Nodes.{IsNode}
 use Rattle.flow_nodes.specs.Marks.{chosen}
@@ -6,6 +6,20 @@ use Rattle.flow_nodes.specs.Packs.{HasLeft, IsPack}
 use Rattle.flow_check.specs.internal.Frames.{here, names_at}
 use Rattle.flow_check.proofs.PackNames.{names-is}
 use Rattle.flow_check.proofs.two_ended.walk.Path.open.Goals as goal
+
+pub mark_below-requires-clause-constant : goal.mark_below-requires-clause-constant
+mark_below-requires-clause-constant g c =
+    let packs = c.args.self.now.packs.items in
+    let pack = c.index.result.now in
+    let pack_is : pack ≡ slice_index_or packs (c.args.groups - 1) pack = c.index.ensures in
+    elim c.requires.constant [
+      | inl none ↦ inl none
+      | inr all ↦
+          inr (λ group other low.
+          all.each pack group other
+          (omega (arith, low, ap (λ p. length p.groups.items) pack_is))
+          ∙ ap (λ p. length (slice_index_or p.groups.items group other).items) (sym pack_is))
+    ]
 
 pub returns-clause-below : goal.returns-clause-below
 returns-clause-below g c shop number first last ready =
