@@ -2,6 +2,7 @@
 
 ghost use Rattle.std.specs.Prelude.{◌≡◌, ◌↔◌, ℕ, ◌<◌, ◌≤◌, Err, List, [], ◌++◌, length, take, IfOk, OnOk};
 ghost use Rattle.flow_shop.specs.Ends.{end_bound};
+ghost use Rattle.flow_shop.specs.Rows.{AreRows};
 ghost use Rattle.flow_shop.specs.Sequences.{jobs_left, AreJobs};
 ghost use Rattle.flow_nodes.specs.Groups.{group_count};
 ghost use Rattle.flow_nodes.specs.Packs.{HasRoom, IsPack};
@@ -14,7 +15,7 @@ use crate::found::ProveFault;
 use crate::lists::Lists;
 use crate::tree::Tree;
 use flow_nodes::{Lanes, Marks, Node, Pack, group_count};
-use flow_shop::{End, Instance, JobSet, insert_all};
+use flow_shop::{End, Instance, JobSet, Row, insert_all};
 use std::alloc::{AllocError, Global};
 
 /// The node at which a search begins.
@@ -67,8 +68,9 @@ impl StartNode {
     }
 
     /// Fills a pack with the jobs left, in order.
-    fn pack<V: Lanes>(&self, instance: &Instance, pack: &mut Pack<V>)
+    fn pack<V: Lanes>(&self, instance: &Instance, rows: &[Row], pack: &mut Pack<V>)
         requires wide { V.WIDTH ≡ 16 }
+        requires rows { AreRows instance.now rows.now }
         requires room { HasRoom instance.now pack.old }
         requires fits { self.now.left ≤ length pack.old.names.items }
         requires start { (first : List ℕ) × (last : List ℕ) × IsStart instance.now first last self.now }
@@ -84,7 +86,7 @@ impl StartNode {
                 count += 1;
             }
         }
-        pack.load(instance);
+        pack.load(instance, rows);
     }
 
     /// Opens the node at the first place of a tree's list, which has none yet. The jobs left are packed in the last pack.
@@ -110,7 +112,7 @@ impl StartNode {
     {
         tree.grow(instance, 1)?;
         let pack = &mut tree.packs[group_count(self.left) - 1];
-        self.pack(instance, pack);
+        self.pack(instance, tree.opener.rows.as_slice(), pack);
         let root = &mut tree.nodes[0];
         root.node = self.node;
         root.left = Marks::first(self.left);

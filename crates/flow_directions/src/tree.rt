@@ -4,6 +4,7 @@ ghost use Rattle.std.specs.Prelude.{◌≡◌, ◌≢◌, ℕ, ◌+◌, ◌-◌,
 ghost use Rattle.std.specs.Prelude.{set, slice_index_or, IfOk, OnOk};
 ghost use Rattle.flow_shop.specs.Shop.{Shop};
 ghost use Rattle.flow_shop.specs.Ends.{end_bound};
+ghost use Rattle.flow_shop.specs.Rows.{AreRows};
 ghost use Rattle.flow_shop.specs.Sequences.{jobs_left};
 ghost use Rattle.flow_shop.specs.Directions.{first_with, last_with};
 ghost use Rattle.flow_nodes.specs.Lanes.{limit_of};
@@ -15,7 +16,7 @@ ghost use Rattle.flow_directions.specs.internal.Tree.{IsOpenAt, IsTree};
 ghost use Rattle.flow_nodes.specs.declared.open.OpenNode.{OpenNode};
 
 use flow_nodes::{LANES, Lanes, Marks, OpenNode, Opener, Pack, Put};
-use flow_shop::Instance;
+use flow_shop::{Instance, Row};
 use std::alloc::{AllocError, Global};
 
 /// The open nodes of a search, and what they share.
@@ -92,8 +93,15 @@ fn make_child<V: Lanes>(
 
 /// Fills the pack of so many groups with the jobs at marked places of the pack that has one group more.
 #[inline(always)]
-fn refill<V: Lanes>(packs: &mut [Pack<V>], instance: &Instance, groups: usize, left: &Marks)
+fn refill<V: Lanes>(
+    packs: &mut [Pack<V>],
+    instance: &Instance,
+    rows: &[Row],
+    groups: usize,
+    left: &Marks,
+)
     requires wide { V.WIDTH ≡ 16 }
+    requires rows { AreRows instance.now rows.now }
     requires some { 1 ≤ groups }
     requires more { groups < length packs.old }
     requires rooms { (none : Pack V) → HasRoom instance.now (slice_index_or packs.old (groups - 1) none) }
@@ -108,7 +116,7 @@ fn refill<V: Lanes>(packs: &mut [Pack<V>], instance: &Instance, groups: usize, l
         ≡ jobs_at (slice_index_or packs.old groups none) left.now) }
 {
     let (fewer, more) = packs.split_at_mut(groups);
-    fewer[groups - 1].fill(instance, &more[0], left);
+    fewer[groups - 1].fill(instance, rows, &more[0], left);
 }
 
 impl<V: Lanes> Tree<V> {
@@ -235,6 +243,7 @@ impl<V: Lanes> Tree<V> {
         refill(
             self.packs.as_mut_slice(),
             instance,
+            self.opener.rows.as_slice(),
             groups,
             &self.nodes[at].left,
         );

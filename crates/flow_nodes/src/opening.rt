@@ -284,7 +284,7 @@ impl<V: Lanes> Opener<V> {
         let row = &self.rows[usize::from(pack.names[put.place]) - 1];
         child
             .node
-            .become_child(&parent.node, instance, put.end, row);
+            .become_child::<0>(&parent.node, instance, put.end, row);
         child.left = parent.left;
         child.left.clear(put.place);
         let groups = pack.groups.len();

@@ -10,8 +10,8 @@ use Rattle.flow_nodes.proofs.OpenSteps.{kept-children}
 use Rattle.flow_nodes.proofs.PutSteps.{put-job, put-was, put-fresh, put-below, put-row, put-left}
 use Rattle.flow_nodes.proofs.opener.Opener.open_child.Goals as goal
 
-pub become_child-requires : goal.become_child-requires
-become_child-requires g c =
+pub become_child-requires-clause-at : goal.become_child-requires-clause-at
+become_child-requires-clause-at g c =
     let at = c.requires.at in
     let end = c.args.put.end in
     let place : ℕ = c.args.put.place in (
