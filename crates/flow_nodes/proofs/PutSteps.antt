@@ -51,7 +51,8 @@ module _ {V : Type 0} {list : V → List ℕ} {cap width : ℕ} {shop : Shop} {n
     put-was = (children-are end).within place inside marked
 
     pub put-fresh : has (first ++ last) job ≡ false
-    put-fresh = marked-left shop.jobs (first ++ last) parent.left.words pack.names.items is.has_left place inside put-was
+    put-fresh =
+        marked-left shop.jobs (first ++ last) parent.left.words pack.names.items is.has_left place inside put-was
 
     -- the child is below the number
     pub put-below : child_bound shop end first last job < number

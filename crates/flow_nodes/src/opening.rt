@@ -57,8 +57,8 @@ impl<V: Lanes> Opener<V> {
         }
     }
 
-    /// Finds the children of a node at an end that are below the number, and when their jobs start there, among the jobs
-    /// left that stand in the groups, once what the groups share there is written.
+    /// Finds the children of a node at an end that are below the number, and when their jobs start there, among the
+    /// jobs left that stand in the groups, once what the groups share there is written.
     #[inline(always)]
     fn find_children(&self, end: End, groups: &[Vec<V>], left: &Marks, children: &mut Children<V>)
         requires wide { V.WIDTH ≡ 16 }
@@ -108,9 +108,9 @@ impl<V: Lanes> Opener<V> {
         children.count = children.below.count(groups.len());
     }
 
-    /// Finds the children of a node at an end that are below the number, where its parent has the same list: among those
-    /// that are marked, from their starts at the parent, the time of the jobs left, and what is at the other end. Copies
-    /// the starts.
+    /// Finds the children of a node at an end that are below the number, where its parent has the same list: among
+    /// those that are marked, from their starts at the parent, the time of the jobs left, and what is at the other end.
+    /// Copies the starts.
     #[inline(always)]
     fn keep_children(
         &self,

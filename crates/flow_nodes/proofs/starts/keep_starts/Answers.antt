@@ -22,8 +22,8 @@ loop-place-preserved g c =
     let below : place < length c.args.starts.now = c.loop-place-test.true in
     record {
       copied = λ at none low.
-          spread-more (λ p v. v ≡ slice_index_or c.args.starts.now p none) c.loop-place.kept place c.index-starts-place.result
-          (omega (arith, below, c.requires.kept, c.loop-place.auto.kept))
+          spread-more (λ p v. v ≡ slice_index_or c.args.starts.now p none) c.loop-place.kept place
+          c.index-starts-place.result (omega (arith, below, c.requires.kept, c.loop-place.auto.kept))
           (c.index-starts-place.is ∙ get_or_default c.args.starts.now place c.index-starts-place.result none below)
           (λ p d under. c.loop-place.invariant.copied p d under
           ∙ get_or_default c.args.starts.now p d none (omega (arith, under, below))) at none low;

@@ -276,8 +276,8 @@ returns-in-Back-clause-child g c number first last is is_pack has_room limit mar
           c.clear-in-Back.ensures.others at cleared in
           (c.clear.ensures.others at apart ∙ is.at_front.within at low was, was))
           (λ at low was also. c.keep_children-in-Back.ensures.exact shop number Front (first_with Back first job)
-          (last_with Back last job) (slice_index names at) node at (c.open_at-in-Back.ensures.limit ∙ limit) room is_node
-          refl refl (is_pack.room.jobs at low)
+          (last_with Back last job) (slice_index names at) node at (c.open_at-in-Back.ensures.limit ∙ limit) room
+          is_node refl refl (is_pack.room.jobs at low)
           (marked-left shop.jobs (first_with Back first job ++ last_with Back last job) left.words names has_left at
           low was) (under at low)
           (c.clear-in-Back.ensures.others at
