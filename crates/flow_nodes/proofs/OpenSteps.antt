@@ -385,6 +385,7 @@ kept-children list cap width shop number end first last names put node old left 
           (start_at shop (opposite end) (first_with end first put) (last_with end last put) (slice_index names place)
           machine)) (sym (copied place none inside marked))
           (subst (HasLane cap width (list (slice_index_or (slice_index_or parent.starts.items (place / 16) none).items
-          (machine - 1) zero)) (place % 16)) (sym (same-start shop end first last put (slice_index names place) machine))
+          (machine - 1) zero)) (place % 16))
+          (sym (same-start shop end first last put (slice_index names place) machine))
           (are.starts place machine none zero inside ((within place inside marked).1) on));
     }

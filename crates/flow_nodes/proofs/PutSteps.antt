@@ -1,6 +1,6 @@
 -- A job that is put at an end of a node: one of its children there that are below the number.
-use Rattle.std.proofs.Common.{◌≡◌, ℕ, ◌-◌, ◌<◌, false, List, ◌∷◌, ◌++◌, length, get_or, slice_index, slice_index_or}
-use Rattle.std.proofs.Common.{ap, sym, ◌∙◌, subst, arith}
+use Rattle.std.proofs.Common.{◌≡◌, ◌≢◌, ℕ, ◌-◌, ◌<◌, false, List, ◌∷◌, ◌++◌, length, get_or, slice_index}
+use Rattle.std.proofs.Common.{slice_index_or, ap, sym, ◌∙◌, subst, arith}
 use Rattle.std.proofs.lemmas.List.{get_or_read}
 use Rattle.flow_shop.specs.Shop.{Shop}
 use Rattle.flow_shop.specs.Rows.{IsRow, AreRows}
@@ -20,6 +20,15 @@ use Rattle.flow_nodes.specs.declared.open.OpenNode.{OpenNode}
 use Rattle.flow_nodes.proofs.JobsMarked.{marked-left}
 use Rattle.flow_nodes.proofs.LeftSteps.{left-parted}
 use Rattle.flow_nodes.proofs.OpenSteps.{below-number}
+
+-- of marks that of a place is taken away
+module _ (old new : List ℕ) (place : ℕ) (is : mark new place ≡ 0)
+    (others : (other : ℕ) → other ≢ place → mark new other ≡ mark old other) where
+  pub cleared-apart : (at : ℕ) → mark new at ≡ 1 → at ≢ place
+  cleared-apart at one same = omega (arith, ap (mark new) same, is, one)
+
+  pub cleared-was : (at : ℕ) → mark new at ≡ 1 → mark old at ≡ 1
+  cleared-was at one = sym (others at (cleared-apart at one)) ∙ one
 
 module _ {V : Type 0} {list : V → List ℕ} {cap width : ℕ} {shop : Shop} {number : ℕ} {first last : List ℕ}
     {pack : Pack V} {parent : OpenNode V} (is : IsOpenNode list cap width shop number first last pack parent) where
@@ -42,7 +51,8 @@ module _ {V : Type 0} {list : V → List ℕ} {cap width : ℕ} {shop : Shop} {n
     put-was = (children-are end).within place inside marked
 
     pub put-fresh : has (first ++ last) job ≡ false
-    put-fresh = marked-left shop.jobs (first ++ last) parent.left.words pack.names.items is.has_left place inside put-was
+    put-fresh =
+        marked-left shop.jobs (first ++ last) parent.left.words pack.names.items is.has_left place inside put-was
 
     -- the child is below the number
     pub put-below : child_bound shop end first last job < number

@@ -16,7 +16,7 @@ ghost use Rattle.flow_nodes.specs.Groups.{IsGroup, child_bound, most_groups};
 ghost use Rattle.flow_nodes.specs.Marks.{chosen, mark};
 ghost use Rattle.flow_nodes.specs.Packs.{HasLeft, HasRoomFor, IsPack};
 ghost use Rattle.flow_nodes.specs.Open.{AreChildren, HasRoomToOpen, HasStartRoom, IsOpenNode, children_at, start_at};
-ghost use Rattle.flow_nodes.specs.internal.Spread.{HasRest, IsSpread};
+ghost use Rattle.flow_nodes.specs.internal.Spread.{IsSpread, at_other_end};
 
 use crate::lanes::Lanes;
 use crate::marks::Marks;
@@ -28,30 +28,9 @@ use crate::starts::{keep_starts, starts_at_back, starts_at_front};
 use flow_limits::MAX_MACHINES;
 use flow_shop::{End, Instance};
 
-/// Writes vectors with the same number in each lane: the sums of two lists.
-#[inline(always)]
-fn spread_sums<V: Lanes>(
-    work: &[u32; MAX_MACHINES],
-    far: &[u32; MAX_MACHINES],
-    rest_lanes: &mut [V],
-)
-    requires machines { length rest_lanes.old ≤ most_machines }
-    requires rest { (place : ℕ) → place < length rest_lanes.old →
-        slice_index work.now place + slice_index far.now place ≤ V.CAP }
-    requires small { (place : ℕ) → place < length rest_lanes.old →
-        slice_index work.now place + slice_index far.now place < 4294967295 }
-    ensures { (place lane : ℕ) (none : V) → place < length rest_lanes.old → lane < V.WIDTH →
-        HasLane V.CAP V.WIDTH (V.list (slice_index_or rest_lanes.new place none)) lane
-        (slice_index work.now place + slice_index far.now place) }
-{
-    for place in 0..rest_lanes.len() {
-        rest_lanes[place] = V::each(work[place] + far[place]);
-    }
-}
-
 impl<V: Lanes> Opener<V> {
-    /// The bounds of the children that put the jobs of a group at an end, once what the groups share there is written. A
-    /// lane whose job is not left has some number. Writes when the jobs start there.
+    /// The bounds of the children that put the jobs of a group at an end, once what the groups share there is written.
+    /// A lane whose job is not left has some number. Writes when the jobs start there.
     #[inline(always)]
     fn bounds_with_starts(&self, end: End, group: &[V], starts: &mut [V]) -> V
         requires near { length self.now.near.items ≡ length group.now }
@@ -78,8 +57,8 @@ impl<V: Lanes> Opener<V> {
         }
     }
 
-    /// Finds the children of a node at an end that are below the number, and when their jobs start there, among the jobs
-    /// left that stand in the groups, once what the groups share there is written.
+    /// Finds the children of a node at an end that are below the number, and when their jobs start there, among the
+    /// jobs left that stand in the groups, once what the groups share there is written.
     #[inline(always)]
     fn find_children(&self, end: End, groups: &[Vec<V>], left: &Marks, children: &mut Children<V>)
         requires wide { V.WIDTH ≡ 16 }
@@ -129,31 +108,34 @@ impl<V: Lanes> Opener<V> {
         children.count = children.below.count(groups.len());
     }
 
-    /// Finds the children of a node at an end that are below the number, where its parent has the same list: among the
-    /// jobs left that were below the number at the parent, from their starts there, once the rest is written. Copies the
-    /// starts.
+    /// Finds the children of a node at an end that are below the number, where its parent has the same list: among
+    /// those that are marked, from their starts at the parent, the time of the jobs left, and what is at the other end.
+    /// Copies the starts.
     #[inline(always)]
     fn keep_children(
         &self,
         groups: usize,
-        left: &Marks,
+        work: &[u32; MAX_MACHINES],
+        far: &[u32; MAX_MACHINES],
         parent: &Children<V>,
         children: &mut Children<V>,
     )
         requires wide { V.WIDTH ≡ 16 }
         requires limit { self.now.limit ≤ V.CAP }
         requires few { groups ≤ most_groups }
-        requires room { (shop : Shop) × HasRoomFor shop self.now × HasStartRoom shop groups parent.now.starts.items
-            × HasStartRoom shop groups children.old.starts.items }
+        requires room { (shop : Shop) × (shop.machines ≤ most_machines)
+            × HasStartRoom shop groups parent.now.starts.items × HasStartRoom shop groups children.old.starts.items
+            × ((place : ℕ) → place < shop.machines →
+            (slice_index work.now place + slice_index far.now place ≤ V.CAP)
+            × (slice_index work.now place + slice_index far.now place < 4294967295)) }
         ensures room { (shop : Shop) (count : ℕ) → HasStartRoom shop count children.old.starts.items →
             HasStartRoom shop count children.new.starts.items }
         ensures within { (place : ℕ) → place / 16 < groups → mark children.new.below.words place ≡ 1 →
-            (mark left.now.words place ≡ 1) × (mark parent.now.below.words place ≡ 1) }
+            mark children.old.below.words place ≡ 1 }
         ensures exact { (shop : Shop) (number : ℕ) (end : End) (first last : List ℕ) (job : ℕ) (node : Node)
-            (place : ℕ) → self.now.limit ≡ limit_of number → HasRoomFor shop self.now → IsNode shop first last node →
-            HasRest V.list V.CAP V.WIDTH end node self.now.rest.items → IsJob shop job →
-            has (first ++ last) job ≡ false → place / 16 < groups → mark left.now.words place ≡ 1 →
-            mark parent.now.below.words place ≡ 1 →
+            (place : ℕ) → self.now.limit ≡ limit_of number → HasStartRoom shop groups parent.now.starts.items →
+            IsNode shop first last node → work.now ≡ node.work → far.now ≡ at_other_end end node → IsJob shop job →
+            has (first ++ last) job ≡ false → place / 16 < groups → mark children.old.below.words place ≡ 1 →
             ((machine : ℕ) (none : Vec V) (zero : V) → IsMachine shop machine →
             HasLane V.CAP V.WIDTH (V.list (slice_index_or
             (slice_index_or parent.now.starts.items (place / 16) none).items (machine - 1) zero)) (place % 16)
@@ -166,34 +148,17 @@ impl<V: Lanes> Opener<V> {
         ensures count { (names : List ℕ) → length names ≡ groups * 16 →
             children.new.count ≡ length (chosen children.new.below.words names) }
     {
-        let rest = self.rest.as_slice();
         for group in 0..groups {
-            let word = left.words[group] & parent.below.words[group];
+            let word = children.below.words[group];
             if word != 0 {
                 let starts = children.starts[group].as_mut_slice();
-                let bounds = keep_starts(parent.starts[group].as_slice(), rest, starts);
+                let bounds = keep_starts(parent.starts[group].as_slice(), work, far, starts);
                 children.below.words[group] = (bounds.below(self.limit) & u64::from(word)) as u16;
             } else {
                 children.below.words[group] = 0;
             }
         }
         children.count = children.below.count(groups);
-    }
-
-    /// Writes what the groups of a node share at an end, but for what is there.
-    #[inline(always)]
-    fn write_rest(&mut self, node: &Node, end: End)
-        requires { (shop : Shop) × (first : List ℕ) × (last : List ℕ) × IsNode shop first last node.now
-            × HasRoomFor shop self.old × (end_bound shop first last ≤ V.CAP) }
-        ensures limit { self.new.limit ≡ self.old.limit }
-        ensures room { (shop : Shop) → HasRoomFor shop self.old → HasRoomFor shop self.new }
-        ensures rest { HasRest V.list V.CAP V.WIDTH end node.now self.new.rest.items }
-    {
-        let rest = self.rest.as_mut_slice();
-        match end {
-            End::Front => spread_sums(&node.work, &node.back, rest),
-            End::Back => spread_sums(&node.work, &node.front, rest),
-        }
     }
 
     /// Opens a node at one end. Its jobs left stand at marked places of a pack.
@@ -291,13 +256,29 @@ impl<V: Lanes> Opener<V> {
         match put.end {
             End::Front => {
                 self.open_at(End::Front, pack, &child.node, &child.left, &mut child.front);
-                self.write_rest(&child.node, End::Back);
-                self.keep_children(groups, &child.left, &parent.back, &mut child.back);
+                child.back.below = parent.back.below;
+                child.back.below.clear(put.place);
+                let node = &child.node;
+                self.keep_children(
+                    groups,
+                    &node.work,
+                    &node.front,
+                    &parent.back,
+                    &mut child.back,
+                );
             }
             End::Back => {
                 self.open_at(End::Back, pack, &child.node, &child.left, &mut child.back);
-                self.write_rest(&child.node, End::Front);
-                self.keep_children(groups, &child.left, &parent.front, &mut child.front);
+                child.front.below = parent.front.below;
+                child.front.below.clear(put.place);
+                let node = &child.node;
+                self.keep_children(
+                    groups,
+                    &node.work,
+                    &node.back,
+                    &parent.front,
+                    &mut child.front,
+                );
             }
         }
     }

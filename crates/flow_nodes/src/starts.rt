@@ -1,7 +1,8 @@
-//! When the jobs of a group start at an end of a node, side by side, and the bounds of the children that put them there.
+//! When the jobs of a group start at an end of a node, side by side, and the bounds of the children there.
 
-ghost use Rattle.std.specs.Prelude.{◌≡◌, ℕ, ◌-◌, ◌<◌, List, length, slice_index, slice_index_or};
+ghost use Rattle.std.specs.Prelude.{◌≡◌, ℕ, ◌+◌, ◌-◌, ◌<◌, ◌≤◌, List, length, slice_index, slice_index_or};
 ghost use Rattle.flow_nodes.specs.declared.node.Node.{Node};
+ghost use Rattle.flow_limits.specs.Limits.{most_machines};
 ghost use Rattle.flow_shop.specs.Shop.{Shop};
 ghost use Rattle.flow_shop.specs.declared.end.End.{End};
 ghost use Rattle.flow_shop.specs.declared.end.End.TheVariants.{Front, Back};
@@ -10,9 +11,10 @@ ghost use Rattle.flow_nodes.specs.Nodes.{IsMachine, IsNode};
 ghost use Rattle.flow_nodes.specs.Groups.{IsGroup};
 ghost use Rattle.flow_nodes.specs.Open.{start_at};
 ghost use Rattle.flow_nodes.specs.internal.Children.{greatest_at};
-ghost use Rattle.flow_nodes.specs.internal.Spread.{HasRest, IsSpread};
+ghost use Rattle.flow_nodes.specs.internal.Spread.{IsSpread, at_other_end};
 
 use crate::lanes::Lanes;
+use flow_limits::MAX_MACHINES;
 
 /// The bounds of the children that put the jobs of a group at the front. Writes when the jobs start there.
 #[inline(always)]
@@ -71,14 +73,24 @@ pub(crate) fn starts_at_back<V: Lanes>(near: &[V], rest: &[V], group: &[V], star
     bounds
 }
 
-/// The bounds of the children that put the jobs of a group at an end, from their starts there. Copies the starts.
+/// The bounds of the children that put the jobs of a group at an end, from their starts there, the time of the jobs
+/// left, and what is at the other end. Copies the starts.
 #[inline(always)]
-pub(crate) fn keep_starts<V: Lanes>(starts: &[V], rest: &[V], kept: &mut [V]) -> V
-    requires rest { length rest.now ≡ length starts.now }
+pub(crate) fn keep_starts<V: Lanes>(
+    starts: &[V],
+    work: &[u32; MAX_MACHINES],
+    far: &[u32; MAX_MACHINES],
+    kept: &mut [V],
+) -> V
+    requires machines { length starts.now ≤ most_machines }
+    requires rest { (place : ℕ) → place < length starts.now →
+        slice_index work.now place + slice_index far.now place ≤ V.CAP }
+    requires small { (place : ℕ) → place < length starts.now →
+        slice_index work.now place + slice_index far.now place < 4294967295 }
     requires kept { length kept.old ≡ length starts.now }
     ensures copied { kept.new ≡ starts.now }
     ensures bounds { (shop : Shop) (end : End) (first last : List ℕ) (job : ℕ) (node : Node) (lane : ℕ) →
-        IsNode shop first last node → HasRest V.list V.CAP V.WIDTH end node rest.now →
+        IsNode shop first last node → work.now ≡ node.work → far.now ≡ at_other_end end node →
         length starts.now ≡ shop.machines → lane < V.WIDTH →
         ((machine : ℕ) (none : V) → IsMachine shop machine →
         HasLane V.CAP V.WIDTH (V.list (slice_index_or starts.now (machine - 1) none)) lane
@@ -89,7 +101,7 @@ pub(crate) fn keep_starts<V: Lanes>(starts: &[V], rest: &[V], kept: &mut [V]) ->
     for place in 0..starts.len() {
         let start = starts[place];
         kept[place] = start;
-        bounds = bounds.at_least(start.plus(rest[place]));
+        bounds = bounds.at_least(start.plus(V::each(work[place] + far[place])));
     }
     bounds
 }

@@ -1,5 +1,5 @@
-use Rattle.std.proofs.Common.{rules, ◌≡◌, ◌≢◌, ◌↔◌, ℕ, ◌-◌, ◌/◌, ◌%◌, ◌<◌, List, length, slice_index, slice_index_or, set}
-use Rattle.std.proofs.Common.{refl, ap, sym, ◌∙◌, subst, arith, inl, inr}
+use Rattle.std.proofs.Common.{rules, ◌≡◌, ◌≢◌, ◌↔◌, ℕ, ◌-◌, ◌/◌, ◌%◌, ◌<◌, List, length}
+use Rattle.std.proofs.Common.{slice_index, slice_index_or, set, refl, ap, sym, ◌∙◌, subst, arith, inl, inr}
 use Rattle.std.specs.Global.{Vec}
 use Rattle.std.specs.Vec.{with_items}
 use Rattle.std.proofs.lemmas.Bool.{cases_lt}
@@ -117,12 +117,12 @@ loop-group-preserved g c =
             starts = λ shop first last jobs node place machine none zero is spread under are was on.
                 let start : ℕ = start_at shop c.args.end first last (slice_index jobs (place % 16)) machine in
                 subst (λ l. HasLane cap width
-                (list (slice_index_or (slice_index_or l (place / 16) none).items (machine - 1) zero)) (place % 16) start)
-                (sym starts_are) (elim (cases_lt (place / 16) group) [
+                (list (slice_index_or (slice_index_or l (place / 16) none).items (machine - 1) zero)) (place % 16)
+                start) (sym starts_are) (elim (cases_lt (place / 16) group) [
                   | inl before ↦
                       let apart : place / 16 ≢ group = omega (arith, before) in
-                      subst (λ v. HasLane cap width (list (slice_index_or v.items (machine - 1) zero)) (place % 16) start)
-                      (sym (get_or-set_other starts group (place / 16) vector none apart))
+                      subst (λ v. HasLane cap width (list (slice_index_or v.items (machine - 1) zero)) (place % 16)
+                      start) (sym (get_or-set_other starts group (place / 16) vector none apart))
                       (here.starts shop first last jobs node place machine none zero is spread before are was on)
                   | inr above ↦
                       let there : place / 16 ≡ group = omega (arith, above, under) in

@@ -1,18 +1,17 @@
-use Rattle.std.proofs.Common.{rules, ◌≡◌, ◌≢◌, ◌↔◌, ℕ, ◌-◌, ◌/◌, ◌%◌, ◌<◌, length, slice_index_or, set, refl, ap, sym, ◌∙◌}
-use Rattle.std.proofs.Common.{subst, arith, inl, inr}
+use Rattle.std.proofs.Common.{rules, ◌≡◌, ◌≢◌, ◌↔◌, ℕ, ◌-◌, ◌/◌, ◌%◌, ◌<◌, length, slice_index_or, set, refl, ap, sym}
+use Rattle.std.proofs.Common.{◌∙◌, subst, arith, inl, inr}
 use Rattle.std.specs.Global.{Vec}
 use Rattle.std.specs.Vec.{with_items}
 use Rattle.std.proofs.lemmas.Bool.{cases_lt}
-use Rattle.std.proofs.lemmas.Nat.Bits.{bit_at-zero}
 use Rattle.std.proofs.lemmas.List.{get_or_default, get_or-set_same, get_or-set_other, length-set, with_items_is}
 use Rattle.flow_nodes.specs.Lanes.{HasLane}
 use Rattle.flow_nodes.specs.Groups.{child_bound}
 use Rattle.flow_nodes.specs.Marks.{mark}
 use Rattle.flow_nodes.specs.Open.{HasStartRoom, start_at}
-use Rattle.flow_nodes.specs.internal.Spread.{HasRest}
 use Rattle.flow_nodes.proofs.ChildSteps.{greatest-is-bound}
-use Rattle.flow_nodes.proofs.MarkSteps.{mark-elsewhere, mark-there}
-use Rattle.flow_nodes.proofs.OpenSteps.{start-room, met-within, met-exact, none-twice, job-tells}
+use Rattle.flow_nodes.proofs.MarkSteps.{mark-elsewhere}
+use Rattle.flow_nodes.proofs.BelowSteps.{written-within, written-exact, none-left, none-written}
+use Rattle.flow_nodes.proofs.OpenSteps.{start-room, job-tells}
 use Rattle.flow_nodes.proofs.opener.Opener.keep_children.Goals as goal
 use Rattle.flow_nodes.proofs.opener.Opener.keep_children.Goals.{then-word-ne0, else-word-ne0}
 
@@ -21,7 +20,8 @@ loop-group-init g c = record {
   size = search rules;
   room = λ shop count room. room;
   within = λ place under marked. absurd (omega (arith, under));
-  exact = λ shop number end first last job node place limit room is has_rest range fresh under was also starts.
+  later = λ place high. refl;
+  exact = λ shop number end first last job node place limit room is work_is far_is range fresh under was starts.
       absurd (omega (arith, under));
   copied = λ place none under marked. absurd (omega (arith, under));
 }
@@ -30,6 +30,39 @@ pub index_mut-requires : goal.index_mut-requires
 index_mut-requires g c =
     let room = c.loop-group.invariant.room c.requires.room.0 c.args.groups c.requires.room.3 in
     omega (arith, c.loop-group-test.true, room.enough, c.loop-group.children.starts.ok.0)
+
+pub keep_starts-bounds-requires-clause-machines : goal.keep_starts-bounds-requires-clause-machines
+keep_starts-bounds-requires-clause-machines g c =
+    let parent = c.requires.room.2 in
+    omega (
+      arith,
+      ap length c.as_slice.ensures.value,
+      ap (λ v. length v.items) c.index.ensures,
+      parent.machines c.loop-group.group c.index.result.now (omega (arith, c.loop-group-test.true, parent.enough)),
+      c.requires.room.1,
+    )
+
+pub keep_starts-bounds-requires-clause-rest : goal.keep_starts-bounds-requires-clause-rest
+keep_starts-bounds-requires-clause-rest g c place low =
+    let parent = c.requires.room.2 in
+    (c.requires.room.4 place (omega (
+      arith,
+      low,
+      ap length c.as_slice.ensures.value,
+      ap (λ v. length v.items) c.index.ensures,
+      parent.machines c.loop-group.group c.index.result.now (omega (arith, c.loop-group-test.true, parent.enough)),
+    ))).0
+
+pub keep_starts-bounds-requires-clause-small : goal.keep_starts-bounds-requires-clause-small
+keep_starts-bounds-requires-clause-small g c place low =
+    let parent = c.requires.room.2 in
+    (c.requires.room.4 place (omega (
+      arith,
+      low,
+      ap length c.as_slice.ensures.value,
+      ap (λ v. length v.items) c.index.ensures,
+      parent.machines c.loop-group.group c.index.result.now (omega (arith, c.loop-group-test.true, parent.enough)),
+    ))).1
 
 pub keep_starts-bounds-requires-clause-kept : goal.keep_starts-bounds-requires-clause-kept
 keep_starts-bounds-requires-clause-kept g c =
@@ -55,14 +88,15 @@ loop-group-preserved g c =
     let group : ℕ = c.loop-group.group in
     let words = c.loop-group.children.below.words in
     let starts = c.loop-group.children.starts.items in
-    let left = c.args.left.now.words in
-    let below = c.args.parent.now.below.words in
     let old = c.args.parent.now.starts.items in
+    let before_all = c.args.children.now.below.words in
     let room = here.room c.requires.room.0 c.args.groups c.requires.room.3 in
     let parent = c.requires.room.2 in
     let few : group < length words = omega (arith, here.size, c.loop-group-test.true, c.requires.few) in
     let long : group < length starts = omega (arith, c.loop-group-test.true, room.enough) in
     let old_long : group < length old = omega (arith, c.loop-group-test.true, parent.enough) in
+    let still : (place : ℕ) → place / 16 ≡ group → mark words place ≡ mark before_all place =
+    λ place there. here.later place (omega (arith, there)) in
     elim c.if-word-ne0.branch [
       | then-word-ne0 w ↦
           let kept = w.keep_starts-bounds.new.kept in
@@ -91,18 +125,23 @@ loop-group-preserved g c =
                   (sym (ap (λ m. mark m place) words_are ∙ mark-elsewhere words group _ place apart) ∙ marked)
               | inr above ↦
                   let there : place / 16 ≡ group = omega (arith, above, under) in
-                  met-within left below words group w.below.result w.from.result place few w.from.ensures there
+                  sym (still place there)
+                  ∙ written-within words words group w.below.result w.from.result place few w.from.ensures there
                   (sym (ap (λ m. mark m place) words_are) ∙ marked)
             ];
-            exact = λ shop number end first last job node place limit has_room is_node has_rest range fresh under was
-                also starts_are_there.
+            later = λ place high.
+                let apart : place / 16 ≢ group = omega (arith, high) in
+                ap (λ m. mark m place) words_are ∙ mark-elsewhere words group _ place apart
+                ∙ here.later place (omega (arith, high));
+            exact = λ shop number end first last job node place limit has_room is_node work_is far_is range fresh under
+                was starts_are_there.
                 let bound = child_bound shop end first last job in
                 subst (λ m. mark m place ≡ 1 ↔ (bound < number)) (sym words_are) (elim (cases_lt (place / 16) group) [
                   | inl before ↦
                       let apart : place / 16 ≢ group = omega (arith, before) in
                       subst (λ n. n ≡ 1 ↔ (bound < number)) (sym (mark-elsewhere words group _ place apart))
-                      (here.exact shop number end first last job node place limit has_room is_node has_rest range fresh
-                      before was also starts_are_there)
+                      (here.exact shop number end first last job node place limit has_room is_node work_is far_is range
+                      fresh before was starts_are_there)
                   | inr above ↦
                       let there : place / 16 ≡ group = omega (arith, above, under) in
                       let lane : ℕ = place % 16 in
@@ -114,23 +153,19 @@ loop-group-preserved g c =
                         arith,
                         ap length w.as_slice.ensures.value,
                         ap (λ v. length v.items) w.index.ensures,
-                        parent.machines group w.index.result.now old_long,
-                        has_room.rest_count,
-                        c.requires.room.1.rest_count,
+                        has_room.machines group w.index.result.now old_long,
                       ) in
-                      let shared : HasRest list cap width end node c.as_slice-rest.result.now =
-                      subst (HasRest list cap width end node) (sym c.as_slice-rest.ensures.value) has_rest in
                       let has_bound : HasLane cap width (list w.keep_starts-bounds.result) lane bound =
                       subst (λ n. HasLane cap width (list w.keep_starts-bounds.result) lane n)
                       (greatest-is-bound shop first last job node is_node range end fresh)
-                      (w.keep_starts-bounds.ensures.bounds shop end first last job node lane is_node shared machines
-                      (omega (arith, c.requires.wide))
+                      (w.keep_starts-bounds.ensures.bounds shop end first last job node lane is_node work_is far_is
+                      machines (omega (arith, c.requires.wide))
                       (λ machine none on. subst
                       (λ l. HasLane cap width (list (slice_index_or l (machine - 1) none)) lane
                       (start_at shop end first last job machine)) items
                       (starts_are_there machine w.index.result.now none on))) in
-                      met-exact left below words group w.below.result w.from.result place few w.from.ensures there
-                      bound number was also
+                      written-exact words words group w.below.result w.from.result place few w.from.ensures there
+                      bound number (still place there ∙ was)
                       (job-tells shop number c.args.self.now.limit end first last node job w.below.result lane is_node
                       range limit fresh (w.below.ensures.each lane bound has_bound))
                 ]);
@@ -158,8 +193,7 @@ loop-group-preserved g c =
           λ place there marked. omega (
             arith,
             ap (λ m. mark m place) words_are,
-            mark-there words group 0 place few there,
-            bit_at-zero (place % 16),
+            none-written words words group _ place few refl w.if-word-ne0.false there,
             marked,
           ) in
           record {
@@ -172,19 +206,28 @@ loop-group-preserved g c =
                   (sym (ap (λ m. mark m place) words_are ∙ mark-elsewhere words group 0 place apart) ∙ marked)
               | inr above ↦ absurd (none_there place (omega (arith, above, under)) marked)
             ];
-            exact = λ shop number end first last job node place limit has_room is_node has_rest range fresh under was
-                also starts_are_there.
+            later = λ place high.
+                let apart : place / 16 ≢ group = omega (arith, high) in
+                ap (λ m. mark m place) words_are ∙ mark-elsewhere words group 0 place apart
+                ∙ here.later place (omega (arith, high));
+            exact = λ shop number end first last job node place limit has_room is_node work_is far_is range fresh under
+                was starts_are_there.
                 let bound = child_bound shop end first last job in
                 elim (cases_lt (place / 16) group) [
                   | inl before ↦
                       let apart : place / 16 ≢ group = omega (arith, before) in
                       subst (λ m. mark m place ≡ 1 ↔ (bound < number)) (sym words_are)
                       (subst (λ n. n ≡ 1 ↔ (bound < number)) (sym (mark-elsewhere words group 0 place apart))
-                      (here.exact shop number end first last job node place limit has_room is_node has_rest range fresh
-                      before was also starts_are_there))
+                      (here.exact shop number end first last job node place limit has_room is_node work_is far_is range
+                      fresh before was starts_are_there))
                   | inr above ↦
                       let there : place / 16 ≡ group = omega (arith, above, under) in
-                      absurd (none-twice left below words group 0 _ place few refl there w.if-word-ne0.false was also)
+                      absurd (omega (
+                        arith,
+                        none-left words words group _ place few refl w.if-word-ne0.false there,
+                        still place there,
+                        was,
+                      ))
                 ];
             copied = λ place none under marked. elim (cases_lt (place / 16) group) [
               | inl before ↦
@@ -205,8 +248,8 @@ returns-clause-within g c place under =
     c.loop-group.invariant.within place (omega (arith, under, c.loop-group-test.false))
 
 pub returns-clause-exact : goal.returns-clause-exact
-returns-clause-exact g c shop number end first last job node place limit room is has_rest range fresh under =
-    c.loop-group.invariant.exact shop number end first last job node place limit room is has_rest range fresh
+returns-clause-exact g c shop number end first last job node place limit room is work_is far_is range fresh under =
+    c.loop-group.invariant.exact shop number end first last job node place limit room is work_is far_is range fresh
     (omega (arith, under, c.loop-group-test.false))
 
 pub returns-clause-copied : goal.returns-clause-copied

@@ -1,4 +1,4 @@
-use Rattle.std.proofs.Common.{◌≡◌, ◌↔◌, ℕ, ◌-◌, ◌/◌, ◌%◌, ◌<◌, false, List, ◌++◌, length, slice_index_or}
+use Rattle.std.proofs.Common.{◌≡◌, ◌↔◌, ℕ, ◌-◌, ◌/◌, ◌%◌, ◌<◌, ◌≤◌, false, List, ◌++◌, length, slice_index_or}
 use Rattle.std.specs.Global.{Vec}
 use Rattle.flow_shop.specs.Shop.{Shop}
 use Rattle.flow_shop.specs.Sequences.{has}
@@ -7,9 +7,8 @@ use Rattle.flow_nodes.specs.Lanes.{HasLane, limit_of}
 use Rattle.flow_nodes.specs.Nodes.{IsJob, IsMachine, IsNode}
 use Rattle.flow_nodes.specs.Groups.{child_bound, most_groups}
 use Rattle.flow_nodes.specs.Marks.{mark}
-use Rattle.flow_nodes.specs.Packs.{HasRoomFor}
 use Rattle.flow_nodes.specs.Open.{HasStartRoom, start_at}
-use Rattle.flow_nodes.specs.internal.Spread.{HasRest}
+use Rattle.flow_nodes.specs.internal.Spread.{at_other_end}
 use Rattle.flow_nodes.specs.declared.node.Node.{Node}
 use Rattle.flow_nodes.proofs.opener.Opener.keep_children.Given as goal
 
@@ -20,12 +19,13 @@ invariant-loop-group g l = record {
   room : (shop : Shop) (count : ℕ) → HasStartRoom shop count l.fn.children.starts.items →
       HasStartRoom shop count l.children.starts.items;
   within : (place : ℕ) → place / 16 < l.group → mark l.children.below.words place ≡ 1 →
-      (mark l.left.words place ≡ 1) × (mark l.parent.below.words place ≡ 1);
+      mark l.fn.children.below.words place ≡ 1;
+  later : (place : ℕ) → l.group ≤ place / 16 →
+      mark l.children.below.words place ≡ mark l.fn.children.below.words place;
   exact : (shop : Shop) (number : ℕ) (end : End) (first last : List ℕ) (job : ℕ) (node : Node) (place : ℕ) →
-      l.self.limit ≡ limit_of number → HasRoomFor shop l.self → IsNode shop first last node →
-      HasRest g.V.Lanes.list g.V.Lanes.CAP g.V.Lanes.WIDTH end node l.self.rest.items → IsJob shop job →
-      has (first ++ last) job ≡ false → place / 16 < l.group → mark l.left.words place ≡ 1 →
-      mark l.parent.below.words place ≡ 1 →
+      l.self.limit ≡ limit_of number → HasStartRoom shop l.groups l.parent.starts.items →
+      IsNode shop first last node → l.work ≡ node.work → l.far ≡ at_other_end end node → IsJob shop job →
+      has (first ++ last) job ≡ false → place / 16 < l.group → mark l.fn.children.below.words place ≡ 1 →
       ((machine : ℕ) (none : Vec g.row.V.Denot) (zero : g.row.V.Denot) → IsMachine shop machine →
       HasLane g.V.Lanes.CAP g.V.Lanes.WIDTH (g.V.Lanes.list (slice_index_or
       (slice_index_or l.parent.starts.items (place / 16) none).items (machine - 1) zero)) (place % 16)

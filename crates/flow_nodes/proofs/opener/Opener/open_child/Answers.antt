@@ -1,13 +1,13 @@
-use Rattle.std.proofs.Common.{◌≡◌, ℕ, ◌*◌, ◌/◌, ◌<◌, ◌++◌, length, slice_index, sym, ◌∙◌, subst, arith}
+use Rattle.std.proofs.Common.{◌≡◌, ℕ, ◌*◌, ◌/◌, ◌<◌, ◌++◌, length, slice_index, refl, sym}
+use Rattle.std.proofs.Common.{◌∙◌, subst, arith}
 use Rattle.flow_shop.specs.Directions.{first_with, last_with}
 use Rattle.flow_shop.specs.declared.end.End.TheVariants.{Front, Back}
 use Rattle.flow_nodes.specs.Nodes.{IsNode}
-use Rattle.flow_nodes.specs.Open.{IsOpenNode}
-use Rattle.flow_nodes.proofs.SpreadSteps.{node-small-bound}
-use Rattle.flow_nodes.proofs.MarkSteps.{cleared-fewer}
+use Rattle.flow_nodes.specs.Open.{HasStartRoom, IsOpenNode}
+use Rattle.flow_nodes.proofs.SpreadSteps.{node-within, node-small-bound}
 use Rattle.flow_nodes.proofs.JobsMarked.{marked-left}
 use Rattle.flow_nodes.proofs.OpenSteps.{kept-children}
-use Rattle.flow_nodes.proofs.PutSteps.{put-job, put-was, put-fresh, put-below, put-row, put-left}
+use Rattle.flow_nodes.proofs.PutSteps.{cleared-apart, cleared-was, put-job, put-fresh, put-below, put-row, put-left}
 use Rattle.flow_nodes.proofs.opener.Opener.open_child.Goals as goal
 
 pub become_child-requires-clause-at : goal.become_child-requires-clause-at
@@ -46,37 +46,23 @@ open_at-requires-clause-at g c =
       at.11.at_front,
     )
 
-pub write_rest-requires : goal.write_rest-requires
-write_rest-requires g c =
-    let at = c.requires.at in
-    let end = c.args.put.end in
-    let place : ℕ = c.args.put.place in
-    let job : ℕ = slice_index c.args.pack.now.names.items place in
-    let is = c.become_child.ensures at.1 at.2 job at.3.is_node (put-job at.3 at.4 end place at.8 at.9)
-    (put-fresh at.3 at.4 end place at.8 at.9)
-    (put-row at.3 at.4 end place at.8 at.9 c.args.self.now.rows.items c.index.result.now c.from.result
-    c.index-row.result.now at.5.rows c.index.ensures c.from.ensures c.index-row.ensures) in (
-      c.args.instance.now,
-      first_with end at.1 job,
-      last_with end at.2 job,
-      is,
-      c.open_at.ensures.opener c.args.instance.now at.5,
-      omega (
-        arith,
-        at.6,
-        c.requires.limit,
-        put-below at.3 at.4 end place at.8 at.9,
-        node-small-bound c.args.instance.now (first_with end at.1 job) (last_with end at.2 job)
-            c.become_child.new.self is,
-      ),
-    )
-
 pub keep_children-requires-clause-room : goal.keep_children-requires-clause-room
 keep_children-requires-clause-room g c =
     let at = c.requires.at in
+    let shop = c.args.instance.now in
+    let end = c.args.put.end in
+    let place : ℕ = c.args.put.place in
+    let job : ℕ = slice_index c.args.pack.now.names.items place in
+    let node = c.become_child.new.self in
+    let is = c.become_child.ensures at.1 at.2 job at.3.is_node (put-job at.3 at.4 end place at.8 at.9)
+    (put-fresh at.3 at.4 end place at.8 at.9)
+    (put-row at.3 at.4 end place at.8 at.9 c.args.self.now.rows.items c.index.result.now c.from.result
+    c.index-row.result.now at.5.rows c.index.ensures c.from.ensures c.index-row.ensures) in
+    let under = put-below at.3 at.4 end place at.8 at.9 in
+    let small = node-small-bound shop (first_with end at.1 job) (last_with end at.2 job) node is in
     let long = c.args.pack.now.groups.ok.0 in (
-      c.args.instance.now,
-      c.write_rest.ensures.room c.args.instance.now (c.open_at.ensures.opener c.args.instance.now at.5),
+      shop,
+      is.limits.machines,
       record {
         enough = omega (arith, at.10.at_back.enough, c.len-groups.ensures, long);
         machines = at.10.at_back.machines;
@@ -85,11 +71,14 @@ keep_children-requires-clause-room g c =
         enough = omega (arith, at.11.at_back.enough, c.len-groups.ensures, long);
         machines = at.11.at_back.machines;
       },
+      λ at_place low.
+          let within = node-within shop (first_with end at.1 job) (last_with end at.2 job) node at_place is low in
+          (omega (arith, within, under, at.6, small, c.requires.limit), omega (arith, within, small)),
     )
 
 pub returns-in-Front-clause-opener : goal.returns-in-Front-clause-opener
 returns-in-Front-clause-opener g c shop room =
-    c.write_rest.ensures.room shop (c.open_at.ensures.opener shop room)
+    c.open_at.ensures.opener shop room
 
 pub returns-in-Front-clause-room : goal.returns-in-Front-clause-room
 returns-in-Front-clause-room g c shop groups room = record {
@@ -111,6 +100,17 @@ returns-in-Front-clause-child g c number first last is is_pack has_room limit ma
     let node = c.become_child.new.self in
     let old = c.args.parent.now.left in
     let left = c.clear.new.self in
+    let kept = c.args.parent.now.back.below in
+    let begin = c.clear-in-Front.new.self in
+    let room : HasStartRoom shop c.len-groups.result c.args.parent.now.back.starts.items = record {
+      enough = omega (
+        arith,
+        c.requires.at.10.at_back.enough,
+        c.len-groups.ensures,
+        c.args.pack.now.groups.ok.0,
+      );
+      machines = c.requires.at.10.at_back.machines;
+    } in
     let range = put-job is is_pack end place inside marked in
     let fresh = put-fresh is is_pack end place inside marked in
     let is_node : IsNode shop (first_with Front first job) (last_with Front last job) node =
@@ -131,21 +131,26 @@ returns-in-Front-clause-child g c number first last is is_pack has_room limit ma
     })) (sym c.in-Front.is) (record {
       is_node = is_node;
       has_left = has_left;
-      at_front = c.open_at.ensures.children shop number (first_with Front first job) (last_with Front last job) limit
-          is_node is_pack has_left;
+      at_front = c.open_at.ensures.children shop number (first_with Front first job) (last_with Front last job)
+          limit is_node is_pack has_left;
       at_back = kept-children list cap width shop number Front first last names job c.args.parent.now.node old left
           c.args.parent.now.back c.keep_children.new.children is.is_node range fresh is.has_left has_left
-          (cleared-fewer old.words left.words place (put-was is is_pack end place inside marked) c.clear.ensures.same
-          c.clear.ensures.others)
+          (cleared-was old.words left.words place c.clear.ensures.same c.clear.ensures.others)
           is_pack.room.jobs is.at_back
-          (λ at low one. c.keep_children.ensures.within at (under at low) one)
+          (λ at low one.
+          let cleared = c.keep_children.ensures.within at (under at low) one in
+          let was = cleared-was kept.words begin.words place c.clear-in-Front.ensures.same
+          c.clear-in-Front.ensures.others at cleared in
+          let apart = cleared-apart kept.words begin.words place c.clear-in-Front.ensures.same
+          c.clear-in-Front.ensures.others at cleared in
+          (c.clear.ensures.others at apart ∙ is.at_back.within at low was, was))
           (λ at low was also. c.keep_children.ensures.exact shop number Back (first_with Front first job)
-          (last_with Front last job) (slice_index names at) node at
-          (c.write_rest.ensures.limit ∙ c.open_at.ensures.limit ∙ limit)
-          (c.write_rest.ensures.room shop (c.open_at.ensures.opener shop has_room)) is_node
-          c.write_rest.ensures.rest (is_pack.room.jobs at low)
+          (last_with Front last job) (slice_index names at) node at (c.open_at.ensures.limit ∙ limit) room is_node
+          refl refl (is_pack.room.jobs at low)
           (marked-left shop.jobs (first_with Front first job ++ last_with Front last job) left.words names has_left at
-          low was) (under at low) was also
+          low was) (under at low)
+          (c.clear-in-Front.ensures.others at
+          (cleared-apart old.words left.words place c.clear.ensures.same c.clear.ensures.others at was) ∙ also)
           (λ machine none zero on. is.at_back.starts at machine none zero low also on))
           (λ at none low one. c.keep_children.ensures.copied at none (under at low) one)
           (c.keep_children.ensures.count names count);
@@ -172,37 +177,23 @@ open_at-requires-in-Back-clause-at g c =
       at.11.at_back,
     )
 
-pub write_rest-requires-in-Back : goal.write_rest-requires-in-Back
-write_rest-requires-in-Back g c =
-    let at = c.requires.at in
-    let end = c.args.put.end in
-    let place : ℕ = c.args.put.place in
-    let job : ℕ = slice_index c.args.pack.now.names.items place in
-    let is = c.become_child.ensures at.1 at.2 job at.3.is_node (put-job at.3 at.4 end place at.8 at.9)
-    (put-fresh at.3 at.4 end place at.8 at.9)
-    (put-row at.3 at.4 end place at.8 at.9 c.args.self.now.rows.items c.index.result.now c.from.result
-    c.index-row.result.now at.5.rows c.index.ensures c.from.ensures c.index-row.ensures) in (
-      c.args.instance.now,
-      first_with end at.1 job,
-      last_with end at.2 job,
-      is,
-      c.open_at-in-Back.ensures.opener c.args.instance.now at.5,
-      omega (
-        arith,
-        at.6,
-        c.requires.limit,
-        put-below at.3 at.4 end place at.8 at.9,
-        node-small-bound c.args.instance.now (first_with end at.1 job) (last_with end at.2 job)
-            c.become_child.new.self is,
-      ),
-    )
-
 pub keep_children-requires-in-Back-clause-room : goal.keep_children-requires-in-Back-clause-room
 keep_children-requires-in-Back-clause-room g c =
     let at = c.requires.at in
+    let shop = c.args.instance.now in
+    let end = c.args.put.end in
+    let place : ℕ = c.args.put.place in
+    let job : ℕ = slice_index c.args.pack.now.names.items place in
+    let node = c.become_child.new.self in
+    let is = c.become_child.ensures at.1 at.2 job at.3.is_node (put-job at.3 at.4 end place at.8 at.9)
+    (put-fresh at.3 at.4 end place at.8 at.9)
+    (put-row at.3 at.4 end place at.8 at.9 c.args.self.now.rows.items c.index.result.now c.from.result
+    c.index-row.result.now at.5.rows c.index.ensures c.from.ensures c.index-row.ensures) in
+    let under = put-below at.3 at.4 end place at.8 at.9 in
+    let small = node-small-bound shop (first_with end at.1 job) (last_with end at.2 job) node is in
     let long = c.args.pack.now.groups.ok.0 in (
-      c.args.instance.now,
-      c.write_rest-in-Back.ensures.room c.args.instance.now (c.open_at-in-Back.ensures.opener c.args.instance.now at.5),
+      shop,
+      is.limits.machines,
       record {
         enough = omega (arith, at.10.at_front.enough, c.len-groups.ensures, long);
         machines = at.10.at_front.machines;
@@ -211,11 +202,14 @@ keep_children-requires-in-Back-clause-room g c =
         enough = omega (arith, at.11.at_front.enough, c.len-groups.ensures, long);
         machines = at.11.at_front.machines;
       },
+      λ at_place low.
+          let within = node-within shop (first_with end at.1 job) (last_with end at.2 job) node at_place is low in
+          (omega (arith, within, under, at.6, small, c.requires.limit), omega (arith, within, small)),
     )
 
 pub returns-in-Back-clause-opener : goal.returns-in-Back-clause-opener
 returns-in-Back-clause-opener g c shop room =
-    c.write_rest-in-Back.ensures.room shop (c.open_at-in-Back.ensures.opener shop room)
+    c.open_at-in-Back.ensures.opener shop room
 
 pub returns-in-Back-clause-room : goal.returns-in-Back-clause-room
 returns-in-Back-clause-room g c shop groups room = record {
@@ -237,6 +231,17 @@ returns-in-Back-clause-child g c number first last is is_pack has_room limit mar
     let node = c.become_child.new.self in
     let old = c.args.parent.now.left in
     let left = c.clear.new.self in
+    let kept = c.args.parent.now.front.below in
+    let begin = c.clear-in-Back.new.self in
+    let room : HasStartRoom shop c.len-groups.result c.args.parent.now.front.starts.items = record {
+      enough = omega (
+        arith,
+        c.requires.at.10.at_front.enough,
+        c.len-groups.ensures,
+        c.args.pack.now.groups.ok.0,
+      );
+      machines = c.requires.at.10.at_front.machines;
+    } in
     let range = put-job is is_pack end place inside marked in
     let fresh = put-fresh is is_pack end place inside marked in
     let is_node : IsNode shop (first_with Back first job) (last_with Back last job) node =
@@ -257,21 +262,26 @@ returns-in-Back-clause-child g c number first last is is_pack has_room limit mar
     })) (sym c.in-Back.is) (record {
       is_node = is_node;
       has_left = has_left;
-      at_back = c.open_at-in-Back.ensures.children shop number (first_with Back first job) (last_with Back last job) limit
-          is_node is_pack has_left;
+      at_back = c.open_at-in-Back.ensures.children shop number (first_with Back first job) (last_with Back last job)
+          limit is_node is_pack has_left;
       at_front = kept-children list cap width shop number Back first last names job c.args.parent.now.node old left
           c.args.parent.now.front c.keep_children-in-Back.new.children is.is_node range fresh is.has_left has_left
-          (cleared-fewer old.words left.words place (put-was is is_pack end place inside marked) c.clear.ensures.same
-          c.clear.ensures.others)
+          (cleared-was old.words left.words place c.clear.ensures.same c.clear.ensures.others)
           is_pack.room.jobs is.at_front
-          (λ at low one. c.keep_children-in-Back.ensures.within at (under at low) one)
+          (λ at low one.
+          let cleared = c.keep_children-in-Back.ensures.within at (under at low) one in
+          let was = cleared-was kept.words begin.words place c.clear-in-Back.ensures.same
+          c.clear-in-Back.ensures.others at cleared in
+          let apart = cleared-apart kept.words begin.words place c.clear-in-Back.ensures.same
+          c.clear-in-Back.ensures.others at cleared in
+          (c.clear.ensures.others at apart ∙ is.at_front.within at low was, was))
           (λ at low was also. c.keep_children-in-Back.ensures.exact shop number Front (first_with Back first job)
-          (last_with Back last job) (slice_index names at) node at
-          (c.write_rest-in-Back.ensures.limit ∙ c.open_at-in-Back.ensures.limit ∙ limit)
-          (c.write_rest-in-Back.ensures.room shop (c.open_at-in-Back.ensures.opener shop has_room)) is_node
-          c.write_rest-in-Back.ensures.rest (is_pack.room.jobs at low)
+          (last_with Back last job) (slice_index names at) node at (c.open_at-in-Back.ensures.limit ∙ limit) room
+          is_node refl refl (is_pack.room.jobs at low)
           (marked-left shop.jobs (first_with Back first job ++ last_with Back last job) left.words names has_left at
-          low was) (under at low) was also
+          low was) (under at low)
+          (c.clear-in-Back.ensures.others at
+          (cleared-apart old.words left.words place c.clear.ensures.same c.clear.ensures.others at was) ∙ also)
           (λ machine none zero on. is.at_front.starts at machine none zero low also on))
           (λ at none low one. c.keep_children-in-Back.ensures.copied at none (under at low) one)
           (c.keep_children-in-Back.ensures.count names count);
