@@ -166,12 +166,7 @@ fn write_four<V: Lanes>(block: &[u32; BLOCK], at: usize, group: &mut [V])
 }
 
 /// Writes the group of sixteen jobs, by their rows. A job may stand in several lanes.
-pub(crate) fn turn_group<V: Lanes>(
-    instance: &Instance,
-    rows: &[Row],
-    jobs: &[u16],
-    group: &mut [V],
-)
+pub(crate) fn turn_group<V: Lanes>(instance: &Instance, rows: &[Row], jobs: &[u16], group: &mut [V])
     requires wide { V.WIDTH ≡ 16 }
     requires rows { AreRows instance.now rows.now }
     requires jobs { length jobs.now ≡ 16 }

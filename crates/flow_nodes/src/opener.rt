@@ -248,14 +248,7 @@ impl<V: Lanes> Opener<V> {
             jobs_at pack.now below.new ≡ left_below shop number end first last }
     {
         if pack.groups.len() <= FEW_GROUPS {
-            mark_few::<V, M>(
-                node,
-                end,
-                pack.groups.as_slice(),
-                left,
-                self.limit,
-                below,
-            );
+            mark_few::<V, M>(node, end, pack.groups.as_slice(), left, self.limit, below);
         } else {
             self.write(node, end);
             self.mark_groups(end, pack.groups.as_slice(), left, below);

@@ -8,12 +8,12 @@ mark_few-requires-clause-small g c group none within place low =
     let at = c.requires.at in
     let bound = node-small-bound at.0 at.2 at.3 c.args.node.now at.4 in
     let sum = node-within at.0 at.2 at.3 c.args.node.now place at.4
-        (omega (
-          arith,
-          low,
-          ap (λ l. length (slice_index_or l group none).items) c.as_slice.ensures.value,
-          at.5.room.machines group none (omega (arith, within, ap length c.as_slice.ensures.value)),
-        )) in (
+    (omega (
+      arith,
+      low,
+      ap (λ l. length (slice_index_or l group none).items) c.as_slice.ensures.value,
+      at.5.room.machines group none (omega (arith, within, ap length c.as_slice.ensures.value)),
+    )) in (
       omega (arith, sum, at.7, at.8, c.requires.limit, bound),
       omega (arith, sum, bound),
     )
