@@ -1,6 +1,6 @@
 //! The walk through the nodes that the search opens.
 
-ghost use Rattle.std.specs.Prelude.{◌≡◌, ℕ, ◌+◌, ◌≤◌, List, [], ◌++◌, length, All, IfOk};
+ghost use Rattle.std.specs.Prelude.{◌≡◌, ℕ, ◌+◌, ◌*◌, ◌≤◌, List, [], ◌++◌, length, All, IfOk};
 ghost use Rattle.flow_shop.specs.Shop.{Shop};
 ghost use Rattle.flow_shop.specs.Directions.{sign};
 ghost use Rattle.flow_shop.specs.Sequences.{AreJobs, IsSequence};
