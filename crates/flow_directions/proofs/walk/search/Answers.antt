@@ -7,10 +7,12 @@ use Rattle.flow_shop.proofs.Lists.{some-of}
 use Rattle.flow_nodes.specs.Groups.{group_count}
 use Rattle.flow_nodes.specs.Marks.{chosen}
 use Rattle.flow_nodes.proofs.KeptNodes.{lengths}
-use Rattle.flow_directions.specs.Search.{IsAdvanced, directions_of, first_below, visits}
+use Rattle.flow_shop.specs.Ends.{end_bound}
+use Rattle.flow_directions.specs.Search.{Continues, IsAdvanced, directions_of, first_below, visits}
 use Rattle.flow_directions.specs.internal.Lists.{HasLists}
-use Rattle.flow_directions.specs.internal.Levels.{AreNested, IsAt, StandsBelow, first_of, jobs_of, last_of, met_with}
-use Rattle.flow_directions.specs.internal.Levels.{names_at, names_of}
+use Rattle.flow_directions.specs.internal.Levels.{AreNested, IsAt, IsBegun, IsLevel, IsNext, StandsBelow, first_of}
+use Rattle.flow_directions.specs.internal.Levels.{jobs_of, last_of, met_with, names_at, names_of}
+use Rattle.flow_directions.specs.declared.level.Level.{Level}
 use Rattle.flow_directions.specs.internal.Reached.{IsSequenceAfter}
 use Rattle.flow_directions.proofs.FoundSteps.{each-ok, found-below, found-none, found-over}
 use Rattle.flow_directions.proofs.LevelMoves.{IsTurn}
@@ -18,7 +20,7 @@ use Rattle.flow_directions.proofs.LevelSteps.{lists-pop, lists-push, nested-pop}
 use Rattle.flow_directions.proofs.PackNames.{names-is}
 use Rattle.flow_directions.proofs.SearchReaches.{reached_is_below}
 use Rattle.flow_directions.proofs.WalkStands.{Stands, stands-first, stands-back, stands-done, turn-low, turn-next, turn-open}
-use Rattle.flow_directions.proofs.WalkStands.{turn-over, turn-down}
+use Rattle.flow_directions.proofs.WalkStands.{turn-over, turn-down, turn-stopped}
 use Rattle.flow_directions.proofs.walk.search.Given.{Over}
 use Rattle.flow_directions.proofs.walk.search.Goals as goal
 use Rattle.flow_directions.proofs.walk.search.Goals.{After-next, After-put, In-Some}
@@ -258,14 +260,209 @@ returns-then-left-eq0 g c = record {
       c.sequence_of.ensures.found;
 }
 
+-- where the search stops there, the levels are those above the child
+stopped : (g : Over) (c : After-put g) (first last : List ℕ) (total : ℕ) (levels : List Level) → total ≡ c.args.left →
+    levels ≡ c.walk.levels.items ++ c.next.new.self ∷ [] →
+    Stands g.V.Lanes.list g.V.Lanes.CAP g.V.Lanes.WIDTH c.args.instance.now c.args.terms.number first last c.args.left
+    c.walk.directions.items c.walk.lists c.walk.tree.packs.items c.walk.tree.nodes.items c.walk.levels.items c.walk.here →
+    StandsBelow c.args.instance.now c.args.terms.number (names_of c.walk.tree.packs.items) first last total c.put.new.self
+    levels
+stopped g c first last total levels all levels_are stands =
+    subst (StandsBelow c.args.instance.now c.args.terms.number (names_of c.walk.tree.packs.items) first last total
+    c.put.new.self) (sym levels_are)
+    (turn-stopped g.V.Lanes.list g.V.Lanes.CAP g.V.Lanes.WIDTH c.args.instance.now c.args.terms.number first last
+    c.args.left c.walk.directions.items c.walk.lists c.walk.tree.packs.items c.walk.tree.nodes.items c.walk.levels.items
+    c.walk.here c.next.new.self c.in-Some.place stands (turn g (goal.at.After-put g c).In-Some) total c.put.new.self all
+    (c.put.ensures c.args.instance.now.jobs (first_of first c.walk.levels.items) (last_of last c.walk.levels.items)
+    stands.has_lists))
+
 pub parts_left-requires-then-len-terms-clause-at : goal.parts_left-requires-then-len-terms-clause-at
-parts_left-requires-then-len-terms-clause-at g c = ?
+parts_left-requires-then-len-terms-clause-at g c =
+    let at = c.requires.at in
+    let levels2 = c.push-then-len-terms.new.self.items in
+    let pushed : levels2 ≡ c.walk.levels.items ++ c.next.new.self ∷ [] = c.in_ok-push-in-Some.ensures.items in (
+      c.args.instance.now,
+      c.args.terms.number,
+      at.0,
+      at.1,
+      c.walk.invariant.tree,
+      stopped g (goal.at.parts_left-requires-then-len-terms-clause-at g c).After-put at.0 at.1
+          (c.walk.left - 1 + length levels2) levels2
+          (omega (
+            arith,
+            ap length pushed,
+            length-append c.walk.levels.items (c.next.new.self ∷ []),
+            c.walk.invariant.left,
+            c.walk.invariant.some,
+          ))
+          pushed (c.walk.invariant.stands at.0 at.1 at.2 at.3),
+    )
 
 pub returns-then-len-terms : goal.returns-then-len-terms
-returns-then-len-terms g c = ?
+returns-then-len-terms g c = record {
+  found = λ first last are at.
+      let shop = c.args.instance.now in
+      let number = c.args.terms.number in
+      let packs = c.walk.tree.packs.items in
+      let nodes = c.walk.tree.nodes.items in
+      let levels = c.walk.levels.items in
+      let levels2 = c.push-then-len-terms.new.self.items in
+      let here = c.next.new.self in
+      let put = (goal.at.returns-then-len-terms g c).After-put in
+      let some = (goal.at.After-put g put).In-Some in
+      let stands = c.walk.invariant.stands first last are at in
+      let pushed : levels2 ≡ levels ++ here ∷ [] = c.in_ok-push-in-Some.ensures.items in
+      let total : ℕ = c.walk.left - 1 + length levels2 in
+      let all : total ≡ c.args.left = omega (
+        arith,
+        ap length pushed,
+        length-append levels (here ∷ []),
+        c.walk.invariant.left,
+        c.walk.invariant.some,
+      ) in
+      let below = stopped g put first last total levels2 all pushed stands in
+      let opened = turn-open g.V.Lanes.list g.V.Lanes.CAP g.V.Lanes.WIDTH shop number first last c.args.left
+      c.walk.directions.items c.walk.lists packs nodes levels c.walk.here here c.in-Some.place stands (turn g some) in
+      let continues = turn-over g.V.Lanes.list g.V.Lanes.CAP g.V.Lanes.WIDTH shop number first last c.args.left
+      c.walk.directions.items c.walk.lists packs nodes levels c.walk.here here c.in-Some.place stands (turn g some) in
+      found-over shop number c.args.terms.budget total first last c.walk.directions c.in_ok-parts-in-Some.parts
+      (names_of packs) levels2
+      (omega (arith, c.walk.invariant.within, c.if-len-terms.true, c.len.ensures, c.walk.directions.ok.0))
+      (subst (λ n. Continues (visits shop number first last) c.walk.directions.items (met_with shop number
+      (names_of packs) n first last levels2 (visits shop number (first_of first levels2) (last_of last levels2))))
+      (sym all)
+      (subst (λ ls. Continues (visits shop number first last) c.walk.directions.items (met_with shop number
+      (names_of packs) c.args.left first last ls (visits shop number (first_of first ls) (last_of last ls))))
+      (sym pushed) continues))
+      (subst (λ ls. end_bound shop (first_of first ls) (last_of last ls) < number) (sym pushed)
+      (lists-push (λ f l. end_bound shop f l < number) first last levels here opened.below))
+      (subst (λ ls. 0 < length (jobs_left shop.jobs (first_of first ls ++ last_of last ls))) (sym pushed)
+      (lists-push (λ f l. 0 < length (jobs_left shop.jobs (f ++ l))) first last levels here (omega (
+        arith,
+        stands.is_here.count,
+        count-child shop.jobs here.end (first_of first levels) (last_of last levels) here.job opened.is_job.0
+            opened.is_job.1 opened.left,
+        c.walk.invariant.left,
+        c.walk.invariant.some,
+        c.if-left-eq0.false,
+      ))))
+      (c.in_ok-parts-in-Some.ensures.parts shop number first last c.walk.invariant.tree below)
+      (c.in_ok-parts-in-Some.ensures.each shop number first last c.walk.invariant.tree below are)
+      (omega (
+        arith,
+        c.in_ok-parts-in-Some.ensures.count,
+        ap length pushed,
+        length-append levels (here ∷ []),
+        at.count,
+        c.walk.invariant.left,
+        c.walk.invariant.some,
+        c.if-left-eq0.false,
+      ));
+}
+
+-- the child is searched next
+next : (g : Over) (c : After-put g) (first last : List ℕ) →
+    Stands g.V.Lanes.list g.V.Lanes.CAP g.V.Lanes.WIDTH c.args.instance.now c.args.terms.number first last c.args.left
+    c.walk.directions.items c.walk.lists c.walk.tree.packs.items c.walk.tree.nodes.items c.walk.levels.items c.walk.here →
+    IsNext g.V.Lanes.list g.V.Lanes.CAP g.V.Lanes.WIDTH c.args.instance.now c.args.terms.number
+    c.walk.tree.packs.items c.walk.tree.nodes.items (c.walk.left - 1 + 1) (first_of first c.walk.levels.items)
+    (last_of last c.walk.levels.items) c.in-Some.place c.next.new.self
+next g c first last stands =
+    let packs = c.walk.tree.packs.items in
+    let nodes = c.walk.tree.nodes.items in
+    let levels = c.walk.levels.items in
+    let some = (goal.at.After-put g c).In-Some in
+    let after = (goal.at.In-Some g some).After-next in
+    let pack = c.index.result.now in
+    let place = c.group_count.result - 1 in
+    let have = c.walk.invariant.tree.packs in
+    let more : c.args.left - length levels ≡ c.walk.left - 1 + 1 =
+    omega (arith, c.walk.invariant.left, c.walk.invariant.some) in
+    let size : length (names_of packs (c.args.left - length levels)) ≡ group_count (c.args.left - length levels) * 16 =
+    omega (
+      arith,
+      ap length (names g after),
+      (have.rooms place pack (inside g after)).names,
+      have.groups place pack (inside g after),
+      ap (λ p. length p.names.items) c.index.ensures,
+      c.group_count.ensures,
+      c.walk.invariant.left,
+      c.walk.invariant.some,
+    ) in
+    subst (λ n. IsNext g.V.Lanes.list g.V.Lanes.CAP g.V.Lanes.WIDTH c.args.instance.now c.args.terms.number packs nodes n
+    (first_of first levels) (last_of last levels) c.in-Some.place c.next.new.self) more
+    (turn-next g.V.Lanes.list g.V.Lanes.CAP g.V.Lanes.WIDTH c.args.instance.now c.args.terms.number first last c.args.left
+    c.walk.directions.items c.walk.lists packs nodes levels c.walk.here c.next.new.self c.in-Some.place stands
+    (turn g some) size)
 
 pub go-requires-clause-at : goal.go-requires-clause-at
-go-requires-clause-at g c = ?
+go-requires-clause-at g c =
+    let at = c.requires.at in (
+      c.args.terms.number,
+      first_of at.0 c.walk.levels.items,
+      last_of at.1 c.walk.levels.items,
+      c.walk.invariant.tree,
+      next g (goal.at.go-requires-clause-at g c).After-put at.0 at.1 (c.walk.invariant.stands at.0 at.1 at.2 at.3),
+    )
 
 pub walk-preserved : goal.walk-preserved
-walk-preserved g c = ?
+walk-preserved g c =
+    let shop = c.args.instance.now in
+    let number = c.args.terms.number in
+    let packs = c.walk.tree.packs.items in
+    let nodes = c.walk.tree.nodes.items in
+    let packs2 = c.go.new.self.packs.items in
+    let nodes2 = c.go.new.self.nodes.items in
+    let levels = c.walk.levels.items in
+    let levels2 = c.push-in-Some.new.self.items in
+    let parent = c.go.new.here in
+    let child = c.in_ok-child-in-Some.child in
+    let made = c.in_ok-child-in-Some.ensures in
+    let text = c.walk.directions.items in
+    let text2 = c.push-in-Some-2.new.self.items in
+    let inv = c.walk.invariant in
+    let put = (goal.at.walk-preserved g c).After-put in
+    let some = (goal.at.After-put g put).In-Some in
+    let pushed : levels2 ≡ levels ++ parent ∷ [] = c.in_ok-push-in-Some-2.ensures.items in
+    let written : text2 ≡ text ++ sign child.end ∷ [] =
+    c.in_ok-push-in-Some-3.ensures.items ∙ ap (λ s. text ++ s ∷ []) c.sign_of-in-Some.ensures in
+    let more : c.walk.left - 1 + 1 ≡ c.args.left - length levels = omega (arith, inv.left, inv.some) in
+    let less : c.walk.left - 1 ≡ c.args.left - length levels - 1 = omega (arith, inv.left, inv.some) in
+    record {
+      tree = made.tree number inv.tree;
+      packs = made.count ∙ inv.packs;
+      left = omega (arith, inv.left, inv.some, ap length pushed, length-append levels (parent ∷ []));
+      some = omega (arith, c.if-left-eq0.false);
+      room = made.room;
+      within = omega (
+        arith,
+        ap length written,
+        length-append text (sign child.end ∷ []),
+        c.if-len-terms.false,
+        c.len.ensures,
+        c.walk.directions.ok.0,
+      );
+      stands = λ first last are at.
+          let stands = inv.stands first last are at in
+          let begin : List ℕ = first_of first levels in
+          let behind : List ℕ = last_of last levels in
+          let here = c.next.new.self in
+          let is_next = next g put first last stands in
+          subst (λ ls. Stands g.V.Lanes.list g.V.Lanes.CAP g.V.Lanes.WIDTH shop number first last c.args.left text2
+          c.put.new.self packs2 nodes2 ls child) (sym pushed)
+          (turn-down g.V.Lanes.list g.V.Lanes.CAP g.V.Lanes.WIDTH shop number first last c.args.left text c.walk.lists
+          packs nodes levels c.walk.here here c.in-Some.place stands (turn g some) packs2 nodes2 c.put.new.self parent child
+          made.count
+          (omega (arith, c.requires.few, inv.packs))
+          (omega (arith, inv.left, inv.some, c.if-left-eq0.false))
+          (λ n none least. made.others n none (omega (arith, least, less)))
+          made.above made.end made.job made.top made.rest
+          (subst (λ n. IsLevel g.V.Lanes.list g.V.Lanes.CAP g.V.Lanes.WIDTH shop number packs2 nodes2 n begin behind
+          parent) more (made.here number begin behind inv.tree is_next))
+          (subst (λ n. IsBegun g.V.Lanes.list g.V.Lanes.CAP g.V.Lanes.WIDTH shop number packs2 nodes2 n
+          (first_with here.end begin here.job) (last_with here.end behind here.job) child) less
+          (made.level number begin behind inv.tree is_next))
+          made.behind
+          (c.put.ensures shop.jobs begin behind stands.has_lists)
+          text2 written);
+    }
