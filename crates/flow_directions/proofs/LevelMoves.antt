@@ -17,10 +17,10 @@ use Rattle.flow_nodes.specs.declared.marks.Marks.{Marks}
 use Rattle.flow_nodes.specs.declared.pack.Pack.{Pack}
 use Rattle.flow_nodes.specs.Packs.{left_below}
 use Rattle.flow_directions.specs.Search.{end_taken}
-use Rattle.flow_directions.specs.internal.Open.{IsOpenNode, children_at}
+use Rattle.flow_nodes.specs.Open.{IsOpenNode, children_at}
 use Rattle.flow_directions.specs.internal.Tree.{AreKept, IsOpenAt}
 use Rattle.flow_directions.specs.internal.Levels.{HasChildren, IsBegun, IsLevel, IsNext, IsOpen, jobs_of, names_of}
-use Rattle.flow_directions.specs.declared.stub.OpenNode.{OpenNode}
+use Rattle.flow_nodes.specs.declared.open.OpenNode.{OpenNode}
 use Rattle.flow_directions.specs.declared.level.Level.{Level}
 use Rattle.flow_directions.proofs.PackNames.{names-is, names-same}
 use Rattle.flow_directions.proofs.TreeSteps.{open-moved, place-kept}

@@ -4,10 +4,7 @@ pub mod SearchProves
 pub mod SearchReaches
 pub mod SearchByChildren
 pub mod WalkSteps
-pub mod LeftSteps
-pub mod JobsMarked
 pub mod BoundSums
-pub mod PackSteps
 pub mod EndTaken
 pub mod WeightSteps
 pub mod StartLists
@@ -17,6 +14,5 @@ pub mod LevelSteps
 pub mod MetSteps
 pub mod LevelMoves
 pub mod TreeSteps
-pub mod EndChosen
 pub mod WalkStands
 pub mod PartSteps

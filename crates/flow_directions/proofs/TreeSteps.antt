@@ -1,10 +1,9 @@
 -- The nodes and packs of a tree, once one of them is written.
-use Rattle.std.proofs.Common.{◌≡◌, ℕ, zero, suc, ◌+◌, ◌-◌, ◌*◌, ◌<◌, ◌≤◌, List, [], ◌∷◌, ◌++◌, length, slice_index_or, set, take, drop}
-use Rattle.std.proofs.Common.{slice_index, Bool, true, not, nat_lt, refl, ap, sym, ◌∙◌, subst, inl, inr, arith}
-use Rattle.std.specs.List.{AllByRecursion, filter}
+use Rattle.std.proofs.Common.{◌≡◌, ℕ, zero, suc, ◌+◌, ◌-◌, ◌*◌, ◌<◌, ◌≤◌, List, [], ◌∷◌, ◌++◌, length}
+use Rattle.std.proofs.Common.{slice_index_or, set, take, drop, Option, Some, None, cond, false}
+use Rattle.std.proofs.Common.{Bool, true, not, nat_lt, refl, ap, sym, ◌∙◌, subst, inl, inr, arith}
 use Rattle.std.proofs.lemmas.Bool.{cases_eq, cases_lt}
-use Rattle.std.proofs.lemmas.Bool.Decides.{Decides-ltb}
-use Rattle.std.proofs.lemmas.List.Elements.{filter_passes, recursion_from_All}
+use Rattle.std.proofs.lemmas.Option.{none-some}
 use Rattle.std.proofs.lemmas.List.Filters.{length-filter_both}
 use Rattle.std.proofs.lemmas.List.{get_or-take, get_or-set_same, get_or-set_other, length-set, set-append_right}
 use Rattle.std.proofs.Math.Seq.{get_or-append_seam, take-length}
@@ -18,15 +17,12 @@ use Rattle.flow_shop.specs.Sequences.{jobs_left}
 use Rattle.flow_limits.specs.Limits.{most_jobs}
 use Rattle.flow_nodes.specs.Nodes.{IsNode}
 use Rattle.flow_nodes.specs.Groups.{child_bound}
-use Rattle.flow_nodes.specs.Marks.{mark, chosen}
-use Rattle.flow_nodes.specs.Packs.{HasRoom, IsPack, left_below}
+use Rattle.flow_nodes.specs.Packs.{HasRoom, IsPack}
 use Rattle.flow_nodes.specs.declared.node.Node.{Node}
 use Rattle.flow_nodes.specs.declared.pack.Pack.{Pack}
-use Rattle.flow_nodes.proofs.MarkedNames.{kept, kept-yes, kept-no}
-use Rattle.flow_nodes.proofs.ChosenNames.{chosen-kept}
-use Rattle.flow_directions.specs.Search.{count_below, fewest_below}
-use Rattle.flow_directions.specs.declared.stub.OpenNode.{OpenNode}
-use Rattle.flow_directions.specs.internal.Open.{AreChildren, HasRoomToOpen, IsOpenNode, children_at}
+use Rattle.flow_directions.specs.Search.{count_below}
+use Rattle.flow_nodes.specs.declared.open.OpenNode.{OpenNode}
+use Rattle.flow_nodes.specs.Open.{AreChildren, HasRoomToOpen, IsOpenNode, children_at}
 use Rattle.flow_directions.specs.internal.Tree.{AreKept, HavePacks, IsOpenAt}
 
 module _ {X : Type 0} where
@@ -48,6 +44,11 @@ module _ {X : Type 0} where
       take-take (suc few) zero xs low = absurd (omega (arith, low))
       take-take (suc few) (suc many) [] low = refl
       take-take (suc few) (suc many) (x ∷ xs) low = ap (λ l. x ∷ l) (take-take few many xs (omega (arith, low)))
+
+  -- a list that grew
+  pub grown-kept : (old new : List X) (count : ℕ) → count ≤ length old → take (length old) new ≡ old →
+      take count new ≡ take count old
+  grown-kept old new count low same = fewer-kept old new count (length old) low (same ∙ sym (take-length old))
 
   -- of a list that is parted at a place, the first element behind it is written
   pub parted-set : (above deeper : List X) (at : ℕ) (x : X) → length above ≡ at →
@@ -121,8 +122,8 @@ packs-set shop packs at pack within room groups have = record {
 pub room-fewer : {V : Type 0} (shop : Shop) (few many : ℕ) (node : OpenNode V) → few ≤ many →
     HasRoomToOpen shop many node → HasRoomToOpen shop few node
 room-fewer shop few many node low room = record {
-  at_front = record { enough = omega (arith, low, room.at_front.enough); machines = room.at_front.machines; };
-  at_back = record { enough = omega (arith, low, room.at_back.enough); machines = room.at_back.machines; };
+  at_front = record { enough = omega (arith, low, room.at_front.enough); machines = room.at_front.machines };
+  at_back = record { enough = omega (arith, low, room.at_back.enough); machines = room.at_back.machines };
 }
 
 -- how many names the pack at a place has
@@ -157,6 +158,17 @@ module _ {V : Type 0} (list : V → List ℕ) (cap width : ℕ) (shop : Shop) (n
         (subst (IsOpenNode list cap width shop number first last (slice_index_or packs (groups - 1) none))
         (sym (node empty)) (is.is_open none empty));
   }
+
+  -- the node, as it is read
+  pub open-read : (first last : List ℕ) (groups place : ℕ) (packs : List (Pack V)) (nodes : List (OpenNode V))
+      (pack : Pack V) (node : OpenNode V) → pack ≡ slice_index_or packs (groups - 1) pack →
+      node ≡ slice_index_or nodes place node →
+      IsOpenAt list cap width shop number first last groups place packs nodes →
+      IsOpenNode list cap width shop number first last pack node
+  open-read first last groups place packs nodes pack node pack_is node_is is =
+      subst (λ p. IsOpenNode list cap width shop number first last p node) (sym pack_is)
+      (subst (IsOpenNode list cap width shop number first last (slice_index_or packs (groups - 1) pack)) (sym node_is)
+      (is.is_open pack node))
 
   -- likewise where the packs stay, and the first nodes
   pub open-kept : (first last : List ℕ) (groups place count : ℕ) (packs packs2 : List (Pack V))
@@ -203,46 +215,24 @@ module _ {V : Type 0} (list : V → List ℕ) (cap width : ℕ) (shop : Shop) (n
             p packs nodes) e is),
       )
 
--- what holds of the names kept holds of the name of a marked place
-kept-each : (P : ℕ → Type 0) (marks : ℕ → ℕ) (names : List ℕ) → AllByRecursion P (kept marks names) → (place : ℕ) →
-    place < length names → marks place ≡ 1 → P (slice_index names place)
-kept-each P marks [] each place within marked = absurd (omega (arith, within))
-kept-each P marks (name ∷ names) each zero within marked =
-    let all : AllByRecursion P (name ∷ kept (λ i. marks (suc i)) names) =
-    subst (AllByRecursion P) (kept-yes marks name names marked) each in
-    all.0
-kept-each P marks (name ∷ names) each (suc place) within marked = elim (cases_eq (marks 0) 1) [
-  | inl first ↦
-      let all : AllByRecursion P (name ∷ kept (λ i. marks (suc i)) names) =
-      subst (AllByRecursion P) (kept-yes marks name names first) each in
-      kept-each P (λ i. marks (suc i)) names all.1 place (omega (arith, within)) marked
-  | inr other ↦
-      kept-each P (λ i. marks (suc i)) names (subst (AllByRecursion P) (kept-no marks name names other) each) place
-      (omega (arith, within)) marked
-]
+-- few children of a node are below the number
+pub count-small : (shop : Shop) (number : ℕ) (first last : List ℕ) (end : End) (node : Node) →
+    IsNode shop first last node → count_below shop number end first last ≤ most_jobs
+count-small shop number first last end node is =
+    let p : ℕ → Bool = λ job. nat_lt (child_bound shop end first last job) number in
+    omega (
+      arith,
+      length-filter_both p (λ job. not (p job)) (λ job. refl) (jobs_left shop.jobs (first ++ last)),
+      is.count,
+      is.limits.jobs,
+    )
 
-module _ (shop : Shop) (number : ℕ) (first last : List ℕ) where
-  -- where the jobs at marked places are those whose children at an end are below the number, so is that of each of them
-  pub marked-below : (end : End) (words names : List ℕ) (place : ℕ) →
-      chosen words names ≡ left_below shop number end first last → place < length names → mark words place ≡ 1 →
-      child_bound shop end first last (slice_index names place) < number
-  marked-below end words names place are within marked =
-      let p : ℕ → Bool = λ job. nat_lt (child_bound shop end first last job) number in
-      let all : AllByRecursion (λ job. p job ≡ true) (left_below shop number end first last) =
-      recursion_from_All (λ job. p job ≡ true) (left_below shop number end first last)
-      (filter_passes p (jobs_left shop.jobs (first ++ last))) in
-      (Decides-ltb (child_bound shop end first last (slice_index names place)) number).0
-      (kept-each (λ job. p job ≡ true) (mark words) names
-      (subst (AllByRecursion (λ job. p job ≡ true)) (sym are ∙ chosen-kept words names) all) place within marked)
-
-  -- there are few of them
-  pub count-small : (end : End) (node : Node) → IsNode shop first last node →
-      count_below shop number end first last ≤ most_jobs
-  count-small end node is =
-      let p : ℕ → Bool = λ job. nat_lt (child_bound shop end first last job) number in
-      omega (
-        arith,
-        length-filter_both p (λ job. not (p job)) (λ job. refl) (jobs_left shop.jobs (first ++ last)),
-        is.count,
-        is.limits.jobs,
-      )
+-- a place, where children are kept
+pub place-is : (keeps : Bool) (place from : ℕ) → cond keeps (Some place) None ≡ Some from →
+    (keeps ≡ true) × (place ≡ from)
+place-is true place from is = (refl, ap the_place is)
+  where
+    the_place : Option ℕ → ℕ
+    the_place None = 0
+    the_place (Some number) = number
+place-is false place from is = absurd (none-some from is)

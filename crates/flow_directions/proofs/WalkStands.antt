@@ -17,7 +17,7 @@ use Rattle.flow_directions.specs.internal.Lists.{HasLists}
 use Rattle.flow_directions.specs.internal.Levels.{AreLevels, AreNested, HasChildren, IsAbove, IsAt, IsBegun, IsLevel}
 use Rattle.flow_directions.specs.internal.Levels.{IsNext, IsOpen, IsStopped, StandsBelow, first_of, jobs_of, last_of, met_with, names_at, names_of}
 use Rattle.flow_directions.specs.internal.Levels.{rest_met}
-use Rattle.flow_directions.specs.declared.stub.OpenNode.{OpenNode}
+use Rattle.flow_nodes.specs.declared.open.OpenNode.{OpenNode}
 use Rattle.flow_directions.specs.declared.level.Level.{Level}
 use Rattle.flow_directions.specs.declared.lists.Lists.{Lists}
 use Rattle.flow_directions.specs.declared.tree.Tree.{Tree}

@@ -1,9 +1,6 @@
 pub mod Left
 pub mod Lists
-pub mod Packs
 pub mod Levels
 pub mod Start
 pub mod Reached
-pub mod Opened
-pub mod Open
 pub mod Tree

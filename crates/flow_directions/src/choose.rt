@@ -6,14 +6,13 @@ ghost use Rattle.flow_shop.specs.Shop.{Shop};
 ghost use Rattle.flow_nodes.specs.Packs.{left_below};
 ghost use Rattle.flow_nodes.specs.declared.pack.Pack.{Pack};
 ghost use Rattle.flow_directions.specs.Search.{end_taken, fewest_below, looks_ahead, other, plain_end, weight};
-ghost use Rattle.flow_directions.specs.internal.Open.{IsOpenNode, children_at};
+ghost use Rattle.flow_nodes.specs.Open.{IsOpenNode, children_at};
 ghost use Rattle.flow_directions.specs.internal.Tree.{AreKept, IsOpenAt, IsTree};
-ghost use Rattle.flow_directions.specs.declared.stub.OpenNode.{OpenNode};
+ghost use Rattle.flow_nodes.specs.declared.open.OpenNode.{OpenNode};
 
-use crate::stub::{OpenNode, Put};
 use crate::sums::sum_of_bounds;
 use crate::tree::Tree;
-use flow_nodes::{Lanes, fewer_below, greater_sum};
+use flow_nodes::{Lanes, OpenNode, Put, fewer_below, greater_sum};
 use flow_shop::{End, Instance};
 use std::alloc::AllocError;
 
@@ -257,8 +256,8 @@ impl<V: Lanes> Tree<V> {
         })
     }
 
-    /// Finds the end at which the node at a place of the list is opened, where its jobs left stand in the pack of so many
-    /// groups. Writes the list only from `top` on.
+    /// Finds the end at which the node at a place of the list is opened, where its jobs left stand in the pack of so
+    /// many groups. Writes the list only from `top` on.
     pub(crate) fn choose(
         &mut self,
         instance: &Instance,

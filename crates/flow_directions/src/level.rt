@@ -11,9 +11,8 @@ ghost use Rattle.flow_nodes.specs.declared.pack.Pack.{Pack};
 ghost use Rattle.flow_directions.specs.internal.Levels.{IsBegun, IsLevel, IsNext};
 ghost use Rattle.flow_directions.specs.internal.Tree.{IsOpenAt, IsTree};
 
-use crate::stub::Put;
 use crate::tree::Tree;
-use flow_nodes::{LANES, Lanes, Marks, Pack, group_count};
+use flow_nodes::{LANES, Lanes, Marks, Pack, Put, group_count};
 use flow_shop::{End, Instance};
 use std::alloc::AllocError;
 
@@ -71,7 +70,12 @@ impl Level {
 impl<V: Lanes> Tree<V> {
     /// Begins with the children of the node at a spot, at the end that is taken, where so many jobs are left.
     #[inline(always)]
-    pub(crate) fn enter(&mut self, instance: &Instance, spot: Spot, left: u16) -> Result<Level, AllocError>
+    pub(crate) fn enter(
+        &mut self,
+        instance: &Instance,
+        spot: Spot,
+        left: u16,
+    ) -> Result<Level, AllocError>
         requires wide { V.WIDTH ≡ 16 }
         requires some { 1 ≤ left }
         requires few { group_count left ≤ length self.old.packs.items }

@@ -1,20 +1,14 @@
 //! The search for directions that prove a lower bound on the makespans of a node's sequences.
 #![tactic(auto)]
 
-mod ahead;
-mod below;
 mod choose;
 mod directions;
 mod found;
 mod laws;
 mod level;
 mod lists;
-mod marked_node;
-mod open;
-mod pack;
 mod prover;
 mod start;
-mod stub;
 mod sums;
 mod tree;
 mod walk;

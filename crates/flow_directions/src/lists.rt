@@ -95,7 +95,12 @@ impl Lists {
     }
 
     /// The part of a search that is the children of the node that put some jobs at an end.
-    pub(crate) fn children(&self, alloc: Global, end: End, jobs: Vec<u16>) -> Result<Part, AllocError>
+    pub(crate) fn children(
+        &self,
+        alloc: Global,
+        end: End,
+        jobs: Vec<u16>,
+    ) -> Result<Part, AllocError>
         requires { (count : ℕ) × (first : List ℕ) × (last : List ℕ) × HasLists count first last self.now }
         ensures { (count : ℕ) (first last : List ℕ) → HasLists count first last self.now →
             IfOk result (λ part. AreChildrenPart first last end jobs.items part) }

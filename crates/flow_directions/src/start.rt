@@ -13,8 +13,7 @@ ghost use Rattle.flow_directions.specs.declared.found.ProveFault.TheVariants.{Jo
 use crate::found::ProveFault;
 use crate::lists::Lists;
 use crate::tree::Tree;
-use crate::stub::OpenNode;
-use flow_nodes::{Lanes, Marks, Node, Pack, group_count};
+use flow_nodes::{Lanes, Marks, Node, OpenNode, Pack, group_count};
 use flow_shop::{End, Instance, JobSet, insert_all};
 use std::alloc::{AllocError, Global};
 

@@ -8,14 +8,13 @@ ghost use Rattle.flow_shop.specs.Sequences.{jobs_left};
 ghost use Rattle.flow_shop.specs.Directions.{first_with, last_with};
 ghost use Rattle.flow_nodes.specs.Lanes.{limit_of};
 ghost use Rattle.flow_nodes.specs.Marks.{mark};
-ghost use Rattle.flow_nodes.specs.Packs.{HasRoom, IsPack, jobs_at};
+ghost use Rattle.flow_nodes.specs.Packs.{HasRoom, HasRoomFor, IsPack, jobs_at};
 ghost use Rattle.flow_nodes.specs.declared.pack.Pack.{Pack};
-ghost use Rattle.flow_directions.specs.internal.Open.{HasRoomFor, HasRoomToOpen, IsOpenNode, children_at};
+ghost use Rattle.flow_nodes.specs.Open.{HasRoomToOpen, IsOpenNode, children_at};
 ghost use Rattle.flow_directions.specs.internal.Tree.{IsOpenAt, IsTree};
-ghost use Rattle.flow_directions.specs.declared.stub.OpenNode.{OpenNode};
+ghost use Rattle.flow_nodes.specs.declared.open.OpenNode.{OpenNode};
 
-use crate::stub::{OpenNode, Opener, Put};
-use flow_nodes::{LANES, Lanes, Marks, Pack};
+use flow_nodes::{LANES, Lanes, Marks, OpenNode, Opener, Pack, Put};
 use flow_shop::Instance;
 use std::alloc::{AllocError, Global};
 
@@ -143,7 +142,8 @@ impl<V: Lanes> Tree<V> {
     #[inline(never)]
     pub(crate) fn grow(&mut self, instance: &Instance, count: usize) -> Result<(), AllocError>
         requires few { length self.old.packs.items ≤ 50 }
-        ensures tree { (number : ℕ) → IsTree V.CAP instance.now number self.old → IsTree V.CAP instance.now number self.new }
+        ensures tree { (number : ℕ) → IsTree V.CAP instance.now number self.old →
+            IsTree V.CAP instance.now number self.new }
         ensures packs { self.new.packs ≡ self.old.packs }
         ensures begin { take (length self.old.nodes.items) self.new.nodes.items ≡ self.old.nodes.items }
         ensures more { length self.old.nodes.items ≤ length self.new.nodes.items }
@@ -203,7 +203,8 @@ impl<V: Lanes> Tree<V> {
         );
     }
 
-    /// Packs the jobs left at the node at a place anew, in so many groups, which they fill, and opens it at the place `to`.
+    /// Packs the jobs left at the node at a place anew, in so many groups, which they fill, and opens it at the place
+    /// `to`.
     #[inline(never)]
     pub(crate) fn repack(&mut self, instance: &Instance, groups: usize, at: usize, to: usize)
         requires wide { V.WIDTH ≡ 16 }

@@ -13,7 +13,7 @@ use Rattle.flow_nodes.proofs.MarkedNames.{kept, kept-yes, kept-no}
 use Rattle.flow_nodes.proofs.ChosenNames.{chosen-kept}
 
 -- what holds of the names kept holds of the name of a marked place
-kept-each : (P : ℕ → Type 0) (marks : ℕ → ℕ) (names : List ℕ) → AllByRecursion P (kept marks names) → (place : ℕ) →
+pub kept-each : (P : ℕ → Type 0) (marks : ℕ → ℕ) (names : List ℕ) → AllByRecursion P (kept marks names) → (place : ℕ) →
     place < length names → marks place ≡ 1 → P (slice_index names place)
 kept-each P marks [] each place within marked = absurd (omega arith)
 kept-each P marks (name ∷ names) each zero within marked =

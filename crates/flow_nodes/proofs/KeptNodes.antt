@@ -91,7 +91,7 @@ fronts-put shop first old new job all range are values k low high =
     (recursion_from_All (λ job. (1 ≤ job) × (job ≤ shop.jobs)) first all) range.0 range.1)
 
 module _ (shop : Shop) (job : ℕ) (range : IsJob shop job) where
-  first-all : (end : End) (first : List ℕ) → All (λ job. (1 ≤ job) × (job ≤ shop.jobs)) first →
+  pub first-all : (end : End) (first : List ℕ) → All (λ job. (1 ≤ job) × (job ≤ shop.jobs)) first →
       All (λ job. (1 ≤ job) × (job ≤ shop.jobs)) (first_with end first job)
   first-all Front first all =
       All-from_recursion (λ job. (1 ≤ job) × (job ≤ shop.jobs)) (first ++ job ∷ [])

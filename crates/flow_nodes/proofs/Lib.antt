@@ -9,6 +9,9 @@ pub mod ChosenNames
 pub mod MarkSteps
 pub mod BelowSteps
 pub mod SpreadSteps
+pub mod StartSteps
 pub mod PackSteps
 pub mod LeftSteps
 pub mod JobsMarked
+pub mod OpenSteps
+pub mod PutSteps

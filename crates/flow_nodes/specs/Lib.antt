@@ -4,4 +4,5 @@ pub mod Groups
 pub mod Marks
 pub mod PlainEnd
 pub mod Packs
+pub mod Open
 pub mod internal

@@ -5,6 +5,7 @@ use Rattle.std.specs.Global.{Vec}
 use Rattle.flow_shop.specs.Shop.{Shop}
 use Rattle.flow_shop.specs.declared.end.End.{End}
 use Rattle.flow_shop.specs.Sequences.{jobs_left}
+use Rattle.flow_shop.specs.Rows.{AreRows}
 use Rattle.flow_nodes.specs.Nodes.{IsJob}
 use Rattle.flow_nodes.specs.Groups.{IsGroup, child_bound}
 use Rattle.flow_nodes.specs.Marks.{chosen}
@@ -40,7 +41,8 @@ abbrev pub left_below : Shop → ℕ → End → List ℕ → List ℕ → List 
 left_below shop number end first last =
     filter (λ job. nat_lt (child_bound shop end first last job) number) (jobs_left shop.jobs (first ++ last))
 
--- an opener has a vector for each machine
+-- an opener has a vector for each machine, and the rows of the jobs
 pub record HasRoomFor {V : Type 0} (shop : Shop) (opener : Opener V) : Type 0 where
   pub near_count : length opener.near.items ≡ shop.machines
   pub rest_count : length opener.rest.items ≡ shop.machines
+  pub rows : AreRows shop opener.rows.items

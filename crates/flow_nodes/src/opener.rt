@@ -22,7 +22,7 @@ use crate::marks::Marks;
 use crate::node::Node;
 use crate::pack::Pack;
 use flow_limits::MAX_MACHINES;
-use flow_shop::{End, Instance};
+use flow_shop::{End, Instance, Row, rows};
 use std::alloc::{AllocError, Global};
 
 /// Opens nodes: finds their children below a number. It has memory for what the groups of a node share.
@@ -34,6 +34,8 @@ pub struct Opener<V> {
     pub(crate) near: Vec<V>,
     /// The time of the jobs left and what is at the other end, likewise.
     pub(crate) rest: Vec<V>,
+    /// The times of the jobs, a row for each.
+    pub rows: Vec<Row>,
 }
 
 /// Writes vectors with the same number in each lane: those of one list, and the sums of two others.
@@ -116,17 +118,24 @@ impl<V: Lanes> Opener<V> {
         let machines = usize::from(instance.machines());
         let near = vec![in alloc; V::each(0); machines]?;
         let rest = vec![in alloc; V::each(0); machines]?;
-        Ok(Opener { limit, near, rest })
+        let rows = rows(alloc, instance)?;
+        Ok(Opener {
+            limit,
+            near,
+            rest,
+            rows,
+        })
     }
 
     /// Writes what the groups of a node share at an end.
     #[inline(always)]
-    fn write(&mut self, node: &Node, end: End)
+    pub(crate) fn write(&mut self, node: &Node, end: End)
         requires { (shop : Shop) × (first : List ℕ) × (last : List ℕ) × IsNode shop first last node.now
             × HasRoomFor shop self.old × (end_bound shop first last ≤ V.CAP) }
         ensures limit { self.new.limit ≡ self.old.limit }
         ensures near { length self.new.near.items ≡ length self.old.near.items }
         ensures rest { length self.new.rest.items ≡ length self.old.rest.items }
+        ensures rows { self.new.rows ≡ self.old.rows }
         ensures spread { IsSpread V.list V.CAP V.WIDTH end node.now self.new.near.items self.new.rest.items }
     {
         let near = self.near.as_mut_slice();

@@ -12,10 +12,10 @@ use Rattle.flow_nodes.specs.Marks.{mark, chosen}
 use Rattle.flow_nodes.specs.Packs.{left_below}
 use Rattle.flow_nodes.specs.declared.pack.Pack.{Pack}
 use Rattle.flow_directions.specs.Search.{Visit, child_visits, end_taken}
-use Rattle.flow_directions.specs.internal.Open.{children_at}
+use Rattle.flow_nodes.specs.Open.{children_at}
 use Rattle.flow_directions.specs.internal.Lists.{HasLists}
 use Rattle.flow_directions.specs.internal.Tree.{AreKept, IsOpenAt}
-use Rattle.flow_directions.specs.declared.stub.OpenNode.{OpenNode}
+use Rattle.flow_nodes.specs.declared.open.OpenNode.{OpenNode}
 use Rattle.flow_directions.specs.declared.level.Level.{Level}
 use Rattle.flow_directions.specs.declared.lists.Lists.{Lists}
 use Rattle.flow_directions.specs.declared.tree.Tree.{Tree}

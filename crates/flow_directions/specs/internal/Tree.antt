@@ -5,10 +5,10 @@ use Rattle.flow_shop.specs.Ends.{end_bound}
 use Rattle.flow_shop.specs.Directions.{first_with, last_with}
 use Rattle.flow_shop.specs.declared.end.End.{End}
 use Rattle.flow_nodes.specs.Lanes.{limit_of}
-use Rattle.flow_nodes.specs.Packs.{HasRoom, IsPack}
+use Rattle.flow_nodes.specs.Packs.{HasRoom, HasRoomFor, IsPack}
 use Rattle.flow_nodes.specs.declared.pack.Pack.{Pack}
-use Rattle.flow_directions.specs.internal.Open.{HasRoomFor, HasRoomToOpen, IsOpenNode}
-use Rattle.flow_directions.specs.declared.stub.OpenNode.{OpenNode}
+use Rattle.flow_nodes.specs.Open.{HasRoomToOpen, IsOpenNode}
+use Rattle.flow_nodes.specs.declared.open.OpenNode.{OpenNode}
 use Rattle.flow_directions.specs.declared.tree.Tree.{Tree}
 
 -- memory for packs of one group, of two, and so on

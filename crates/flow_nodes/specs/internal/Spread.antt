@@ -24,3 +24,10 @@ pub record IsSpread {V : Type 0} (list : V → List ℕ) (cap width : ℕ) (end 
   pub others_in : (place lane : ℕ) (none : V) → place < length rest → lane < width →
       HasLane cap width (list (slice_index_or rest place none)) lane
       (slice_index node.work place + slice_index (at_other_end end node) place)
+
+-- the latter alone
+abbrev pub HasRest : {V : Type 0} → (V → List ℕ) → ℕ → ℕ → End → Node → List V → Type 0
+HasRest {V} list cap width end node rest =
+    (place lane : ℕ) (none : V) → place < length rest → lane < width →
+    HasLane cap width (list (slice_index_or rest place none)) lane
+    (slice_index node.work place + slice_index (at_other_end end node) place)

@@ -1,6 +1,6 @@
-use Rattle.std.proofs.Common.{◌≡◌, ◌++◌, ◌+◌, ◌<◌, length, set, slice_index_or, ap, sym, ◌∙◌, subst, arith}
+use Rattle.std.proofs.Common.{◌<◌, length, set, ap, sym, ◌∙◌, subst, arith}
 use Rattle.flow_nodes.specs.Marks.{mark}
-use Rattle.flow_directions.specs.internal.Open.{HasRoomToOpen, IsOpenNode, children_at}
+use Rattle.flow_nodes.specs.Open.{HasRoomToOpen, IsOpenNode, children_at}
 use Rattle.flow_directions.proofs.TreeSteps.{parted-left, parted-right, parted-set}
 use Rattle.flow_directions.proofs.tree.make_child.Goals as goal
 

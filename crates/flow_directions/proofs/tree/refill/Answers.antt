@@ -1,4 +1,4 @@
-use Rattle.std.proofs.Common.{◌≡◌, ◌-◌, ◌<◌, length, set, take, slice_index_or, ap, sym, ◌∙◌, arith}
+use Rattle.std.proofs.Common.{◌-◌, ◌<◌, length, set, take, ap, sym, ◌∙◌, arith}
 use Rattle.std.proofs.lemmas.List.{set-append_left}
 use Rattle.flow_nodes.specs.Packs.{jobs_at}
 use Rattle.flow_directions.proofs.TreeSteps.{parted-left, parted-right}

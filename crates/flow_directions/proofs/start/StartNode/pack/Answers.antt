@@ -2,9 +2,9 @@ use Rattle.std.proofs.Common.{◌≡◌, ℕ, ◌+◌, ◌<◌, ◌≤◌, true,
 use Rattle.std.proofs.Common.{subst, arith}
 use Rattle.std.proofs.lemmas.List.{length-set}
 use Rattle.flow_shop.specs.Sequences.{has}
-use Rattle.flow_directions.specs.internal.Packs.{HasRoom}
+use Rattle.flow_nodes.specs.Packs.{HasRoom}
 use Rattle.flow_directions.specs.internal.Start.{IsStart}
-use Rattle.flow_directions.proofs.PackSteps.{room-named}
+use Rattle.flow_nodes.proofs.PackSteps.{room-named}
 use Rattle.flow_directions.proofs.StartLists.{under-had, names-left, count-left, count-within}
 use Rattle.flow_directions.proofs.start.StartNode.pack.Given.{Over}
 use Rattle.flow_directions.proofs.start.StartNode.pack.Goals as goal

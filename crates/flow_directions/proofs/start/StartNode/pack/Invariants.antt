@@ -1,6 +1,6 @@
 use Rattle.std.proofs.Common.{◌≡◌, ℕ, ◌++◌, List, length, take}
 use Rattle.flow_shop.proofs.Taken.{left_under}
-use Rattle.flow_directions.specs.internal.Packs.{HasRoom}
+use Rattle.flow_nodes.specs.Packs.{HasRoom}
 use Rattle.flow_directions.specs.internal.Start.{IsStart}
 use Rattle.flow_directions.proofs.start.StartNode.pack.Given as goal
 

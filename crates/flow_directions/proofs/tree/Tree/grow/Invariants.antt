@@ -1,4 +1,4 @@
-use Rattle.std.proofs.Common.{◌≡◌, ℕ, ◌-◌, ◌<◌, ◌≤◌, length, take, slice_index_or}
+use Rattle.std.proofs.Common.{◌≡◌, ℕ, ◌-◌, ◌≤◌, length, take}
 use Rattle.flow_directions.specs.internal.Tree.{IsTree}
 use Rattle.flow_directions.proofs.tree.Tree.grow.Given as goal
 

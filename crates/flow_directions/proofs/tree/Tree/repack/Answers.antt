@@ -1,11 +1,11 @@
-use Rattle.std.proofs.Common.{◌≡◌, ◌≢◌, ◌++◌, ◌+◌, ◌-◌, ◌*◌, ◌<◌, ◌≤◌, ℕ, length, set, take, drop, slice_index_or}
+use Rattle.std.proofs.Common.{◌≡◌, ◌++◌, ◌+◌, ◌-◌, ◌*◌, ◌<◌, ◌≤◌, ℕ, length, set, take, drop, slice_index_or}
 use Rattle.std.proofs.Common.{ap, sym, ◌∙◌, subst, arith}
-use Rattle.std.proofs.lemmas.List.{get_or-set_same, get_or-set_other, get_or_default, length-set, take-set}
+use Rattle.std.proofs.lemmas.List.{get_or-set_same, get_or-set_other, length-set, take-set}
 use Rattle.flow_shop.specs.Sequences.{jobs_left}
 use Rattle.flow_nodes.specs.Nodes.{IsNode}
 use Rattle.flow_nodes.specs.Marks.{chosen}
 use Rattle.flow_nodes.specs.Packs.{HasLeft, HasRoom, IsPack, jobs_at}
-use Rattle.flow_directions.specs.internal.Open.{HasRoomToOpen, IsOpenNode}
+use Rattle.flow_nodes.specs.Open.{HasRoomToOpen, IsOpenNode}
 use Rattle.flow_directions.specs.internal.Tree.{HavePacks, IsOpenAt}
 use Rattle.flow_directions.proofs.TreeSteps.{each-set, names-count, packs-set, room-fewer, written-back}
 use Rattle.flow_directions.proofs.tree.Tree.repack.Given.{Over}
@@ -147,7 +147,7 @@ open-requires-clause-at g c =
       at.3.limit,
       at.4.below,
       has-left g here at.0 at.4 at.5,
-      record { at_front = room.at_front; at_back = room.at_back; },
+      record { at_front = room.at_front; at_back = room.at_back },
     )
 
 pub returns-clause-tree : goal.returns-clause-tree
@@ -157,7 +157,8 @@ returns-clause-tree g c number tree =
     let packs = c.args.self.now.packs.items in
     let are = packs-are g (goal.at.returns-clause-tree g c).After-refill in
     let pack = c.refill.ensures.pack.0 in
-    let count : length (set packs (c.args.groups - 1) pack) ≡ length packs = length-set packs (c.args.groups - 1) pack in
+    let count : length (set packs (c.args.groups - 1) pack) ≡ length packs =
+    length-set packs (c.args.groups - 1) pack in
     let low : c.args.groups - 1 < length packs = omega (arith, c.requires.more, c.requires.some) in
     let old = c.index_mut-packed.result.now in
     let room = subst (HasRoomToOpen shop (length packs)) (sym c.index_mut-packed.ensures.value)
@@ -172,9 +173,10 @@ returns-clause-tree g c number tree =
       nodes = λ place none within.
           subst (λ ps. HasRoomToOpen shop (length ps) (slice_index_or (set nodes c.args.to c.open.new.node) place none))
           (sym are)
-          (subst (λ n. HasRoomToOpen shop n (slice_index_or (set nodes c.args.to c.open.new.node) place none)) (sym count)
+          (subst (λ n. HasRoomToOpen shop n (slice_index_or (set nodes c.args.to c.open.new.node) place none))
+          (sym count)
           (each-set (λ _ node. HasRoomToOpen shop (length packs) node) nodes c.args.to c.open.new.node c.requires.room
-          (c.open.ensures.room shop (length packs) (record { at_front = room.at_front; at_back = room.at_back; }))
+          (c.open.ensures.room shop (length packs) (record { at_front = room.at_front; at_back = room.at_back }))
           tree.nodes place none within));
     }
 

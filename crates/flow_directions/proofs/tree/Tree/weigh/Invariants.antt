@@ -1,11 +1,12 @@
-use Rattle.std.proofs.Common.{◌≡◌, ℕ, ◌+◌, ◌-◌, ◌*◌, ◌≤◌, ◌<◌, true, false, List, ◌++◌, sum_by, length, take, slice_index_or}
+use Rattle.std.proofs.Common.{◌≡◌, ℕ, ◌+◌, ◌-◌, ◌*◌, ◌≤◌, ◌<◌, true, false, List, ◌++◌, sum_by, length}
+use Rattle.std.proofs.Common.{take, slice_index_or}
 use Rattle.flow_nodes.specs.Marks.{mark}
 use Rattle.flow_nodes.specs.Packs.{jobs_at, left_below}
 use Rattle.flow_nodes.specs.declared.pack.Pack.{Pack}
 use Rattle.flow_directions.specs.Search.{weight}
-use Rattle.flow_directions.specs.internal.Open.{children_at}
+use Rattle.flow_nodes.specs.Open.{children_at}
 use Rattle.flow_directions.specs.internal.Tree.{AreKept, IsOpenAt, IsTree}
-use Rattle.flow_directions.specs.declared.stub.OpenNode.{OpenNode}
+use Rattle.flow_nodes.specs.declared.open.OpenNode.{OpenNode}
 use Rattle.flow_directions.proofs.WeightSteps.{fewest_at}
 use Rattle.flow_directions.proofs.tree.Tree.weigh.Given as goal
 

@@ -1,0 +1,200 @@
+use Rattle.std.proofs.Common.{rules, ◌≡◌, ◌≢◌, ◌↔◌, ℕ, ◌-◌, ◌/◌, ◌%◌, ◌<◌, List, length, slice_index, slice_index_or, set}
+use Rattle.std.proofs.Common.{refl, ap, sym, ◌∙◌, subst, arith, inl, inr}
+use Rattle.std.specs.Global.{Vec}
+use Rattle.std.specs.Vec.{with_items}
+use Rattle.std.proofs.lemmas.Bool.{cases_lt}
+use Rattle.std.proofs.lemmas.List.{get_or_default, get_or-set_same, get_or-set_other, length-set, with_items_is}
+use Rattle.flow_shop.specs.Shop.{Shop}
+use Rattle.flow_nodes.specs.Lanes.{HasLane}
+use Rattle.flow_nodes.specs.Groups.{IsGroup, child_bound}
+use Rattle.flow_nodes.specs.Marks.{mark}
+use Rattle.flow_nodes.specs.Open.{HasStartRoom, start_at}
+use Rattle.flow_nodes.proofs.MarkSteps.{mark-elsewhere}
+use Rattle.flow_nodes.proofs.BelowSteps.{written-within, written-exact, none-left, none-written, lane-tells}
+use Rattle.flow_nodes.proofs.OpenSteps.{start-room}
+use Rattle.flow_nodes.proofs.opener.Opener.find_children.Goals as goal
+use Rattle.flow_nodes.proofs.opener.Opener.find_children.Goals.{then-word-ne0, else-word-ne0}
+
+pub loop-group-init : goal.loop-group-init
+loop-group-init g c = record {
+  size = search rules;
+  room = λ shop count room. room;
+  within = λ place under marked. absurd (omega (arith, under));
+  exact = λ shop number first last jobs node place none limit is spread under are was fresh.
+      absurd (omega (arith, under));
+  starts = λ shop first last jobs node place machine none zero is spread under are was on.
+      absurd (omega (arith, under));
+}
+
+pub index_mut-requires : goal.index_mut-requires
+index_mut-requires g c =
+    let room = c.loop-group.invariant.room c.requires.room.0 (length c.args.groups.now) c.requires.room.1 in
+    omega (arith, c.loop-group-test.true, room.enough, c.loop-group.children.starts.ok.0)
+
+pub bounds_with_starts-bounds-requires-clause-starts : goal.bounds_with_starts-bounds-requires-clause-starts
+bounds_with_starts-bounds-requires-clause-starts g c =
+    let group : ℕ = c.loop-group.group in
+    let room = c.loop-group.invariant.room c.requires.room.0 (length c.args.groups.now) c.requires.room.1 in
+    omega (
+      arith,
+      ap length c.as_mut_slice-starts.ensures.value,
+      ap (λ v. length v.items) c.index_mut.ensures.value,
+      room.machines group c.index_mut.result.now (omega (arith, c.loop-group-test.true, room.enough)),
+      ap length c.as_slice.ensures.value,
+      ap (λ v. length v.items) c.index-groups-group.is,
+      c.requires.room.2 group c.index-groups-group.result c.loop-group-test.true,
+    )
+
+pub loop-group-preserved : goal.loop-group-preserved
+loop-group-preserved g c =
+    let list = g.V.Lanes.list in
+    let cap = g.V.Lanes.CAP in
+    let width = g.V.Lanes.WIDTH in
+    let here = c.loop-group.invariant in
+    let group : ℕ = c.loop-group.group in
+    let words = c.loop-group.children.below.words in
+    let starts = c.loop-group.children.starts.items in
+    let left = c.args.left.now.words in
+    let groups = c.args.groups.now in
+    let room = here.room c.requires.room.0 (length groups) c.requires.room.1 in
+    let few : group < length words = omega (arith, here.size, c.loop-group-test.true, c.requires.few) in
+    let long : group < length starts = omega (arith, c.loop-group-test.true, room.enough) in
+    elim c.if-word-ne0.branch [
+      | then-word-ne0 w ↦
+          let written = w.bounds_with_starts-bounds.new.starts in
+          let vector = with_items w.index_mut.result.now written in
+          let size : length written ≡ length w.index_mut.result.now.items =
+          w.bounds_with_starts-bounds.auto.starts ∙ ap length w.as_mut_slice-starts.ensures.value in
+          let is_written : vector.items ≡ written =
+          with_items_is w.index_mut.result.now written (omega (arith, size, w.index_mut.result.now.ok.0)) in
+          let of_group : (shop : Shop) (jobs : List ℕ) (place : ℕ) (none : Vec g.row.V.Denot) → place / 16 ≡ group →
+          IsGroup list cap width shop jobs (slice_index_or groups (place / 16) none).items →
+          IsGroup list cap width shop jobs w.as_slice.result.now =
+          λ shop jobs place none there are.
+          subst (IsGroup list cap width shop jobs)
+          (sym (w.as_slice.ensures.value ∙ ap (λ v. v.items) (w.index-groups-group.is
+          ∙ get_or_default groups group w.index-groups-group.result none c.loop-group-test.true)))
+          (subst (λ i. IsGroup list cap width shop jobs (slice_index_or groups i none).items) there are) in
+          let words_are = ap (λ m. m.below.words) w.children-is in
+          let starts_are : c.if-word-ne0.children.starts.items ≡ set starts group vector =
+          ap (λ m. m.starts.items) w.children-is in
+          record {
+            size = ap length words_are ∙ length-set words group _ ∙ here.size;
+            room = λ shop count before. subst (HasStartRoom shop count) (sym starts_are)
+                (start-room starts group vector long shop count (here.room shop count before)
+                (ap length is_written ∙ size
+                ∙ ap (λ v. length v.items) (w.index_mut.ensures.value
+                ∙ get_or_default starts group w.index_mut.result.now vector long)));
+            within = λ place under marked. elim (cases_lt (place / 16) group) [
+              | inl before ↦
+                  let apart : place / 16 ≢ group = omega (arith, before) in
+                  here.within place before
+                  (sym (ap (λ m. mark m place) words_are ∙ mark-elsewhere words group _ place apart) ∙ marked)
+              | inr above ↦
+                  let there : place / 16 ≡ group = omega (arith, above, under) in
+                  written-within left words group w.below.result w.from.result place few w.from.ensures there
+                  (sym (ap (λ m. mark m place) words_are) ∙ marked)
+            ];
+            exact = λ shop number first last jobs node place none limit is spread under are was fresh.
+                let bound = child_bound shop c.args.end first last (slice_index jobs (place % 16)) in
+                subst (λ m. mark m place ≡ 1 ↔ (bound < number)) (sym words_are) (elim (cases_lt (place / 16) group) [
+                  | inl before ↦
+                      let apart : place / 16 ≢ group = omega (arith, before) in
+                      subst (λ n. n ≡ 1 ↔ (bound < number)) (sym (mark-elsewhere words group _ place apart))
+                      (here.exact shop number first last jobs node place none limit is spread before are was fresh)
+                  | inr above ↦
+                      let there : place / 16 ≡ group = omega (arith, above, under) in
+                      let lane : ℕ = place % 16 in
+                      let these = of_group shop jobs place none there are in
+                      written-exact left words group w.below.result w.from.result place few w.from.ensures there bound
+                      number was
+                      (lane-tells list cap width c.requires.wide shop number c.args.self.now.limit c.args.end first last
+                      node jobs w.as_slice.result.now w.below.result lane is these limit (omega arith) fresh
+                      (w.below.ensures.each lane bound
+                      (w.bounds_with_starts-bounds.ensures.bounds shop first last jobs node lane is spread these
+                      (omega (arith, c.requires.wide)) fresh)))
+                ]);
+            starts = λ shop first last jobs node place machine none zero is spread under are was on.
+                let start : ℕ = start_at shop c.args.end first last (slice_index jobs (place % 16)) machine in
+                subst (λ l. HasLane cap width
+                (list (slice_index_or (slice_index_or l (place / 16) none).items (machine - 1) zero)) (place % 16) start)
+                (sym starts_are) (elim (cases_lt (place / 16) group) [
+                  | inl before ↦
+                      let apart : place / 16 ≢ group = omega (arith, before) in
+                      subst (λ v. HasLane cap width (list (slice_index_or v.items (machine - 1) zero)) (place % 16) start)
+                      (sym (get_or-set_other starts group (place / 16) vector none apart))
+                      (here.starts shop first last jobs node place machine none zero is spread before are was on)
+                  | inr above ↦
+                      let there : place / 16 ≡ group = omega (arith, above, under) in
+                      let items : (slice_index_or (set starts group vector) (place / 16) none).items ≡ written =
+                      ap (λ i. (slice_index_or (set starts group vector) i none).items) there
+                      ∙ ap (λ v. v.items) (get_or-set_same starts group vector none long) ∙ is_written in
+                      subst (λ l. HasLane cap width (list (slice_index_or l (machine - 1) zero)) (place % 16) start)
+                      (sym items)
+                      (w.bounds_with_starts-bounds.ensures.starts shop first last jobs node (place % 16) machine zero is
+                      spread (of_group shop jobs place none there are) (omega (arith, c.requires.wide)) on)
+                ]);
+          }
+      | else-word-ne0 w ↦
+          let words_are : c.if-word-ne0.children.below.words ≡ set words group 0 =
+          ap (λ m. m.below.words) w.children-is in
+          let starts_are : c.if-word-ne0.children.starts.items ≡ starts = ap (λ m. m.starts.items) w.children-is in
+          record {
+            size = ap length words_are ∙ length-set words group 0 ∙ here.size;
+            room = λ shop count before. subst (HasStartRoom shop count) (sym starts_are) (here.room shop count before);
+            within = λ place under marked. elim (cases_lt (place / 16) group) [
+              | inl before ↦
+                  let apart : place / 16 ≢ group = omega (arith, before) in
+                  here.within place before
+                  (sym (ap (λ m. mark m place) words_are ∙ mark-elsewhere words group 0 place apart) ∙ marked)
+              | inr above ↦
+                  absurd (omega (
+                    arith,
+                    ap (λ m. mark m place) words_are,
+                    none-written left words group _ place few refl w.if-word-ne0.false (omega (arith, above, under)),
+                    marked,
+                  ))
+            ];
+            exact = λ shop number first last jobs node place none limit is spread under are was fresh.
+                let bound = child_bound shop c.args.end first last (slice_index jobs (place % 16)) in
+                elim (cases_lt (place / 16) group) [
+                  | inl before ↦
+                      let apart : place / 16 ≢ group = omega (arith, before) in
+                      subst (λ m. mark m place ≡ 1 ↔ (bound < number)) (sym words_are)
+                      (subst (λ n. n ≡ 1 ↔ (bound < number)) (sym (mark-elsewhere words group 0 place apart))
+                      (here.exact shop number first last jobs node place none limit is spread before are was fresh))
+                  | inr above ↦
+                      let there : place / 16 ≡ group = omega (arith, above, under) in
+                      absurd (omega (arith, none-left left words group _ place few refl w.if-word-ne0.false there, was))
+                ];
+            starts = λ shop first last jobs node place machine none zero is spread under are was on.
+                let start : ℕ = start_at shop c.args.end first last (slice_index jobs (place % 16)) machine in
+                elim (cases_lt (place / 16) group) [
+                  | inl before ↦
+                      subst (λ l. HasLane cap width
+                      (list (slice_index_or (slice_index_or l (place / 16) none).items (machine - 1) zero)) (place % 16)
+                      start) (sym starts_are)
+                      (here.starts shop first last jobs node place machine none zero is spread before are was on)
+                  | inr above ↦
+                      let there : place / 16 ≡ group = omega (arith, above, under) in
+                      absurd (omega (arith, none-left left words group _ place few refl w.if-word-ne0.false there, was))
+                ];
+          }
+    ]
+
+pub returns-clause-room : goal.returns-clause-room
+returns-clause-room g c = c.loop-group.invariant.room
+
+pub returns-clause-within : goal.returns-clause-within
+returns-clause-within g c place under =
+    c.loop-group.invariant.within place (omega (arith, under, c.loop-group-test.false))
+
+pub returns-clause-exact : goal.returns-clause-exact
+returns-clause-exact g c shop number first last jobs node place none limit is spread under =
+    c.loop-group.invariant.exact shop number first last jobs node place none limit is spread
+    (omega (arith, under, c.loop-group-test.false))
+
+pub returns-clause-starts : goal.returns-clause-starts
+returns-clause-starts g c shop first last jobs node place machine none zero is spread under =
+    c.loop-group.invariant.starts shop first last jobs node place machine none zero is spread
+    (omega (arith, under, c.loop-group-test.false))

@@ -1,0 +1,38 @@
+use Rattle.std.proofs.Common.{◌≡◌, ◌↔◌, ℕ, ◌-◌, ◌/◌, ◌%◌, ◌<◌, false, List, ◌++◌, length, slice_index_or}
+use Rattle.std.specs.Global.{Vec}
+use Rattle.flow_shop.specs.Shop.{Shop}
+use Rattle.flow_shop.specs.Sequences.{has}
+use Rattle.flow_shop.specs.declared.end.End.{End}
+use Rattle.flow_nodes.specs.Lanes.{HasLane, limit_of}
+use Rattle.flow_nodes.specs.Nodes.{IsJob, IsMachine, IsNode}
+use Rattle.flow_nodes.specs.Groups.{child_bound, most_groups}
+use Rattle.flow_nodes.specs.Marks.{mark}
+use Rattle.flow_nodes.specs.Packs.{HasRoomFor}
+use Rattle.flow_nodes.specs.Open.{HasStartRoom, start_at}
+use Rattle.flow_nodes.specs.internal.Spread.{HasRest}
+use Rattle.flow_nodes.specs.declared.node.Node.{Node}
+use Rattle.flow_nodes.proofs.opener.Opener.keep_children.Given as goal
+
+-- the words so far have their marks, and the groups with marks their starts
+abbrev pub invariant-loop-group : goal.invariant-loop-group
+invariant-loop-group g l = record {
+  size : length l.children.below.words ≡ most_groups;
+  room : (shop : Shop) (count : ℕ) → HasStartRoom shop count l.fn.children.starts.items →
+      HasStartRoom shop count l.children.starts.items;
+  within : (place : ℕ) → place / 16 < l.group → mark l.children.below.words place ≡ 1 →
+      (mark l.left.words place ≡ 1) × (mark l.parent.below.words place ≡ 1);
+  exact : (shop : Shop) (number : ℕ) (end : End) (first last : List ℕ) (job : ℕ) (node : Node) (place : ℕ) →
+      l.self.limit ≡ limit_of number → HasRoomFor shop l.self → IsNode shop first last node →
+      HasRest g.V.Lanes.list g.V.Lanes.CAP g.V.Lanes.WIDTH end node l.self.rest.items → IsJob shop job →
+      has (first ++ last) job ≡ false → place / 16 < l.group → mark l.left.words place ≡ 1 →
+      mark l.parent.below.words place ≡ 1 →
+      ((machine : ℕ) (none : Vec g.row.V.Denot) (zero : g.row.V.Denot) → IsMachine shop machine →
+      HasLane g.V.Lanes.CAP g.V.Lanes.WIDTH (g.V.Lanes.list (slice_index_or
+      (slice_index_or l.parent.starts.items (place / 16) none).items (machine - 1) zero)) (place % 16)
+      (start_at shop end first last job machine)) →
+      mark l.children.below.words place ≡ 1 ↔ (child_bound shop end first last job < number);
+  copied : (place : ℕ) (none : Vec g.row.V.Denot) → place / 16 < l.group →
+      mark l.children.below.words place ≡ 1 →
+      (slice_index_or l.children.starts.items (place / 16) none).items
+      ≡ (slice_index_or l.parent.starts.items (place / 16) none).items;
+}

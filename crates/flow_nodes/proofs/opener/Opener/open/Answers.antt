@@ -1,0 +1,16 @@
+use Rattle.std.proofs.Common.{◌∙◌}
+use Rattle.flow_nodes.proofs.opener.Opener.open.Goals as goal
+
+pub returns-clause-room : goal.returns-clause-room
+returns-clause-room g c shop groups room = record {
+  at_front = c.open_at.ensures.room shop groups room.at_front;
+  at_back = c.open_at-2.ensures.room shop groups room.at_back;
+}
+
+pub returns-clause-node : goal.returns-clause-node
+returns-clause-node g c shop number first last limit is is_pack has_left = record {
+  is_node = is;
+  has_left = has_left;
+  at_front = c.open_at.ensures.children shop number first last limit is is_pack has_left;
+  at_back = c.open_at-2.ensures.children shop number first last (c.open_at.ensures.limit ∙ limit) is is_pack has_left;
+}

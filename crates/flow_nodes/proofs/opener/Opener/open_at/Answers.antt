@@ -1,0 +1,133 @@
+use Rattle.std.proofs.Common.{◌≡◌, ◌↔◌, ℕ, ◌+◌, ◌-◌, ◌*◌, ◌/◌, ◌%◌, ◌<◌, nat_lt, List, ◌++◌, length, slice_index}
+use Rattle.std.proofs.Common.{slice_index_or, take, drop, ap, sym, ◌∙◌, subst, arith}
+use Rattle.std.specs.Global.{Vec}
+use Rattle.std.specs.List.{filter}
+use Rattle.std.proofs.lemmas.Bool.Decides.{Decides-ltb}
+use Rattle.flow_shop.specs.Sequences.{has}
+use Rattle.flow_nodes.specs.Lanes.{HasLane}
+use Rattle.flow_nodes.specs.Groups.{IsGroup, child_bound}
+use Rattle.flow_nodes.specs.Marks.{mark, chosen}
+use Rattle.flow_nodes.specs.Packs.{left_below}
+use Rattle.flow_nodes.specs.Open.{start_at}
+use Rattle.flow_shop.proofs.Lists.{some-of}
+use Rattle.flow_nodes.proofs.ChosenNames.{chosen-filter}
+use Rattle.flow_nodes.proofs.SpreadSteps.{node-small-bound}
+use Rattle.flow_nodes.proofs.JobsMarked.{group-name, marked-left}
+use Rattle.flow_nodes.proofs.opener.Opener.open_at.Goals as goal
+
+pub write-requires : goal.write-requires
+write-requires g c =
+    let at = c.requires.at in (
+      at.0,
+      at.2,
+      at.3,
+      at.4,
+      at.6,
+      omega (arith, at.7, at.8, c.requires.limit, node-small-bound at.0 at.2 at.3 c.args.node.now at.4),
+    )
+
+pub find_children-requires-clause-few : goal.find_children-requires-clause-few
+find_children-requires-clause-few g c =
+    omega (arith, c.requires.at.5.room.few, ap length c.as_slice.ensures.value)
+
+pub find_children-requires-clause-near : goal.find_children-requires-clause-near
+find_children-requires-clause-near g c group none within =
+    omega (
+      arith,
+      c.write.ensures.near,
+      c.requires.at.6.near_count,
+      c.requires.at.5.room.machines group none (omega (arith, within, ap length c.as_slice.ensures.value)),
+      ap (λ l. length (slice_index_or l group none).items) c.as_slice.ensures.value,
+    )
+
+pub find_children-requires-clause-rest : goal.find_children-requires-clause-rest
+find_children-requires-clause-rest g c group none within =
+    omega (
+      arith,
+      c.write.ensures.rest,
+      c.requires.at.6.rest_count,
+      c.requires.at.5.room.machines group none (omega (arith, within, ap length c.as_slice.ensures.value)),
+      ap (λ l. length (slice_index_or l group none).items) c.as_slice.ensures.value,
+    )
+
+pub find_children-requires-clause-room : goal.find_children-requires-clause-room
+find_children-requires-clause-room g c =
+    let at = c.requires.at in
+    let value = c.as_slice.ensures.value in (
+      at.0,
+      record {
+        enough = omega (arith, at.9.enough, ap length value);
+        machines = at.9.machines;
+      },
+      λ group none within. ap (λ l. length (slice_index_or l group none).items) value
+          ∙ at.5.room.machines group none (omega (arith, within, ap length value)),
+    )
+
+pub returns-clause-children : goal.returns-clause-children
+returns-clause-children g c shop number first last limit is is_pack has_left =
+    record {
+      below = below;
+      within = λ place inside marked. c.find_children.ensures.within place (in_groups place inside) marked;
+      count = c.find_children.ensures.count names (omega (arith, is_pack.room.names, ap length c.as_slice.ensures.value))
+          ∙ ap length below;
+      starts = λ place machine none zero inside marked on.
+          let was = c.find_children.ensures.within place (in_groups place inside) marked in
+          subst (λ job. HasLane g.V.Lanes.CAP g.V.Lanes.WIDTH (g.V.Lanes.list (slice_index_or
+          (slice_index_or c.find_children.new.children.starts.items (place / 16) none).items (machine - 1) zero)) (place % 16)
+          (start_at shop c.args.end first last job machine)) (named place)
+          (c.find_children.ensures.starts shop first last (these place) c.args.node.now place machine none zero is
+          c.write.ensures.spread (in_groups place inside) (are place none inside) was on);
+    }
+  where
+    names : List ℕ
+    names = c.args.pack.now.names.items
+
+    left : List ℕ
+    left = c.args.left.now.words
+
+    bound : ℕ → ℕ
+    bound = child_bound shop c.args.end first last
+
+    these : ℕ → List ℕ
+    these place = take 16 (drop (place / 16 * 16) names)
+
+    in_pack : (place : ℕ) → place < length names → place / 16 < length c.args.pack.now.groups.items
+    in_pack place inside = omega (arith, inside, is_pack.room.names)
+
+    in_groups : (place : ℕ) → place < length names → place / 16 < length c.as_slice.result.now
+    in_groups place inside = omega (arith, in_pack place inside, ap length c.as_slice.ensures.value)
+
+    named : (place : ℕ) → slice_index (these place) (place % 16) ≡ slice_index names place
+    named place =
+        let there : place / 16 * 16 + place % 16 ≡ place = omega arith in
+        group-name names (place / 16) (place % 16) (omega arith) ∙ ap (slice_index names) there
+
+    are : (place : ℕ) (none : Vec g.row.V.Denot) → place < length names →
+        IsGroup g.V.Lanes.list g.V.Lanes.CAP g.V.Lanes.WIDTH shop (these place)
+        (slice_index_or c.as_slice.result.now (place / 16) none).items
+    are place none inside =
+        subst (λ l. IsGroup g.V.Lanes.list g.V.Lanes.CAP g.V.Lanes.WIDTH shop (these place)
+        (slice_index_or l (place / 16) none).items) (sym c.as_slice.ensures.value)
+        (is_pack.each (place / 16) none (in_pack place inside))
+
+    tells : (place : ℕ) → place < length names → mark left place ≡ 1 →
+        mark c.find_children.new.children.below.words place ≡ 1 ↔ (bound (slice_index names place) < number)
+    tells place inside was =
+        let none = some-of c.as_slice.result.now (omega (arith, in_groups place inside)) in
+        subst (λ job. mark c.find_children.new.children.below.words place ≡ 1 ↔ (bound job < number)) (named place)
+        (c.find_children.ensures.exact shop number first last (these place) c.args.node.now place none
+        (c.write.ensures.limit ∙ limit) is c.write.ensures.spread (in_groups place inside) (are place none inside) was
+        (ap (has (first ++ last)) (named place)
+        ∙ marked-left shop.jobs (first ++ last) left names has_left place inside was))
+
+    below : chosen c.find_children.new.children.below.words names ≡ left_below shop number c.args.end first last
+    below =
+        chosen-filter (λ job. nat_lt (bound job) number) left c.find_children.new.children.below.words names
+        (λ place inside. (
+          λ marked.
+              let was = c.find_children.ensures.within place (in_groups place inside) marked in
+              (was, (Decides-ltb (bound (slice_index names place)) number).1 ((tells place inside was).0 marked)),
+          λ pair.
+              (tells place inside pair.0).1 ((Decides-ltb (bound (slice_index names place)) number).0 pair.1),
+        ))
+        ∙ ap (filter (λ job. nat_lt (bound job) number)) has_left

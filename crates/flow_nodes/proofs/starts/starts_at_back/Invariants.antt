@@ -1,0 +1,38 @@
+use Rattle.std.proofs.Common.{ℕ, ◌+◌, ◌<◌, ◌≤◌, List, ◌∷◌, length, map, slice_index, slice_index_or}
+use Rattle.flow_shop.specs.Shop.{Shop, numbers}
+use Rattle.flow_shop.specs.Least.{greatest}
+use Rattle.flow_shop.specs.Ends.{back}
+use Rattle.flow_nodes.specs.Lanes.{HasLane}
+use Rattle.flow_nodes.specs.Nodes.{IsNode}
+use Rattle.flow_nodes.specs.Groups.{IsGroup}
+use Rattle.flow_nodes.specs.Open.{start_at}
+use Rattle.flow_nodes.specs.internal.Children.{back_child_at}
+use Rattle.flow_nodes.specs.internal.Spread.{IsSpread}
+use Rattle.flow_nodes.specs.declared.node.Node.{Node}
+use Rattle.flow_shop.specs.declared.end.End.TheVariants.{Back}
+use Rattle.flow_nodes.proofs.starts.starts_at_back.Given as goal
+
+-- the lanes have the backs of the children, and what is greatest so far; the starts so far are written
+abbrev pub invariant-loop-machine : goal.invariant-loop-machine
+invariant-loop-machine g l = record {
+  within : l.machine ≤ length l.group;
+  free : (shop : Shop) (first last jobs : List ℕ) (node : Node) (lane : ℕ) → IsNode shop first last node →
+      IsSpread g.V.Lanes.list g.V.Lanes.CAP g.V.Lanes.WIDTH Back node l.near l.rest →
+      IsGroup g.V.Lanes.list g.V.Lanes.CAP g.V.Lanes.WIDTH shop jobs l.group → lane < g.V.Lanes.WIDTH →
+      HasLane g.V.Lanes.CAP g.V.Lanes.WIDTH (g.V.Lanes.list l.free) lane
+      (back shop (slice_index jobs lane ∷ last) (l.machine + 1));
+  bounds : (shop : Shop) (first last jobs : List ℕ) (node : Node) (lane : ℕ) → IsNode shop first last node →
+      IsSpread g.V.Lanes.list g.V.Lanes.CAP g.V.Lanes.WIDTH Back node l.near l.rest →
+      IsGroup g.V.Lanes.list g.V.Lanes.CAP g.V.Lanes.WIDTH shop jobs l.group → lane < g.V.Lanes.WIDTH →
+      HasLane g.V.Lanes.CAP g.V.Lanes.WIDTH (g.V.Lanes.list l.bounds) lane
+      (greatest (map (back_child_at shop first last (slice_index jobs lane)) (numbers (l.machine + 1) shop.machines)));
+  starts : (shop : Shop) (first last jobs : List ℕ) (node : Node) (lane : ℕ) → IsNode shop first last node →
+      IsSpread g.V.Lanes.list g.V.Lanes.CAP g.V.Lanes.WIDTH Back node l.near l.rest →
+      IsGroup g.V.Lanes.list g.V.Lanes.CAP g.V.Lanes.WIDTH shop jobs l.group → lane < g.V.Lanes.WIDTH →
+      (place : ℕ) (none : g.row.V.Denot) → l.machine ≤ place → place < length l.group →
+      HasLane g.V.Lanes.CAP g.V.Lanes.WIDTH (g.V.Lanes.list (slice_index_or l.starts place none)) lane
+      (start_at shop Back first last (slice_index jobs lane) (place + 1));
+}
+
+abbrev pub decreases-loop-machine : goal.decreases-loop-machine
+decreases-loop-machine g l = l.machine
