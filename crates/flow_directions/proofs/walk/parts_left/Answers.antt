@@ -38,8 +38,8 @@ levels-init g c =
           subst (All (IsPart shop)) (sym pushed) (All-push (IsPart shop) [] node (All-nil (IsPart shop))
           (node-part shop (first_of first levels) (last_of last levels) node
           (c.in_ok-node.ensures shop.jobs (first_of first levels) (last_of last levels) stands.has_lists)
-          (levels-jobs g.V.Lanes.list g.V.Lanes.CAP g.V.Lanes.WIDTH shop number tree.packs.items tree.nodes.items
-          (c.args.left + length levels) first last levels stands.are_levels are)));
+          (levels-jobs shop number (names_of tree.packs.items) (c.args.left + length levels) first last levels
+          stands.are_levels are)));
     }
 
 pub take-requires : goal.take-requires
@@ -50,8 +50,8 @@ take-requires g c =
       first_of at.2 rest,
       last_of at.3 rest,
       c.in-Some.level.job,
-      left-lists g.V.Lanes.list g.V.Lanes.CAP g.V.Lanes.WIDTH at.0 at.1 at.2 at.3
-          (c.args.left + length c.args.levels.now.items) c.levels.lists c.args.tree.now c.levels.levels.items rest
+      left-lists at.0 at.1 (names_of c.args.tree.now.packs.items) at.2 at.3
+          (c.args.left + length c.args.levels.now.items) c.levels.lists c.levels.levels.items rest
           c.in-Some.level (c.levels.invariant.stands at.0 at.1 at.2 at.3 at.4 at.5) c.in-Some.ensures.items,
     )
 
@@ -63,18 +63,14 @@ children-requires g c =
       first_of at.2 rest,
       last_of at.3 rest,
       c.take.ensures at.0.jobs (first_of at.2 rest) (last_of at.3 rest) c.in-Some.level.job
-          (left-lists g.V.Lanes.list g.V.Lanes.CAP g.V.Lanes.WIDTH at.0 at.1 at.2 at.3
-          (c.args.left + length c.args.levels.now.items) c.levels.lists c.args.tree.now c.levels.levels.items rest
+          (left-lists at.0 at.1 (names_of c.args.tree.now.packs.items) at.2 at.3
+          (c.args.left + length c.args.levels.now.items) c.levels.lists c.levels.levels.items rest
           c.in-Some.level (c.levels.invariant.stands at.0 at.1 at.2 at.3 at.4 at.5) c.in-Some.ensures.items),
     )
 
 pub levels-preserved : goal.levels-preserved
 levels-preserved g c =
-    let list = g.V.Lanes.list in
-    let cap = g.V.Lanes.CAP in
-    let width = g.V.Lanes.WIDTH in
-    let tree = c.args.tree.now in
-    let packs = tree.packs.items in
+    let packs = c.args.tree.now.packs.items in
     let all = c.args.levels.now.items in
     let left = c.args.left + length all in
     let levels = c.levels.levels.items in
@@ -102,25 +98,25 @@ levels-preserved g c =
       count = omega (arith, here.count, fewer, ap length pushed, length-append parts (part ∷ []));
       stands = λ shop number first last is stands.
           let before = here.stands shop number first last is stands in
-          left-stands list cap width shop number first last left c.levels.lists tree levels rest level before parted
+          left-stands shop number (names_of packs) first last left c.levels.lists levels rest level before parted
           c.take.new.self
           (c.take.ensures shop.jobs (first_of first rest) (last_of last rest) level.job
-          (left-lists list cap width shop number first last left c.levels.lists tree levels rest level before parted));
+          (left-lists shop number (names_of packs) first last left c.levels.lists levels rest level before parted));
       met = λ shop number first last is stands.
           let before = here.stands shop number first last is stands in
           let lists = c.take.ensures shop.jobs (first_of first rest) (last_of last rest) level.job
-          (left-lists list cap width shop number first last left c.levels.lists tree levels rest level before parted) in
+          (left-lists shop number (names_of packs) first last left c.levels.lists levels rest level before parted) in
           ap (λ ps. met_with shop number (names_of packs) left first last rest (parts_visits shop number ps)) pushed
-          ∙ left-met list cap width shop number first last left c.levels.lists tree levels rest level before parted parts
+          ∙ left-met shop number (names_of packs) first last left c.levels.lists levels rest level before parted parts
           part c.in_ok-jobs.jobs.items jobs
           (c.in_ok-children.ensures shop.jobs (first_of first rest) (last_of last rest) lists)
           ∙ here.met shop number first last is stands;
       each = λ shop number first last is stands are.
           let before = here.stands shop number first last is stands in
           let lists = c.take.ensures shop.jobs (first_of first rest) (last_of last rest) level.job
-          (left-lists list cap width shop number first last left c.levels.lists tree levels rest level before parted) in
+          (left-lists shop number (names_of packs) first last left c.levels.lists levels rest level before parted) in
           subst (All (IsPart shop)) (sym pushed)
-          (left-each list cap width shop number first last left c.levels.lists tree levels rest level before parted parts
+          (left-each shop number (names_of packs) first last left c.levels.lists levels rest level before parted parts
           part c.in_ok-jobs.jobs.items jobs
           (c.in_ok-children.ensures shop.jobs (first_of first rest) (last_of last rest) lists) are
           (here.each shop number first last is stands are));

@@ -13,20 +13,20 @@ invariant-levels g l = record {
   left : l.left + length l.levels.items ≡ l.fn.left + length l.fn.levels.items;
   count : length l.parts.items + length l.levels.items ≡ length l.fn.levels.items + 1;
   stands : (shop : Shop) (number : ℕ) (first last : List ℕ) → IsTree g.V.Lanes.CAP shop number l.tree →
-      StandsBelow g.V.Lanes.list g.V.Lanes.CAP g.V.Lanes.WIDTH shop number first last
-      (l.fn.left + length l.fn.levels.items) l.fn.lists l.tree l.fn.levels.items →
-      StandsBelow g.V.Lanes.list g.V.Lanes.CAP g.V.Lanes.WIDTH shop number first last
-      (l.fn.left + length l.fn.levels.items) l.lists l.tree l.levels.items;
+      StandsBelow shop number (names_of l.tree.packs.items) first last (l.fn.left + length l.fn.levels.items) l.fn.lists
+      l.fn.levels.items →
+      StandsBelow shop number (names_of l.tree.packs.items) first last (l.fn.left + length l.fn.levels.items) l.lists
+      l.levels.items;
   met : (shop : Shop) (number : ℕ) (first last : List ℕ) → IsTree g.V.Lanes.CAP shop number l.tree →
-      StandsBelow g.V.Lanes.list g.V.Lanes.CAP g.V.Lanes.WIDTH shop number first last
-      (l.fn.left + length l.fn.levels.items) l.fn.lists l.tree l.fn.levels.items →
+      StandsBelow shop number (names_of l.tree.packs.items) first last (l.fn.left + length l.fn.levels.items) l.fn.lists
+      l.fn.levels.items →
       met_with shop number (names_of l.tree.packs.items) (l.fn.left + length l.fn.levels.items) first last
       l.levels.items (parts_visits shop number l.parts.items)
       ≡ met_with shop number (names_of l.tree.packs.items) (l.fn.left + length l.fn.levels.items) first last
       l.fn.levels.items (visits shop number (first_of first l.fn.levels.items) (last_of last l.fn.levels.items));
   each : (shop : Shop) (number : ℕ) (first last : List ℕ) → IsTree g.V.Lanes.CAP shop number l.tree →
-      StandsBelow g.V.Lanes.list g.V.Lanes.CAP g.V.Lanes.WIDTH shop number first last
-      (l.fn.left + length l.fn.levels.items) l.fn.lists l.tree l.fn.levels.items →
+      StandsBelow shop number (names_of l.tree.packs.items) first last (l.fn.left + length l.fn.levels.items) l.fn.lists
+      l.fn.levels.items →
       AreJobs shop.jobs (first ++ last) → All (IsPart shop) l.parts.items;
 }
 
