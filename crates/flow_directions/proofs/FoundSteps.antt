@@ -1,5 +1,5 @@
 -- What a search found: at a node where nothing is opened, and what it shows.
-use Rattle.std.proofs.Common.{◌≡◌, ℕ, ◌<◌, ◌≤◌, List, [], ◌∷◌, ◌++◌, length, length-append, Some, ap, sym, ◌∙◌, subst}
+use Rattle.std.proofs.Common.{◌≡◌, ℕ, ◌<◌, ◌≤◌, List, [], ◌∷◌, ◌++◌, length, length-append, Some, refl, ap, sym, ◌∙◌, subst}
 use Rattle.std.proofs.Common.{arith}
 use Rattle.std.specs.Prelude.{Result, Ok, Err, IfOk, IfErr, All}
 use Rattle.std.specs.List.{flat_map}
@@ -74,7 +74,7 @@ found-shows shop number budget first last (Below sequence makespan directions) a
 found-shows shop number budget first last Over are is = tt
 
 -- of what is returned where something is found
-pub each-ok : {T : Type 0} (P Q : T → Type 0) (result : Result T ProveFault) → ((found : T) → P found → Q found) →
+pub each-ok : {T E : Type 0} (P Q : T → Type 0) (result : Result T E) → ((found : T) → P found → Q found) →
     IfOk result P → IfOk result Q
 each-ok P Q (Ok found) follows is = follows found is
 each-ok P Q (Err fault) follows is = tt
@@ -123,3 +123,13 @@ found-over shop number budget left first last text parts names levels full conti
       each,
       few,
     )
+
+-- and where nothing may be written
+pub found-none : (shop : Shop) (number budget : ℕ) (first last : List ℕ) (text : Vec ℕ) (parts : Vec Part) →
+    text.items ≡ [] → budget ≡ 0 → end_bound shop first last < number →
+    0 < length (jobs_left shop.jobs (first ++ last)) → parts_visits shop number parts.items ≡ visits shop number first last →
+    All (IsPart shop) parts.items → length parts.items ≤ length (jobs_left shop.jobs (first ++ last)) →
+    IsAdvanced shop number budget first last (advanced.Rest text parts)
+found-none shop number budget first last text parts empty full low some met each few =
+    found-over shop number budget 0 first last text parts (λ left. []) [] (ap length empty ∙ sym full)
+    (ap (λ xs. xs ++ signs (visits shop number first last)) (sym empty), refl) low some met each few

@@ -1,5 +1,5 @@
 -- Levels: the lists to which they lead, and what holds of each of them.
-use Rattle.std.proofs.Common.{◌≡◌, ℕ, suc, ◌+◌, ◌-◌, ◌<◌, ◌≤◌, List, [], ◌∷◌, ◌++◌, length, refl, ap, subst, arith}
+use Rattle.std.proofs.Common.{◌≡◌, ℕ, suc, ◌+◌, ◌-◌, ◌<◌, ◌≤◌, List, [], ◌∷◌, ◌++◌, length, refl, ap, sym, ◌∙◌, subst, arith}
 use Rattle.flow_shop.specs.Directions.{first_with, last_with}
 use Rattle.flow_nodes.proofs.KeptNodes.{lengths}
 use Rattle.flow_directions.specs.internal.Levels.{AreLevels, AreNested, first_of, first_top, last_of}
@@ -94,3 +94,19 @@ levels-map P Q top left first last (l ∷ ls) each nested are = (
       (λ more begin behind level low high. each more begin behind level (omega (arith, low)) (omega (arith, high)))
       nested.1 are.1,
 )
+
+-- a fact about the lists to which levels lead, where the last of them is parted
+pub lists-pop : (P : List ℕ → List ℕ → Type 0) (first last : List ℕ) (levels rest : List Level) (level : Level) →
+    levels ≡ rest ++ level ∷ [] → P (first_of first levels) (last_of last levels) →
+    P (first_with level.end (first_of first rest) level.job) (last_with level.end (last_of last rest) level.job)
+lists-pop P first last levels rest level is holds =
+    subst (P (first_with level.end (first_of first rest) level.job)) (ap (last_of last) is ∙ last-push last rest level)
+    (subst (λ f. P f (last_of last levels)) (ap (first_of first) is ∙ first-push first rest level) holds)
+
+-- and where one more is put behind them
+pub lists-push : (P : List ℕ → List ℕ → Type 0) (first last : List ℕ) (levels : List Level) (level : Level) →
+    P (first_with level.end (first_of first levels) level.job) (last_with level.end (last_of last levels) level.job) →
+    P (first_of first (levels ++ level ∷ [])) (last_of last (levels ++ level ∷ []))
+lists-push P first last levels level holds =
+    subst (P (first_of first (levels ++ level ∷ []))) (sym (last-push last levels level))
+    (subst (λ f. P f (last_with level.end (last_of last levels) level.job)) (sym (first-push first levels level)) holds)

@@ -1,23 +1,26 @@
 -- The parts of a search: what is met there, and that they are parts.
 use Rattle.std.proofs.Common.{◌≡◌, ℕ, ◌+◌, ◌-◌, ◌<◌, ◌≤◌, List, [], ◌∷◌, ◌++◌, length, ap, sym, ◌∙◌, subst, arith}
-use Rattle.std.proofs.Common.{append-nil}
 use Rattle.std.specs.List.{flat_map, AllByRecursion}
 use Rattle.std.specs.Prelude.{All}
 use Rattle.std.specs.Global.{Vec}
-use Rattle.std.proofs.lemmas.List.Elements.{All-from_recursion}
+use Rattle.std.proofs.lemmas.List.Elements.{All-from_recursion, All-push}
 use Rattle.flow_shop.specs.Shop.{Shop}
 use Rattle.flow_shop.specs.Sequences.{AreDistinct, AreJobs}
 use Rattle.flow_shop.specs.Directions.{first_with, last_with}
 use Rattle.flow_shop.specs.declared.end.End.{End}
-use Rattle.flow_nodes.specs.declared.pack.Pack.{Pack}
-use Rattle.flow_directions.specs.Search.{IsPart, child_visits, part_visits, visits}
+use Rattle.flow_directions.specs.Search.{IsPart, child_visits, part_visits, parts_visits, visits}
+use Rattle.flow_directions.specs.internal.Lists.{HasLists}
 use Rattle.flow_directions.specs.internal.Left.{AreChildrenPart, IsNodePart}
-use Rattle.flow_directions.specs.internal.Levels.{AreLevels, IsAbove, IsOpen, first_of, last_of}
+use Rattle.flow_directions.specs.internal.Levels.{AreLevels, IsOpen, IsStopped, StandsBelow, first_of, jobs_of, last_of}
+use Rattle.flow_directions.specs.internal.Levels.{met_with}
 use Rattle.flow_directions.specs.declared.found.Part.{Part}
 use Rattle.flow_directions.specs.declared.found.Part.TheVariants.{Node, Children}
-use Rattle.flow_nodes.specs.declared.open.OpenNode.{OpenNode}
 use Rattle.flow_directions.specs.declared.level.Level.{Level}
+use Rattle.flow_directions.specs.declared.lists.Lists.{Lists}
+use Rattle.flow_directions.proofs.LevelSteps.{levels-pop, lists-pop}
+use Rattle.flow_directions.proofs.MetSteps.{met-push}
 use Rattle.flow_directions.proofs.NodeLists.{child-jobs}
+use Rattle.flow_directions.proofs.WalkSteps.{parts-more}
 
 -- a node
 
@@ -102,12 +105,51 @@ module _ (shop : Shop) (number : ℕ) (end : End) (first last : List ℕ) where
       )
 
 -- the lists to which levels lead have distinct jobs
-pub levels-jobs : {V : Type 0} (list : V → List ℕ) (cap width : ℕ) (shop : Shop) (number : ℕ)
-    (packs : List (Pack V)) (nodes : List (OpenNode V)) (left : ℕ) (first last : List ℕ) (levels : List Level) →
-    AreLevels (IsAbove list cap width shop number packs nodes) left first last levels →
+pub levels-jobs : (shop : Shop) (number : ℕ) (names : ℕ → List ℕ) (left : ℕ) (first last : List ℕ)
+    (levels : List Level) → AreLevels (IsStopped shop number names) left first last levels →
     AreJobs shop.jobs (first ++ last) → AreJobs shop.jobs (first_of first levels ++ last_of last levels)
-levels-jobs list cap width shop number packs nodes left first last [] above are = are
-levels-jobs list cap width shop number packs nodes left first last (l ∷ ls) above are =
+levels-jobs shop number names left first last [] above are = are
+levels-jobs shop number names left first last (l ∷ ls) above are =
     let job = above.0.opened in
-    levels-jobs list cap width shop number packs nodes (left - 1) (first_with l.end first l.job) (last_with l.end last l.job)
-    ls above.1 (child-jobs shop.jobs l.end first last l.job are job.is_job.0 job.is_job.1 job.left)
+    levels-jobs shop number names (left - 1) (first_with l.end first l.job) (last_with l.end last l.job) ls above.1
+    (child-jobs shop.jobs l.end first last l.job are job.is_job.0 job.is_job.1 job.left)
+
+-- the last of some levels is left
+module _ (shop : Shop) (number : ℕ) (names : ℕ → List ℕ) (first last : List ℕ) (left : ℕ) (lists : Lists)
+    (levels rest : List Level) (level : Level) (stands : StandsBelow shop number names first last left lists levels)
+    (is : levels ≡ rest ++ level ∷ []) where
+  pub left-lists : HasLists shop.jobs (first_with level.end (first_of first rest) level.job)
+      (last_with level.end (last_of last rest) level.job) lists
+  left-lists = lists-pop (λ f l. HasLists shop.jobs f l lists) first last levels rest level is stands.has_lists
+
+  popped : AreLevels (IsStopped shop number names) left first last rest
+      × IsStopped shop number names (left - length rest) (first_of first rest) (last_of last rest) level
+  popped =
+      levels-pop (IsStopped shop number names) left first last rest level
+      (subst (AreLevels (IsStopped shop number names) left first last) is stands.are_levels)
+
+  pub left-stands : (lists2 : Lists) → HasLists shop.jobs (first_of first rest) (last_of last rest) lists2 →
+      StandsBelow shop number names first last left lists2 rest
+  left-stands lists2 has_lists = record { are_levels = popped.0; has_lists = has_lists }
+
+  module _ (parts : List Part) (part : Part) (jobs : List ℕ) (jobs_are : jobs ≡ jobs_of names (left - length rest) level)
+      (are : AreChildrenPart (first_of first rest) (last_of last rest) level.end jobs part) where
+    pub left-met : met_with shop number names left first last rest (parts_visits shop number (parts ++ part ∷ []))
+        ≡ met_with shop number names left first last levels (parts_visits shop number parts)
+    left-met =
+        ap (met_with shop number names left first last rest)
+        (parts-more shop number parts part
+        ∙ ap (λ v. parts_visits shop number parts ++ v)
+        (met-children shop number level.end (first_of first rest) (last_of last rest) jobs part are
+        ∙ ap (flat_map (child_visits shop number level.end (first_of first rest) (last_of last rest))) jobs_are))
+        ∙ sym (met-push shop number names left first last rest level (parts_visits shop number parts))
+        ∙ ap (λ ls. met_with shop number names left first last ls (parts_visits shop number parts)) (sym is)
+
+    pub left-each : AreJobs shop.jobs (first ++ last) → All (IsPart shop) parts → All (IsPart shop) (parts ++ part ∷ [])
+    left-each nodes each =
+        All-push (IsPart shop) parts part each
+        (children-part shop number level.end (first_of first rest) (last_of last rest) jobs part are
+        (subst (AllByRecursion (IsOpen shop number level.end (first_of first rest) (last_of last rest))) (sym jobs_are)
+        popped.1.each)
+        (subst AreDistinct (sym jobs_are) popped.1.distinct)
+        (levels-jobs shop number names left first last rest popped.0 nodes))

@@ -1,12 +1,9 @@
 -- The nodes and packs of a tree, once one of them is written.
 use Rattle.std.proofs.Common.{◌≡◌, ℕ, zero, suc, ◌+◌, ◌-◌, ◌*◌, ◌<◌, ◌≤◌, List, [], ◌∷◌, ◌++◌, length}
 use Rattle.std.proofs.Common.{slice_index_or, set, take, drop, Option, Some, None, cond, false}
-use Rattle.std.proofs.Common.{slice_index, Bool, true, not, nat_lt, refl, ap, sym, ◌∙◌, subst, inl, inr, arith}
-use Rattle.std.specs.List.{AllByRecursion}
+use Rattle.std.proofs.Common.{Bool, true, not, nat_lt, refl, ap, sym, ◌∙◌, subst, inl, inr, arith}
 use Rattle.std.proofs.lemmas.Bool.{cases_eq, cases_lt}
-use Rattle.std.proofs.lemmas.Bool.Decides.{Decides-ltb}
 use Rattle.std.proofs.lemmas.Option.{none-some}
-use Rattle.std.proofs.lemmas.List.Elements.{filter_passes, recursion_from_All}
 use Rattle.std.proofs.lemmas.List.Filters.{length-filter_both}
 use Rattle.std.proofs.lemmas.List.{get_or-take, get_or-set_same, get_or-set_other, length-set, set-append_right}
 use Rattle.std.proofs.Math.Seq.{get_or-append_seam, take-length}
@@ -20,12 +17,9 @@ use Rattle.flow_shop.specs.Sequences.{jobs_left}
 use Rattle.flow_limits.specs.Limits.{most_jobs}
 use Rattle.flow_nodes.specs.Nodes.{IsNode}
 use Rattle.flow_nodes.specs.Groups.{child_bound}
-use Rattle.flow_nodes.specs.Marks.{mark, chosen}
-use Rattle.flow_nodes.specs.Packs.{HasRoom, IsPack, left_below}
+use Rattle.flow_nodes.specs.Packs.{HasRoom, IsPack}
 use Rattle.flow_nodes.specs.declared.node.Node.{Node}
 use Rattle.flow_nodes.specs.declared.pack.Pack.{Pack}
-use Rattle.flow_nodes.proofs.MarkedNames.{kept, kept-yes, kept-no}
-use Rattle.flow_nodes.proofs.ChosenNames.{chosen-kept}
 use Rattle.flow_directions.specs.Search.{count_below}
 use Rattle.flow_nodes.specs.declared.open.OpenNode.{OpenNode}
 use Rattle.flow_nodes.specs.Open.{AreChildren, HasRoomToOpen, IsOpenNode, children_at}
@@ -221,49 +215,17 @@ module _ {V : Type 0} (list : V → List ℕ) (cap width : ℕ) (shop : Shop) (n
             p packs nodes) e is),
       )
 
--- what holds of the names kept holds of the name of a marked place
-kept-each : (P : ℕ → Type 0) (marks : ℕ → ℕ) (names : List ℕ) → AllByRecursion P (kept marks names) → (place : ℕ) →
-    place < length names → marks place ≡ 1 → P (slice_index names place)
-kept-each P marks [] each place within marked = absurd (omega (arith, within))
-kept-each P marks (name ∷ names) each zero within marked =
-    let all : AllByRecursion P (name ∷ kept (λ i. marks (suc i)) names) =
-    subst (AllByRecursion P) (kept-yes marks name names marked) each in
-    all.0
-kept-each P marks (name ∷ names) each (suc place) within marked = elim (cases_eq (marks 0) 1) [
-  | inl first ↦
-      let all : AllByRecursion P (name ∷ kept (λ i. marks (suc i)) names) =
-      subst (AllByRecursion P) (kept-yes marks name names first) each in
-      kept-each P (λ i. marks (suc i)) names all.1 place (omega (arith, within)) marked
-  | inr other ↦
-      kept-each P (λ i. marks (suc i)) names (subst (AllByRecursion P) (kept-no marks name names other) each) place
-      (omega (arith, within)) marked
-]
-
-module _ (shop : Shop) (number : ℕ) (first last : List ℕ) where
-  -- where the jobs at marked places are those whose children at an end are below the number, so is that of each of them
-  pub marked-below : (end : End) (words names : List ℕ) (place : ℕ) →
-      chosen words names ≡ left_below shop number end first last → place < length names → mark words place ≡ 1 →
-      child_bound shop end first last (slice_index names place) < number
-  marked-below end words names place are within marked =
-      let p : ℕ → Bool = λ job. nat_lt (child_bound shop end first last job) number in
-      let all : AllByRecursion (λ job. p job ≡ true) (left_below shop number end first last) =
-      recursion_from_All (λ job. p job ≡ true) (left_below shop number end first last)
-      (filter_passes p (jobs_left shop.jobs (first ++ last))) in
-      (Decides-ltb (child_bound shop end first last (slice_index names place)) number).0
-      (kept-each (λ job. p job ≡ true) (mark words) names
-      (subst (AllByRecursion (λ job. p job ≡ true)) (sym are ∙ chosen-kept words names) all) place within marked)
-
-  -- there are few of them
-  pub count-small : (end : End) (node : Node) → IsNode shop first last node →
-      count_below shop number end first last ≤ most_jobs
-  count-small end node is =
-      let p : ℕ → Bool = λ job. nat_lt (child_bound shop end first last job) number in
-      omega (
-        arith,
-        length-filter_both p (λ job. not (p job)) (λ job. refl) (jobs_left shop.jobs (first ++ last)),
-        is.count,
-        is.limits.jobs,
-      )
+-- few children of a node are below the number
+pub count-small : (shop : Shop) (number : ℕ) (first last : List ℕ) (end : End) (node : Node) →
+    IsNode shop first last node → count_below shop number end first last ≤ most_jobs
+count-small shop number first last end node is =
+    let p : ℕ → Bool = λ job. nat_lt (child_bound shop end first last job) number in
+    omega (
+      arith,
+      length-filter_both p (λ job. not (p job)) (λ job. refl) (jobs_left shop.jobs (first ++ last)),
+      is.count,
+      is.limits.jobs,
+    )
 
 -- a place, where children are kept
 pub place-is : (keeps : Bool) (place from : ℕ) → cond keeps (Some place) None ≡ Some from →

@@ -3,7 +3,7 @@ use Rattle.std.proofs.Common.{◌≡◌, ℕ, suc, ◌+◌, ◌-◌, ◌*◌, �
 use Rattle.std.proofs.Common.{slice_index_or, refl, ap, sym, ◌∙◌, subst, arith, append_assoc, append-nil, length-append}
 use Rattle.std.specs.List.{flat_map, AllByRecursion}
 use Rattle.flow_shop.specs.Shop.{Shop}
-use Rattle.flow_shop.specs.Sequences.{jobs_left}
+use Rattle.flow_shop.specs.Sequences.{jobs_left, AreDistinct}
 use Rattle.flow_shop.specs.Ends.{end_bound}
 use Rattle.flow_shop.specs.Directions.{sign, first_with, last_with}
 use Rattle.flow_shop.specs.declared.end.End.{End}
@@ -15,7 +15,7 @@ use Rattle.flow_directions.specs.Search.{Visit, Continues, child_visits, directi
 use Rattle.flow_directions.specs.Search.{reaches, signs, visits}
 use Rattle.flow_directions.specs.internal.Lists.{HasLists}
 use Rattle.flow_directions.specs.internal.Levels.{AreLevels, AreNested, HasChildren, IsAbove, IsAt, IsBegun, IsLevel}
-use Rattle.flow_directions.specs.internal.Levels.{IsNext, IsOpen, first_of, jobs_of, last_of, met_with, names_at, names_of}
+use Rattle.flow_directions.specs.internal.Levels.{IsNext, IsOpen, IsStopped, StandsBelow, first_of, jobs_of, last_of, met_with, names_at, names_of}
 use Rattle.flow_directions.specs.internal.Levels.{rest_met}
 use Rattle.flow_nodes.specs.declared.open.OpenNode.{OpenNode}
 use Rattle.flow_directions.specs.declared.level.Level.{Level}
@@ -23,7 +23,7 @@ use Rattle.flow_directions.specs.declared.lists.Lists.{Lists}
 use Rattle.flow_directions.specs.declared.tree.Tree.{Tree}
 use Rattle.flow_directions.proofs.LevelMoves.{IsTurn, level-moved, next-count, next-turn}
 use Rattle.flow_directions.proofs.LevelSteps.{first-push, last-push, levels-count, levels-map, levels-pop, levels-push}
-use Rattle.flow_directions.proofs.LevelSteps.{nested-pop, nested-push}
+use Rattle.flow_directions.proofs.LevelSteps.{lists-push, nested-pop, nested-push}
 use Rattle.flow_directions.proofs.MetSteps.{met-opens, met-push, met-reaches, met-same}
 use Rattle.flow_directions.proofs.PackNames.{names-same}
 use Rattle.flow_directions.proofs.TreeSteps.{fewer-kept}
@@ -170,6 +170,33 @@ module _ {V : Type 0} (list : V → List ℕ) (cap width : ℕ) (shop : Shop) (n
       low : end_bound shop first2 last2 < number
       low = turn-open.below
 
+      -- where the search stops there, the levels are those above the child
+      pub turn-stopped : (total : ℕ) (lists2 : Lists) → total ≡ left → HasLists shop.jobs first2 last2 lists2 →
+          StandsBelow shop number (names_of packs) first last total lists2 (levels ++ here ∷ [])
+      turn-stopped total lists2 all has_lists =
+          let R : ℕ → List ℕ → List ℕ → Level → Type 0 = IsStopped shop number (names_of packs) in
+          let jobs : List ℕ = jobs_of (names_of packs) (left - length levels) here in
+          let each : AllByRecursion (IsOpen shop number old.end begin behind) (here.job ∷ jobs) =
+          subst (AllByRecursion (IsOpen shop number old.end begin behind)) turn.first stands.is_here.each in
+          let distinct : AreDistinct (here.job ∷ jobs) = subst AreDistinct turn.first stands.is_here.distinct in
+          let last_is : R (left - length levels) begin behind here = record {
+            each = subst (λ end. AllByRecursion (IsOpen shop number end begin behind) jobs) (sym turn.end) each.1;
+            distinct = distinct.1;
+            opened = turn-open;
+          } in
+          let are : AreLevels R left first last levels =
+          levels-map (IsAbove list cap width shop number packs nodes) R old.top left first last levels
+          (λ n f b level least most top is. record {
+            each = is.is_level.each;
+            distinct = is.is_level.distinct;
+            opened = is.opened;
+          }) stands.nested stands.are_levels in
+          record {
+            are_levels = subst (λ n. AreLevels R n first last (levels ++ here ∷ [])) (sym all)
+                (levels-push R left first last levels here are last_is);
+            has_lists = lists-push (λ f l. HasLists shop.jobs f l lists2) first last levels here has_lists;
+          }
+
       -- where it was the last job, a sequence below the number is reached
       pub turn-low : (lists2 : Lists) → length (jobs_left shop.jobs (first2 ++ last2)) ≡ 0 →
           length first2 + length last2 ≡ shop.jobs → HasLists shop.jobs first2 last2 lists2 →
@@ -220,10 +247,10 @@ module _ {V : Type 0} (list : V → List ℕ) (cap width : ℕ) (shop : Shop) (n
           (is_parent : IsLevel list cap width shop number packs2 nodes2 more begin behind parent)
           (begun : IsBegun list cap width shop number packs2 nodes2 (more - 1) first2 last2 child)
           (below : here.top ≤ child.top) (has_lists : HasLists shop.jobs first2 last2 lists2) where
-        P : ℕ → List ℕ → List ℕ → Level → Type 0
+        abbrev pub P : ℕ → List ℕ → List ℕ → Level → Type 0
         P = IsAbove list cap width shop number packs nodes
 
-        Q : ℕ → List ℕ → List ℕ → Level → Type 0
+        abbrev pub Q : ℕ → List ℕ → List ℕ → Level → Type 0
         Q = IsAbove list cap width shop number packs2 nodes2
 
         is-above : Q more begin behind parent

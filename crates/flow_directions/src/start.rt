@@ -14,7 +14,7 @@ ghost use Rattle.flow_directions.specs.declared.found.ProveFault.TheVariants.{Jo
 use crate::found::ProveFault;
 use crate::lists::Lists;
 use crate::tree::Tree;
-use flow_nodes::{Lanes, Marks, Node, Pack, group_count};
+use flow_nodes::{Lanes, Marks, Node, OpenNode, Pack, group_count};
 use flow_shop::{End, Instance, JobSet, Row, insert_all};
 use std::alloc::{AllocError, Global};
 
@@ -89,7 +89,7 @@ impl StartNode {
         pack.load(instance, rows);
     }
 
-    /// Opens the node at the first place of a tree's list, which has none yet. The jobs left are packed in the last pack.
+    /// Packs the jobs left in the last pack of a tree that has no node yet, and puts the node, opened, into its list.
     pub(crate) fn open<V: Lanes>(
         &self,
         instance: &Instance,
@@ -98,9 +98,10 @@ impl StartNode {
         requires wide { V.WIDTH ≡ 16 }
         requires some { 1 ≤ self.now.left }
         requires packs { length tree.old.packs.items ≡ group_count self.now.left }
+        requires nodes { tree.old.nodes.items ≡ [] }
         requires at { (number : ℕ) × (first : List ℕ) × (last : List ℕ) × IsStart instance.now first last self.now
             × (end_bound instance.now first last < number) × IsTree V.CAP instance.now number tree.old }
-        ensures count { length tree.new.packs.items ≡ length tree.old.packs.items }
+        ensures count { OnOk result (length tree.new.packs.items ≡ length tree.old.packs.items) }
         ensures size { OnOk result (1 ≤ length tree.new.nodes.items) }
         ensures tree { (number : ℕ) (first last : List ℕ) → IsStart instance.now first last self.now →
             end_bound instance.now first last < number → IsTree V.CAP instance.now number tree.old →
@@ -110,13 +111,17 @@ impl StartNode {
             OnOk result (IsAt V.list V.CAP V.WIDTH instance.now number first last self.now.left self.now.lists
             tree.new) }
     {
-        tree.grow(instance, 1)?;
-        let pack = &mut tree.packs[group_count(self.left) - 1];
-        self.pack(instance, tree.opener.rows.as_slice(), pack);
-        let root = &mut tree.nodes[0];
+        let groups = group_count(self.left);
+        self.pack(
+            instance,
+            tree.opener.rows.as_slice(),
+            &mut tree.packs[groups - 1],
+        );
+        let mut root = OpenNode::new(tree.alloc, instance, groups)?;
         root.node = self.node;
         root.left = Marks::first(self.left);
-        tree.opener.open(pack, root);
+        tree.opener.open(&tree.packs[groups - 1], &mut root);
+        tree.nodes.push(root)?;
         Ok(())
     }
 }

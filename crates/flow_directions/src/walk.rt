@@ -1,6 +1,6 @@
 //! The walk through the nodes that the search opens.
 
-ghost use Rattle.std.specs.Prelude.{◌≡◌, ℕ, ◌+◌, ◌≤◌, List, [], ◌++◌, length, All, IfOk};
+ghost use Rattle.std.specs.Prelude.{◌≡◌, ℕ, ◌+◌, ◌*◌, ◌≤◌, List, [], ◌++◌, length, All, IfOk};
 ghost use Rattle.flow_shop.specs.Shop.{Shop};
 ghost use Rattle.flow_shop.specs.Directions.{sign};
 ghost use Rattle.flow_shop.specs.Sequences.{AreJobs, IsSequence};
@@ -85,15 +85,15 @@ fn parts_left<V: Lanes>(
 ) -> Result<Vec<Part>, AllocError>
     requires few { group_count (left + length levels.old.items) ≤ length tree.now.packs.items }
     requires at { (shop : Shop) × (number : ℕ) × (first : List ℕ) × (last : List ℕ) × IsTree V.CAP shop number tree.now
-        × StandsBelow V.list V.CAP V.WIDTH shop number first last (left + length levels.old.items) lists.old tree.now
+        × StandsBelow shop number (names_of tree.now.packs.items) first last (left + length levels.old.items) lists.old
         levels.old.items }
     ensures parts { (shop : Shop) (number : ℕ) (first last : List ℕ) → IsTree V.CAP shop number tree.now →
-        StandsBelow V.list V.CAP V.WIDTH shop number first last (left + length levels.old.items) lists.old tree.now
+        StandsBelow shop number (names_of tree.now.packs.items) first last (left + length levels.old.items) lists.old
         levels.old.items → IfOk result (λ parts. parts_visits shop number parts.items
         ≡ met_with shop number (names_of tree.now.packs.items) (left + length levels.old.items) first last
         levels.old.items (visits shop number (first_of first levels.old.items) (last_of last levels.old.items))) }
     ensures each { (shop : Shop) (number : ℕ) (first last : List ℕ) → IsTree V.CAP shop number tree.now →
-        StandsBelow V.list V.CAP V.WIDTH shop number first last (left + length levels.old.items) lists.old tree.now
+        StandsBelow shop number (names_of tree.now.packs.items) first last (left + length levels.old.items) lists.old
         levels.old.items → AreJobs shop.jobs (first ++ last) → IfOk result (λ parts. All (IsPart shop) parts.items) }
     ensures count { IfOk result (λ parts. length parts.items ≡ length levels.old.items + 1) }
 {

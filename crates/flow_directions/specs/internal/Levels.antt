@@ -69,6 +69,13 @@ pub record IsAbove {V : Type 0} (list : V → List ℕ) (cap width : ℕ) (shop 
   pub is_level : IsLevel list cap width shop number packs nodes left first last level
   pub opened : IsOpen shop number level.end first last level.job
 
+-- a level above whose child the search stops: its other children are left
+pub record IsStopped (shop : Shop) (number : ℕ) (names : ℕ → List ℕ) (left : ℕ) (first last : List ℕ)
+    (level : Level) : Type 0 where
+  pub each : AllByRecursion (IsOpen shop number level.end first last) (jobs_of names left level)
+  pub distinct : AreDistinct (jobs_of names left level)
+  pub opened : IsOpen shop number level.end first last level.job
+
 -- a level of which no child is searched yet: all those below the number at the end that is taken are still to be
 pub record IsBegun {V : Type 0} (list : V → List ℕ) (cap width : ℕ) (shop : Shop) (number : ℕ)
     (packs : List (Pack V)) (nodes : List (OpenNode V)) (left : ℕ) (first last : List ℕ) (level : Level) :
@@ -137,8 +144,7 @@ pub record IsAt {V : Type 0} (list : V → List ℕ) (cap width : ℕ) (shop : S
 
 -- a search stands at the child of the last of some levels, whose lists an array has; so many jobs were left at the first
 -- level's node
-pub record StandsBelow {V : Type 0} (list : V → List ℕ) (cap width : ℕ) (shop : Shop) (number : ℕ)
-    (first last : List ℕ) (left : ℕ) (lists : Lists) (tree : Tree V) (levels : List Level) : Type 0 where
-  pub are_levels : AreLevels (IsAbove list cap width shop number tree.packs.items tree.nodes.items) left first last
-      levels
+pub record StandsBelow (shop : Shop) (number : ℕ) (names : ℕ → List ℕ) (first last : List ℕ) (left : ℕ)
+    (lists : Lists) (levels : List Level) : Type 0 where
+  pub are_levels : AreLevels (IsStopped shop number names) left first last levels
   pub has_lists : HasLists shop.jobs (first_of first levels) (last_of last levels) lists

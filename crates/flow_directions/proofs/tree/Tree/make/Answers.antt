@@ -6,7 +6,8 @@ use Rattle.flow_nodes.specs.Marks.{mark}
 use Rattle.flow_nodes.specs.Packs.{IsPack}
 use Rattle.flow_nodes.specs.Open.{HasRoomToOpen, IsOpenNode, children_at}
 use Rattle.flow_directions.specs.internal.Tree.{IsOpenAt}
-use Rattle.flow_directions.proofs.TreeSteps.{children-of, each-set, marked-below, names-count, room-fewer, written-back}
+use Rattle.flow_nodes.proofs.OpenSteps.{below-number}
+use Rattle.flow_directions.proofs.TreeSteps.{children-of, each-set, names-count, room-fewer, written-back}
 use Rattle.flow_directions.proofs.tree.Tree.make.Given.{Over}
 use Rattle.flow_directions.proofs.tree.Tree.make.Goals as goal
 use Rattle.flow_directions.proofs.tree.Tree.make.Goals.{After-make_child}
@@ -127,12 +128,11 @@ returns-clause-child g c number first last none tree is =
     tree.opener tree.limit
     (ap (λ ns. mark (children_at put.end (slice_index_or ns c.args.at child)).below.words put.place) value
     ∙ c.requires.marked child) in
-    let below = marked-below shop number first last put.end
-    (children_at put.end (slice_index_or nodes c.args.at child)).below.words
-    (slice_index_or packs (c.args.groups - 1) none).names.items put.place
+    let parent = slice_index_or nodes c.args.at child in
+    let below = below-number g.V.Lanes.list g.V.Lanes.CAP g.V.Lanes.WIDTH shop number put.end first last
+    (slice_index_or packs (c.args.groups - 1) none).names.items parent.left (children_at put.end parent)
     (children-of g.V.Lanes.list g.V.Lanes.CAP g.V.Lanes.WIDTH shop number put.end first last
-    (slice_index_or packs (c.args.groups - 1) none) (slice_index_or nodes c.args.at child)
-    (is.is_open none child)).below
+    (slice_index_or packs (c.args.groups - 1) none) parent (is.is_open none child)) put.place
     (omega (arith, c.requires.place, c.requires.some, names-count shop packs (c.args.groups - 1) none tree.packs low))
     (c.requires.marked child) in
     subst (IsOpenAt g.V.Lanes.list g.V.Lanes.CAP g.V.Lanes.WIDTH shop number (first_with put.end first named)
