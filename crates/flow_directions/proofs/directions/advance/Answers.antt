@@ -1,10 +1,9 @@
 use Rattle.std.proofs.Common.{◌≡◌, ◌<◌, ◌++◌, length, sym, subst, arith}
 use Rattle.flow_shop.specs.Sequences.{jobs_left, IsSequence}
 use Rattle.flow_shop.specs.Ends.{end_bound}
-use Rattle.flow_directions.specs.Search.{IsAdvanced}
 use Rattle.flow_directions.specs.internal.Reached.{IsSequenceAfter}
 use Rattle.flow_directions.proofs.NodeLists.{whole-node}
-use Rattle.flow_directions.proofs.FoundSteps.{found-high, found-whole, each-ok}
+use Rattle.flow_directions.proofs.FoundSteps.{found-high, found-whole}
 use Rattle.flow_directions.proofs.directions.advance.Goals as goal
 
 pub returns-then-from-number-clause-advanced : goal.returns-then-from-number-clause-advanced
@@ -45,12 +44,8 @@ returns-then-start-eq0-clause-advanced c =
     let sequence = whole-node shop.jobs (c.args.first.now ++ c.args.last.now) is.are_jobs none in
     let all : c.all.result.now ≡ c.args.first.now ++ c.args.last.now =
     c.all.ensures.lists shop.jobs c.args.first.now c.args.last.now is.has_lists sequence.whole in
-    each-ok (IsSequenceAfter shop c.all.result.now c.new-then-start-eq0.result.items)
-    (IsAdvanced c.args.instance.now c.args.number c.args.budget c.args.first.now c.args.last.now)
-    c.sequence_of.result
-    (λ found makespan.
-    found-whole c.args.instance.now c.args.number c.args.budget c.args.first.now c.args.last.now
-    found none low (subst (λ text. IsSequenceAfter shop (c.args.first.now ++ c.args.last.now) text found)
+    found-whole c.args.instance.now c.args.number c.args.budget c.args.first.now c.args.last.now c.in_ok-found.found none
+    low (subst (λ text. IsSequenceAfter shop (c.args.first.now ++ c.args.last.now) text c.in_ok-found.found)
     c.new-then-start-eq0.ensures.items
-    (subst (λ jobs. IsSequenceAfter shop jobs c.new-then-start-eq0.result.items found) all makespan)))
-    c.sequence_of.ensures.found
+    (subst (λ jobs. IsSequenceAfter shop jobs c.new-then-start-eq0.result.items c.in_ok-found.found) all
+    c.in_ok-found.ensures.found))

@@ -268,8 +268,8 @@ returns-then-weight-weighing-clause-reaches g c number first last tree is reache
     omega (
       arith,
       reached,
-      more-is g (goal.at.returns-then-weight-weighing-clause-reaches g c).After-fewest-weight number first last none tree
-          is,
+      more-is g (goal.at.returns-then-weight-weighing-clause-reaches g c).After-fewest-weight number first last none
+          tree is,
     )
 
 pub overflow_add-to : goal.overflow_add-to
