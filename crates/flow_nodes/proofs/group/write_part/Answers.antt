@@ -1,4 +1,4 @@
-use Rattle.std.proofs.Common.{◌≡◌, ◌+◌, ◌-◌, ◌≤◌, length, ◌∙◌, arith}
+use Rattle.std.proofs.Common.{◌+◌, ◌-◌, ◌∙◌, arith}
 use Rattle.flow_nodes.proofs.TurnedTimes.{written-size, written-each, written-behind}
 use Rattle.flow_nodes.proofs.group.write_part.Goals as goal
 
