@@ -180,7 +180,7 @@ fn work_without(
 }
 
 impl Node {
-    /// Becomes the child of a node that puts a job that is left at an end. The constant is the number of machines, or 0.
+    /// Becomes the child of a node that puts a job left at an end. The constant is the number of machines, or 0.
     #[inline(always)]
     pub fn become_child<const M: usize>(
         &mut self,

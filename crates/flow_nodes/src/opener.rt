@@ -150,8 +150,8 @@ impl<V: Lanes> Opener<V> {
         }
     }
 
-    /// The bounds of the children that put the jobs of a group at an end, once what the groups share there is written. A
-    /// lane whose job is not left has some number.
+    /// The bounds of the children that put the jobs of a group at an end, once what the groups share there is written.
+    /// A lane whose job is not left has some number.
     #[inline(always)]
     fn bounds(&self, end: End, group: &[V]) -> V
         requires near { length self.now.near.items ≡ length group.now }
@@ -170,8 +170,8 @@ impl<V: Lanes> Opener<V> {
         }
     }
 
-    /// The children below the number, of those that put the jobs of a group at an end: a bit for each lane, and no other
-    /// bits. The bit of a lane whose job is not left may be set or not.
+    /// The children below the number, of those that put the jobs of a group at an end: a bit for each lane, and no
+    /// other bits. The bit of a lane whose job is not left may be set or not.
     #[inline(always)]
     fn lanes_below(&self, end: End, group: &[V]) -> u64
         requires limit { self.now.limit ≤ V.CAP }
@@ -187,8 +187,8 @@ impl<V: Lanes> Opener<V> {
         self.bounds(end, group).below(self.limit)
     }
 
-    /// Marks the jobs left that make children below the number at an end, among those of the groups, once what the groups
-    /// share there is written.
+    /// Marks the jobs left that make children below the number at an end, among those of the groups, once what the
+    /// groups share there is written.
     #[inline(always)]
     fn mark_groups(&self, end: End, groups: &[Vec<V>], left: &Marks, below: &mut Marks)
         requires wide { V.WIDTH ≡ 16 }
@@ -220,8 +220,8 @@ impl<V: Lanes> Opener<V> {
         }
     }
 
-    /// Marks the jobs of a pack whose children at an end are below the number, of those left. The constant is the number
-    /// of machines, or 0.
+    /// Marks the jobs of a pack whose children at an end are below the number, of those left. The constant is the
+    /// number of machines, or 0.
     #[inline(always)]
     pub fn mark_below<const M: usize>(
         &mut self,

@@ -207,7 +207,7 @@ impl<V: Lanes> Path<V> {
         })
     }
 
-    /// Begins with the children of the node at an end, of those below the number, where so many groups of jobs are left.
+    /// Begins with the children of the node at an end, of those below the number. So many groups of jobs are left.
     #[inline(always)]
     fn open<const M: usize>(&mut self, end: End, groups: usize)
         requires wide { V.WIDTH ≡ 16 }
@@ -353,8 +353,8 @@ impl<V: Lanes> Path<V> {
         frame.left = Marks::first(left);
     }
 
-    /// Goes to the child of the node that the job of a place makes, at the end of the node, where so many jobs are left.
-    /// Where these are whole groups, they are packed anew.
+    /// Goes to the child of the node that the job of a place makes, at the end of the node. So many jobs are left
+    /// there; where these are whole groups, they are packed anew.
     #[inline(always)]
     fn go<const M: usize>(&mut self, instance: &Instance, rows: &[Row], place: usize, left: u16)
         requires wide { V.WIDTH ≡ 16 }
@@ -372,7 +372,8 @@ impl<V: Lanes> Path<V> {
         ensures opener { self.new.opener ≡ self.old.opener }
         ensures packs { ArePacks V.list V.CAP V.WIDTH instance.now left self.new.packs.items }
         ensures names { (more : ℕ) → left < more → more ≤ instance.now.jobs →
-            names_at self.old.packs.items (group_count more - 1) ≡ names_at self.new.packs.items (group_count more - 1) }
+            names_at self.old.packs.items (group_count more - 1)
+            ≡ names_at self.new.packs.items (group_count more - 1) }
         ensures node { (first last : List ℕ) → IsNext instance.now first last left place self.old →
             IsNode instance.now (first_with (here self.old).end first (here self.old).job)
             (last_with (here self.old).end last (here self.old).job) (here self.new).node }
