@@ -183,13 +183,14 @@ def not_lawful(refused: Refused, given: Text, text: bytes, jobs: int, machines: 
 
 
 # The lines of a sequence, as the program prints them, and what each has to be.
-_SEQUENCE = re.compile(rb"[ \t\r]*sequence((?:[ \t\r]+[0-9]{1,20})+)[ \t\r]*")
-_MAKESPAN = re.compile(rb"[ \t\r]*makespan[ \t\r]+([0-9]{1,20})[ \t\r]*")
+_SEQUENCE = re.compile(rb"[ \t\r]*sequence((?:[ \t\r]+[0-9]+)+)[ \t\r]*")
+_MAKESPAN = re.compile(rb"[ \t\r]*makespan[ \t\r]+([0-9]+)[ \t\r]*")
 _NOTHING = re.compile(rb"()")
 _NUMBERS = re.compile(rb"[ \t\r0-9]+")
+# Each with the greatest number that it may have.
 _SEQUENCE_LINES = [
-    (_SEQUENCE, "the word sequence and the numbers of the jobs"),
-    (_MAKESPAN, "the word makespan and a number"),
+    (_SEQUENCE, 65_535, "the word sequence and the numbers of the jobs"),
+    (_MAKESPAN, 4_294_967_295, "the word makespan and a number"),
 ]
 
 
@@ -206,13 +207,14 @@ def sequence_of(text: bytes) -> Tuple[List[int], Optional[int], int]:
     lines = list(islice(((number, line) for number, line in numbered if line.strip(b" \t\r")), 3))
     found, number = [], 0
     for at, (number, line) in enumerate(lines or [(_count_of_lines(text) + 1, b"")]):
-        form, wanted = _SEQUENCE_LINES[at] if at < 2 else (_NOTHING, "blank")
+        form, most, wanted = _SEQUENCE_LINES[at] if at < 2 else (_NOTHING, 0, "blank")
         match = form.fullmatch(line)
-        if not match:
+        words = [word.lstrip(b"0") or b"0" for word in match[1].split()] if match else []
+        if not match or any(len(word) > 10 or int(word) > most for word in words):
             if at == 0 and line.split()[:1] != [b"sequence"]:
                 wanted = _first_of_orders(line)
             raise TextError("SEQUENCE", number, f"line {number} is {_line(text, number)}, and has to be {wanted}")
-        found.append([int(word) for word in match[1].split()])
+        found.append([int(word) for word in words])
     return found[0], found[1][0] if len(found) == 2 else None, number
 
 
