@@ -76,12 +76,8 @@ enum flowshop_limit {
 };
 
 /* How many bytes of stack the thread of a call needs, whatever the shop is; with less a call may end the process by
- * SIGSEGV. With the most jobs and machines flowshop_certify took 1.3 MB and flowshop_prove 1.2 MB, some 1500 bytes for
- * each job; of the other calls none took more than 81 kB. */
-enum flowshop_stack {
-    FLOWSHOP_STACK = 2097152, /* of flowshop_certify and flowshop_prove */
-    FLOWSHOP_SMALL_STACK = 131072 /* of each other call */
-};
+ * SIGSEGV. With the most jobs and machines no call took more than 81 kB. */
+enum flowshop_stack { FLOWSHOP_STACK = 131072 };
 
 enum flowshop_status {
     FLOWSHOP_DONE = 0,

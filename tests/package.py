@@ -137,7 +137,7 @@ def compare_header():
         wanted = numbers.get(f"MIN_{name.upper()}", 0 if name in ("width", "rounds", "work", "depth") else 1)
         equal(f"the least of {name}", least, wanted)
     equal("the most trees", _options.MOST_TREES, numbers["MAX_PREFIXES"])
-    equal("room for calls on a stack", _stack.STACK >= numbers["STACK"] > numbers["SMALL_STACK"], True)
+    equal("room for calls on a stack", _stack.STACK >= numbers["STACK"], True)
     equal("the greatest time", _library.MOST_TIME, numbers["MAX_TIME"])
 
 

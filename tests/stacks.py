@@ -1,6 +1,6 @@
 """tests/stacks.py: makes calls on the greatest shop, and prints what they give, for tests/package.py. With the word
 `caller` they are those of the package, in a thread whose stack is the smallest that Python gives, and in the main
-thread. With the word `library` they are those of the library, in threads with the stacks that library/flowshop.h
+thread. With the word `library` they are those of the library, in threads with the stack that library/flowshop.h
 states."""
 
 import array
@@ -87,9 +87,9 @@ def main():
         search_by_package()
     else:
         with open(os.path.join(TOP, "library", "flowshop.h"), encoding="ascii") as header:
-            stacks = dict(re.findall(r"FLOWSHOP_(STACK|SMALL_STACK) = (\d+)", header.read()))
-        with_stack(int(stacks["STACK"]), search)
-        with_stack(int(stacks["SMALL_STACK"]), call_library)
+            stack = int(re.search(r"FLOWSHOP_STACK = (\d+)", header.read())[1])
+        with_stack(stack, search)
+        with_stack(stack, call_library)
 
 
 if __name__ == "__main__":
