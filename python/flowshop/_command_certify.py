@@ -163,7 +163,7 @@ def _say_stopped(table: Table, count: int, lines: Lines) -> None:
 
 
 def _stop(table: Table, count: int, lines: Lines) -> None:
-    """Does so, as far as it can: what is written and nobody reads does not keep the process from ending."""
+    """Does that in a thread, and waits for it a short time: where nobody reads the output, the process ends too."""
     saying = Running(lambda: _say_stopped(table, count, lines))
     saying.start()
     saying.wait(2 * _PATIENCE)
