@@ -1,28 +1,26 @@
 -- Where the walk stands: what is still to be met, by the levels.
-use Rattle.std.proofs.Common.{◌≡◌, ℕ, suc, ◌+◌, ◌-◌, ◌*◌, ◌<◌, ◌≤◌, List, [], ◌∷◌, ◌++◌, length, take, Some, None}
-use Rattle.std.proofs.Common.{slice_index_or, refl, ap, sym, ◌∙◌, subst, arith, append_assoc, append-nil, length-append}
+use Rattle.std.proofs.Common.{◌≡◌, ℕ, ◌+◌, ◌-◌, ◌*◌, ◌<◌, ◌≤◌, List, [], ◌∷◌, ◌++◌, length, take, Some, None}
+use Rattle.std.proofs.Common.{slice_index_or, refl, ap, sym, ◌∙◌, subst, arith, append_assoc, length-append}
 use Rattle.std.specs.List.{flat_map, AllByRecursion}
 use Rattle.flow_shop.specs.Shop.{Shop}
 use Rattle.flow_shop.specs.Sequences.{jobs_left, AreDistinct}
 use Rattle.flow_shop.specs.Ends.{end_bound}
 use Rattle.flow_shop.specs.Directions.{sign, first_with, last_with}
-use Rattle.flow_shop.specs.declared.end.End.{End}
 use Rattle.flow_nodes.specs.Groups.{group_count}
 use Rattle.flow_nodes.specs.Marks.{chosen}
 use Rattle.flow_nodes.specs.declared.pack.Pack.{Pack}
-use Rattle.flow_nodes.proofs.KeptNodes.{lengths}
 use Rattle.flow_directions.specs.Search.{Visit, Continues, child_visits, directions_of, first_below, first_reached, opens}
 use Rattle.flow_directions.specs.Search.{reaches, signs, visits}
 use Rattle.flow_directions.specs.internal.Lists.{HasLists}
-use Rattle.flow_directions.specs.internal.Levels.{AreLevels, AreNested, HasChildren, IsAbove, IsAt, IsBegun, IsLevel}
-use Rattle.flow_directions.specs.internal.Levels.{IsNext, IsOpen, IsStopped, StandsBelow, first_of, jobs_of, last_of, met_with, names_at, names_of}
+use Rattle.flow_directions.specs.internal.Levels.{AreLevels, AreNested, IsAbove, IsAt, IsBegun, IsLevel}
+use Rattle.flow_directions.specs.internal.Levels.{IsNext, IsOpen, IsStopped, StandsBelow, first_of, jobs_of, last_of, met_with, names_of}
 use Rattle.flow_directions.specs.internal.Levels.{rest_met}
 use Rattle.flow_nodes.specs.declared.open.OpenNode.{OpenNode}
 use Rattle.flow_directions.specs.declared.level.Level.{Level}
 use Rattle.flow_directions.specs.declared.lists.Lists.{Lists}
 use Rattle.flow_directions.specs.declared.tree.Tree.{Tree}
-use Rattle.flow_directions.proofs.LevelMoves.{IsTurn, level-moved, next-count, next-turn}
-use Rattle.flow_directions.proofs.LevelSteps.{first-push, last-push, levels-count, levels-map, levels-pop, levels-push}
+use Rattle.flow_directions.proofs.LevelMoves.{IsTurn, level-moved, next-turn}
+use Rattle.flow_directions.proofs.LevelSteps.{first-push, last-push, levels-map, levels-pop, levels-push}
 use Rattle.flow_directions.proofs.LevelSteps.{lists-push, nested-pop, nested-push}
 use Rattle.flow_directions.proofs.MetSteps.{met-opens, met-push, met-reaches, met-same}
 use Rattle.flow_directions.proofs.PackNames.{names-same}

@@ -1,7 +1,7 @@
-use Rattle.std.proofs.Common.{◌≡◌, ℕ, ◌+◌, ◌-◌, ◌*◌, ◌<◌, ◌≤◌, List, [], ◌∷◌, ◌++◌, length, Some, None, refl, ap, sym, ◌∙◌}
-use Rattle.std.proofs.Common.{slice_index_or, subst, arith, length-append}
+use Rattle.std.proofs.Common.{◌≡◌, ℕ, ◌+◌, ◌-◌, ◌*◌, ◌<◌, List, [], ◌∷◌, ◌++◌, length, Some, ap, sym, ◌∙◌}
+use Rattle.std.proofs.Common.{subst, arith, length-append}
 use Rattle.flow_shop.specs.Directions.{first_with, last_with, sign}
-use Rattle.flow_shop.specs.Sequences.{jobs_left, AreJobs, IsSequence}
+use Rattle.flow_shop.specs.Sequences.{jobs_left, IsSequence}
 use Rattle.flow_shop.proofs.EndSteps.{count-child}
 use Rattle.flow_shop.proofs.Lists.{some-of}
 use Rattle.flow_nodes.specs.Groups.{group_count}
@@ -10,7 +10,7 @@ use Rattle.flow_nodes.proofs.KeptNodes.{lengths}
 use Rattle.flow_shop.specs.Ends.{end_bound}
 use Rattle.flow_directions.specs.Search.{Continues, IsAdvanced, directions_of, first_below, visits}
 use Rattle.flow_directions.specs.internal.Lists.{HasLists}
-use Rattle.flow_directions.specs.internal.Levels.{AreNested, IsAt, IsBegun, IsLevel, IsNext, StandsBelow, first_of}
+use Rattle.flow_directions.specs.internal.Levels.{AreNested, IsBegun, IsLevel, IsNext, StandsBelow, first_of}
 use Rattle.flow_directions.specs.internal.Levels.{jobs_of, last_of, met_with, names_at, names_of}
 use Rattle.flow_directions.specs.declared.level.Level.{Level}
 use Rattle.flow_directions.specs.internal.Reached.{IsSequenceAfter}

@@ -1,11 +1,9 @@
-use Rattle.std.proofs.Common.{◌≡◌, ℕ, suc, ◌+◌, ◌-◌, ◌<◌, ◌≤◌, List, ◌++◌, ◌∷◌, length, slice_index_or, take, ap, sym, ◌∙◌}
-use Rattle.std.proofs.Common.{OnOk, subst, arith}
+use Rattle.std.proofs.Common.{◌≡◌, ℕ, ◌+◌, ◌-◌, ◌≤◌, List, ◌++◌, length, slice_index_or, take, ap, ◌∙◌}
+use Rattle.std.proofs.Common.{arith}
 use Rattle.flow_shop.specs.Sequences.{jobs_left}
 use Rattle.flow_shop.specs.Directions.{first_with, last_with}
-use Rattle.flow_shop.proofs.EndSteps.{count-child}
 use Rattle.flow_nodes.specs.Groups.{group_count}
 use Rattle.flow_directions.specs.internal.Levels.{IsLevel, IsNext}
-use Rattle.flow_directions.specs.internal.Tree.{IsOpenAt, IsTree}
 use Rattle.flow_directions.proofs.LevelMoves.{level-moved, next-count, on-ok}
 use Rattle.flow_directions.proofs.TreeSteps.{fewer-kept}
 use Rattle.flow_directions.proofs.tree.Tree.go.Given.{Over}
