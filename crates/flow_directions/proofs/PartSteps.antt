@@ -131,7 +131,8 @@ module _ (shop : Shop) (number : ℕ) (names : ℕ → List ℕ) (first last : L
       StandsBelow shop number names first last left lists2 rest
   left-stands lists2 has_lists = record { are_levels = popped.0; has_lists = has_lists }
 
-  module _ (parts : List Part) (part : Part) (jobs : List ℕ) (jobs_are : jobs ≡ jobs_of names (left - length rest) level)
+  module _ (parts : List Part) (part : Part) (jobs : List ℕ) (jobs_are : jobs ≡ jobs_of names (left - length rest)
+      level)
       (are : AreChildrenPart (first_of first rest) (last_of last rest) level.end jobs part) where
     pub left-met : met_with shop number names left first last rest (parts_visits shop number (parts ++ part ∷ []))
         ≡ met_with shop number names left first last levels (parts_visits shop number parts)

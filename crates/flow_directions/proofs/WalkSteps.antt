@@ -86,7 +86,8 @@ module _ (shop : Shop) (number : ℕ) (first last : List ℕ) where
       visits-high shop number (first_with end first job) (last_with end last job)
       (ltb-false (child_bound shop end first last job) number above)))
 
-  pub below-each : (end : End) → AllByRecursion (IsOpen shop number end first last) (left_below shop number end first last)
+  pub below-each : (end : End) → AllByRecursion (IsOpen shop number end first last) (left_below shop number end first
+      last)
   below-each end =
       let p : ℕ → Bool = λ job. nat_lt (child_bound shop end first last job) number in
       each-kept (IsOpen shop number end first last) p (jobs_left shop.jobs (first ++ last))

@@ -43,8 +43,8 @@ pub(crate) struct Level {
 }
 
 impl Level {
-    /// The place of the next job whose child is to be searched, in the pack that has the jobs left. `None` where no such
-    /// job is left.
+    /// The place of the next job whose child is to be searched, in the pack that has the jobs left. `None` where no
+    /// such job is left.
     #[inline(always)]
     pub(crate) fn next<V: Lanes>(&mut self, pack: &Pack<V>) -> Option<usize>
         requires few { length pack.now.groups.items ≤ 50 }
@@ -110,8 +110,8 @@ impl<V: Lanes> Tree<V> {
         })
     }
 
-    /// Finds the child of a level that puts the job of a place, where it is kept, or makes it. So many jobs are left at the
-    /// child.
+    /// Finds the child of a level that puts the job of a place, where it is kept, or makes it. So many jobs are left
+    /// at the child.
     #[inline(always)]
     fn child(&mut self, instance: &Instance, here: &mut Level, place: usize, left: u16) -> Spot
         requires wide { V.WIDTH ≡ 16 }
@@ -161,8 +161,8 @@ impl<V: Lanes> Tree<V> {
         }
     }
 
-    /// Packs the jobs left at the node at a spot anew, where they are whole groups, and opens it behind the spot then. They
-    /// are so many, and stand in the pack that the node above it has.
+    /// Packs the jobs left at the node at a spot anew, where they are whole groups, and opens it behind the spot
+    /// then. They are so many, and stand in the pack that the node above it has.
     #[inline(always)]
     fn settle(&mut self, instance: &Instance, spot: Spot, left: u16) -> Result<Spot, AllocError>
         requires wide { V.WIDTH ≡ 16 }

@@ -73,9 +73,9 @@ pub(crate) fn sequence_of(
     })
 }
 
-/// The parts with which a search goes on that is over its budget at the child of the last of some levels: the child, and
-/// then the children of each level that are still to be searched, the last one's first. So many jobs are left at the
-/// child.
+/// The parts with which a search goes on that is over its budget at the child of the last of some levels: the child,
+/// and then the children of each level that are still to be searched, the last one's first. So many jobs are left at
+/// the child.
 #[inline(never)]
 fn parts_left<V: Lanes>(
     tree: &Tree<V>,

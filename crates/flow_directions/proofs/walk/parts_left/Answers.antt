@@ -7,7 +7,8 @@ use Rattle.flow_nodes.specs.Marks.{chosen}
 use Rattle.flow_directions.specs.Search.{IsPart, parts_visits}
 use Rattle.flow_directions.specs.internal.Levels.{first_of, jobs_of, last_of, met_with, names_at, names_of}
 use Rattle.flow_directions.proofs.PackNames.{names-is}
-use Rattle.flow_directions.proofs.PartSteps.{left-each, left-lists, left-met, left-stands, levels-jobs, met-node, node-part}
+use Rattle.flow_directions.proofs.PartSteps.{left-each, left-lists, left-met, left-stands, levels-jobs, met-node}
+use Rattle.flow_directions.proofs.PartSteps.{node-part}
 use Rattle.flow_directions.proofs.WalkSteps.{parts-more}
 use Rattle.flow_directions.proofs.walk.parts_left.Goals as goal
 use Rattle.flow_directions.proofs.walk.parts_left.Goals.{After-jobs_at}

@@ -85,7 +85,8 @@ returns-clause-here g c number first last tree next =
     ∙ fewer-kept nodes2 nodes3 top c.child-child.result.top low c.settle.ensures.above in
     on-ok c.enter.result (IsLevel g.V.Lanes.list g.V.Lanes.CAP g.V.Lanes.WIDTH c.args.instance.now number packs4 nodes4
     left first last here)
-    (level-moved g.V.Lanes.list g.V.Lanes.CAP g.V.Lanes.WIDTH c.args.instance.now number packs2 packs4 nodes2 nodes4 left
+    (level-moved g.V.Lanes.list g.V.Lanes.CAP g.V.Lanes.WIDTH c.args.instance.now number packs2 packs4 nodes2 nodes4
+    left
     first last here
     (omega (arith, c.requires.few, ap (λ ps. length ps.items) c.child-child.ensures.packs))
     (ap (λ ps. length ps.items) c.enter.ensures.packs ∙ c.settle.ensures.count)
