@@ -1,5 +1,6 @@
 -- What a search found: at a node where nothing is opened, and what it shows.
-use Rattle.std.proofs.Common.{◌≡◌, ℕ, ◌<◌, ◌≤◌, List, [], ◌∷◌, ◌++◌, length, length-append, Some, refl, ap, sym, ◌∙◌, subst}
+use Rattle.std.proofs.Common.{◌≡◌, ℕ, ◌<◌, ◌≤◌, List, [], ◌∷◌, ◌++◌, length, length-append, Some, refl, ap, sym, ◌∙◌}
+use Rattle.std.proofs.Common.{subst}
 use Rattle.std.proofs.Common.{arith}
 use Rattle.std.specs.Prelude.{Result, Ok, Err, IfOk, IfErr, All}
 use Rattle.std.specs.List.{flat_map}
@@ -127,7 +128,8 @@ found-over shop number budget left first last text parts names levels full conti
 -- and where nothing may be written
 pub found-none : (shop : Shop) (number budget : ℕ) (first last : List ℕ) (text : Vec ℕ) (parts : Vec Part) →
     text.items ≡ [] → budget ≡ 0 → end_bound shop first last < number →
-    0 < length (jobs_left shop.jobs (first ++ last)) → parts_visits shop number parts.items ≡ visits shop number first last →
+    0 < length (jobs_left shop.jobs (first ++ last)) → parts_visits shop number parts.items ≡ visits shop number first
+    last →
     All (IsPart shop) parts.items → length parts.items ≤ length (jobs_left shop.jobs (first ++ last)) →
     IsAdvanced shop number budget first last (advanced.Rest text parts)
 found-none shop number budget first last text parts empty full low some met each few =

@@ -50,7 +50,8 @@ module _ {V : Type 0} (list : V → List ℕ) (cap width : ℕ) (shop : Shop) (n
   kept-moved end first last groups count packs packs2 nodes nodes2 pack same (job ∷ jobs) from low are = (
     open-moved list cap width shop number (first_with end first job) (last_with end last job) groups from packs packs2
         nodes nodes2 pack (λ empty. place-kept nodes nodes2 count from empty same (omega (arith, low))) are.0,
-    kept-moved end first last groups count packs packs2 nodes nodes2 pack same jobs (from + 1) (omega (arith, low)) are.1,
+    kept-moved end first last groups count packs packs2 nodes nodes2 pack same jobs (from + 1) (omega (arith, low))
+        are.1,
   )
 
   -- a level stays, where the pack stays and the nodes before its first free place
@@ -87,7 +88,8 @@ module _ {V : Type 0} (list : V → List ℕ) (cap width : ℕ) (shop : Shop) (n
   level-moved packs packs2 nodes nodes2 left first last level within size pack same is =
       subst (λ ns. HasChildren list cap width shop number packs2 nodes2 left first last (chosen level.rest.words ns)
       level) (sym (names-same packs packs2 (group_count left - 1) within size pack))
-      (children-moved packs packs2 nodes nodes2 left first last (jobs_of (names_of packs) left level) level pack same is)
+      (children-moved packs packs2 nodes nodes2 left first last (jobs_of (names_of packs) left level) level pack same
+      is)
 
   module _ (packs : List (Pack V)) (nodes : List (OpenNode V)) (left : ℕ) (first last : List ℕ) where
     -- the child that is searched next

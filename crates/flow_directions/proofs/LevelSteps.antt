@@ -1,5 +1,6 @@
 -- Levels: the lists to which they lead, and what holds of each of them.
-use Rattle.std.proofs.Common.{◌≡◌, ℕ, suc, ◌+◌, ◌-◌, ◌<◌, ◌≤◌, List, [], ◌∷◌, ◌++◌, length, refl, ap, sym, ◌∙◌, subst, arith}
+use Rattle.std.proofs.Common.{◌≡◌, ℕ, suc, ◌+◌, ◌-◌, ◌<◌, ◌≤◌, List, [], ◌∷◌, ◌++◌, length, refl, ap, sym, ◌∙◌}
+use Rattle.std.proofs.Common.{subst, arith}
 use Rattle.flow_shop.specs.Directions.{first_with, last_with}
 use Rattle.flow_nodes.proofs.KeptNodes.{lengths}
 use Rattle.flow_directions.specs.internal.Levels.{AreLevels, AreNested, first_of, first_top, last_of}
@@ -72,7 +73,10 @@ top-push (l ∷ ls) level top = refl
 pub nested-push : (levels : List Level) (level : Level) (top : ℕ) → AreNested levels level.top → level.top ≤ top →
     AreNested (levels ++ level ∷ []) top
 nested-push [] level top are low = (low, tt)
-nested-push (l ∷ ls) level top are low = (omega (arith, are.0, top-push ls level top), nested-push ls level top are.1 low)
+nested-push (l ∷ ls) level top are low = (
+  omega (arith, are.0, top-push ls level top),
+  nested-push ls level top are.1 low,
+)
 
 pub nested-pop : (levels : List Level) (level : Level) (top : ℕ) → AreNested (levels ++ level ∷ []) top →
     AreNested levels level.top × (level.top ≤ top)

@@ -1,5 +1,5 @@
 -- The parts of a search: what is met there, and that they are parts.
-use Rattle.std.proofs.Common.{◌≡◌, ℕ, ◌+◌, ◌-◌, ◌<◌, ◌≤◌, List, [], ◌∷◌, ◌++◌, length, ap, sym, ◌∙◌, subst, arith}
+use Rattle.std.proofs.Common.{◌≡◌, ℕ, ◌-◌, ◌≤◌, List, [], ◌∷◌, ◌++◌, length, ap, sym, ◌∙◌, subst}
 use Rattle.std.specs.List.{flat_map, AllByRecursion}
 use Rattle.std.specs.Prelude.{All}
 use Rattle.std.specs.Global.{Vec}
@@ -14,7 +14,6 @@ use Rattle.flow_directions.specs.internal.Left.{AreChildrenPart, IsNodePart}
 use Rattle.flow_directions.specs.internal.Levels.{AreLevels, IsOpen, IsStopped, StandsBelow, first_of, jobs_of, last_of}
 use Rattle.flow_directions.specs.internal.Levels.{met_with}
 use Rattle.flow_directions.specs.declared.found.Part.{Part}
-use Rattle.flow_directions.specs.declared.found.Part.TheVariants.{Node, Children}
 use Rattle.flow_directions.specs.declared.level.Level.{Level}
 use Rattle.flow_directions.specs.declared.lists.Lists.{Lists}
 use Rattle.flow_directions.proofs.LevelSteps.{levels-pop, lists-pop}
@@ -132,7 +131,8 @@ module _ (shop : Shop) (number : ℕ) (names : ℕ → List ℕ) (first last : L
       StandsBelow shop number names first last left lists2 rest
   left-stands lists2 has_lists = record { are_levels = popped.0; has_lists = has_lists }
 
-  module _ (parts : List Part) (part : Part) (jobs : List ℕ) (jobs_are : jobs ≡ jobs_of names (left - length rest) level)
+  module _ (parts : List Part) (part : Part) (jobs : List ℕ) (jobs_are : jobs ≡ jobs_of names (left - length rest)
+      level)
       (are : AreChildrenPart (first_of first rest) (last_of last rest) level.end jobs part) where
     pub left-met : met_with shop number names left first last rest (parts_visits shop number (parts ++ part ∷ []))
         ≡ met_with shop number names left first last levels (parts_visits shop number parts)

@@ -1,28 +1,28 @@
 -- Where the walk stands: what is still to be met, by the levels.
-use Rattle.std.proofs.Common.{◌≡◌, ℕ, suc, ◌+◌, ◌-◌, ◌*◌, ◌<◌, ◌≤◌, List, [], ◌∷◌, ◌++◌, length, take, Some, None}
-use Rattle.std.proofs.Common.{slice_index_or, refl, ap, sym, ◌∙◌, subst, arith, append_assoc, append-nil, length-append}
+use Rattle.std.proofs.Common.{◌≡◌, ℕ, ◌+◌, ◌-◌, ◌*◌, ◌<◌, ◌≤◌, List, [], ◌∷◌, ◌++◌, length, take, Some, None}
+use Rattle.std.proofs.Common.{slice_index_or, refl, ap, sym, ◌∙◌, subst, arith, append_assoc, length-append}
 use Rattle.std.specs.List.{flat_map, AllByRecursion}
 use Rattle.flow_shop.specs.Shop.{Shop}
 use Rattle.flow_shop.specs.Sequences.{jobs_left, AreDistinct}
 use Rattle.flow_shop.specs.Ends.{end_bound}
 use Rattle.flow_shop.specs.Directions.{sign, first_with, last_with}
-use Rattle.flow_shop.specs.declared.end.End.{End}
 use Rattle.flow_nodes.specs.Groups.{group_count}
 use Rattle.flow_nodes.specs.Marks.{chosen}
 use Rattle.flow_nodes.specs.declared.pack.Pack.{Pack}
-use Rattle.flow_nodes.proofs.KeptNodes.{lengths}
-use Rattle.flow_directions.specs.Search.{Visit, Continues, child_visits, directions_of, first_below, first_reached, opens}
+use Rattle.flow_directions.specs.Search.{Visit, Continues, child_visits, directions_of, first_below, first_reached}
+use Rattle.flow_directions.specs.Search.{opens}
 use Rattle.flow_directions.specs.Search.{reaches, signs, visits}
 use Rattle.flow_directions.specs.internal.Lists.{HasLists}
-use Rattle.flow_directions.specs.internal.Levels.{AreLevels, AreNested, HasChildren, IsAbove, IsAt, IsBegun, IsLevel}
-use Rattle.flow_directions.specs.internal.Levels.{IsNext, IsOpen, IsStopped, StandsBelow, first_of, jobs_of, last_of, met_with, names_at, names_of}
+use Rattle.flow_directions.specs.internal.Levels.{AreLevels, AreNested, IsAbove, IsAt, IsBegun, IsLevel}
+use Rattle.flow_directions.specs.internal.Levels.{IsNext, IsOpen, IsStopped, StandsBelow, first_of, jobs_of, last_of}
+use Rattle.flow_directions.specs.internal.Levels.{met_with, names_of}
 use Rattle.flow_directions.specs.internal.Levels.{rest_met}
 use Rattle.flow_nodes.specs.declared.open.OpenNode.{OpenNode}
 use Rattle.flow_directions.specs.declared.level.Level.{Level}
 use Rattle.flow_directions.specs.declared.lists.Lists.{Lists}
 use Rattle.flow_directions.specs.declared.tree.Tree.{Tree}
-use Rattle.flow_directions.proofs.LevelMoves.{IsTurn, level-moved, next-count, next-turn}
-use Rattle.flow_directions.proofs.LevelSteps.{first-push, last-push, levels-count, levels-map, levels-pop, levels-push}
+use Rattle.flow_directions.proofs.LevelMoves.{IsTurn, level-moved, next-turn}
+use Rattle.flow_directions.proofs.LevelSteps.{first-push, last-push, levels-map, levels-pop, levels-push}
 use Rattle.flow_directions.proofs.LevelSteps.{lists-push, nested-pop, nested-push}
 use Rattle.flow_directions.proofs.MetSteps.{met-opens, met-push, met-reaches, met-same}
 use Rattle.flow_directions.proofs.PackNames.{names-same}
@@ -30,8 +30,8 @@ use Rattle.flow_directions.proofs.TreeSteps.{fewer-kept}
 use Rattle.flow_directions.proofs.VisitSteps.{visits-whole}
 use Rattle.flow_directions.proofs.WalkSteps.{met-opened, whole-lists}
 
--- the walk wrote a text, and searches the children of a level, below the nodes of others, of which the first is where the
--- search began: these lists were its own, and so many jobs were left there
+-- the walk wrote a text, and searches the children of a level, below the nodes of others, of which the first is where
+-- the search began: these lists were its own, and so many jobs were left there
 pub record StandsAt {V : Type 0} (list : V → List ℕ) (cap width : ℕ) (shop : Shop) (number : ℕ) (first last : List ℕ)
     (left : ℕ) (text : List ℕ) (lists : Lists) (packs : List (Pack V)) (nodes : List (OpenNode V))
     (levels : List Level) (here : Level) (begin behind : List ℕ) (more : ℕ) : Type 0 where
@@ -62,7 +62,8 @@ module _ {V : Type 0} (list : V → List ℕ) (cap width : ℕ) (shop : Shop) (n
       let opened : visits shop number first last ≡ opens here.end ∷ rest =
       met-opened shop number first last here.end (jobs_of (names_of packs) left here)
       (omega (arith, at.count, some)) at.is_open.below begun.end begun.rest in
-      subst (StandsAt list cap width shop number first last left text lists packs nodes [] here first last) all (record {
+      subst (StandsAt list cap width shop number first last left text lists packs nodes [] here first last) all
+      (record {
         are_levels = tt;
         is_here = begun.is_level;
         nested = tt;
@@ -234,8 +235,8 @@ module _ {V : Type 0} (list : V → List ℕ) (cap width : ℕ) (shop : Shop) (n
           (visits shop number (first_of first all) l)) (sym (last-push last levels here)) in
           subst (Continues (visits shop number first last) text) met turn-met
 
-      -- the walk goes to the child, whose level is begun. The packs and the nodes may be others from then on, but not for
-      -- the levels above
+      -- the walk goes to the child, whose level is begun. The packs and the nodes may be others from then on, but not
+      -- for the levels above
       module _ (packs2 : List (Pack V)) (nodes2 : List (OpenNode V)) (lists2 : Lists) (parent child : Level)
           (size : length packs2 ≡ length packs) (enough : group_count left ≤ length packs)
           (room : length levels + 1 < left)
@@ -318,7 +319,8 @@ module _ {V : Type 0} (list : V → List ℕ) (cap width : ℕ) (shop : Shop) (n
             let last_is : last2 ≡ last_of last all =
             ap (λ e. last_with e behind here.job) (sym end_is)
             ∙ ap (λ j. last_with parent.end behind j) (sym job_is) ∙ sym (last-push last levels parent) in
-            let at : StandsAt list cap width shop number first last left text2 lists2 packs2 nodes2 all child first2 last2
+            let at : StandsAt list cap width shop number first last left text2 lists2 packs2 nodes2 all child first2
+            last2
             (left - length levels - 1) =
             record {
               are_levels = levels-push Q left first last levels parent are-levels is-above;
@@ -337,5 +339,6 @@ module _ {V : Type 0} (list : V → List ℕ) (cap width : ℕ) (shop : Shop) (n
             (first_of first all) (last_of last all)) deep
             (subst (λ l. StandsAt list cap width shop number first last left text2 lists2 packs2 nodes2 all child
             (first_of first all) l (left - length levels - 1)) last_is
-            (subst (λ f. StandsAt list cap width shop number first last left text2 lists2 packs2 nodes2 all child f last2
+            (subst (λ f. StandsAt list cap width shop number first last left text2 lists2 packs2 nodes2 all child f
+            last2
             (left - length levels - 1)) first_is at))

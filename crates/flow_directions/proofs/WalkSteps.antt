@@ -1,29 +1,27 @@
 -- The children of a node that are below the number, and what is met there.
-use Rattle.std.proofs.Common.{◌≡◌, ℕ, ◌+◌, ◌-◌, ◌<◌, ◌≤◌, Bool, true, false, cond, not, ◌||◌, nat_eq, nat_lt}
-use Rattle.std.proofs.Common.{List, [], ◌∷◌, ◌++◌, length, drop, filter, Some, None, refl, ap, sym, ◌∙◌, subst}
-use Rattle.std.proofs.Common.{inl, inr, arith, append_assoc, append-nil, length-append, slice_index_or}
+use Rattle.std.proofs.Common.{◌≡◌, ℕ, ◌+◌, ◌-◌, ◌<◌, Bool, true, false, cond, not, ◌||◌, nat_eq, nat_lt}
+use Rattle.std.proofs.Common.{List, [], ◌∷◌, ◌++◌, length, drop, filter, refl, ap, sym, ◌∙◌, subst}
+use Rattle.std.proofs.Common.{inl, inr, arith, append_assoc, append-nil}
 use Rattle.std.specs.List.{flat_map, AllByRecursion}
 use Rattle.std.proofs.lemmas.Bool.{cases_Bool, ltb-false, ltb-true}
 use Rattle.std.proofs.lemmas.List.{take-append-drop}
 use Rattle.flow_shop.specs.Shop.{Shop, numbers}
 use Rattle.flow_shop.specs.Sequences.{has, jobs_left, AreDistinct}
 use Rattle.flow_shop.specs.Ends.{end_bound}
-use Rattle.flow_shop.specs.Directions.{sign, first_with, last_with}
+use Rattle.flow_shop.specs.Directions.{first_with, last_with}
 use Rattle.flow_shop.specs.declared.end.End.{End}
 use Rattle.flow_shop.proofs.JobsLeft.{each-left}
 use Rattle.flow_shop.proofs.LeastFound.{in-order}
 use Rattle.flow_directions.specs.internal.Levels.{IsOpen}
 use Rattle.flow_nodes.specs.Groups.{child_bound}
-use Rattle.flow_directions.specs.Search.{end_taken, Visit, opens, visits, signs, first_reached}
+use Rattle.flow_directions.specs.Search.{end_taken, Visit, opens, visits}
 use Rattle.flow_nodes.specs.Packs.{left_below}
-use Rattle.flow_directions.specs.Search.{directions_of, first_below, child_visits, part_visits}
+use Rattle.flow_directions.specs.Search.{child_visits, part_visits}
 use Rattle.flow_directions.specs.Search.{parts_visits}
 use Rattle.flow_directions.specs.declared.found.Part.{Part}
 use Rattle.flow_directions.specs.internal.Lists.{HasLists}
 use Rattle.flow_directions.specs.declared.lists.Lists.{Lists}
-use Rattle.flow_directions.proofs.VisitSteps.{visits-high, visits-open, none-or-reached}
-use Rattle.flow_directions.proofs.VisitSteps.{signs-append, first_reached-append, signs-append-reached}
-use Rattle.flow_directions.proofs.VisitSteps.{first_reached-append-reached}
+use Rattle.flow_directions.proofs.VisitSteps.{visits-high, visits-open}
 
 -- lists that are empty may be left out
 flat-kept : (f : ℕ → List Visit) (p : ℕ → Bool) (jobs : List ℕ) →
@@ -88,7 +86,8 @@ module _ (shop : Shop) (number : ℕ) (first last : List ℕ) where
       visits-high shop number (first_with end first job) (last_with end last job)
       (ltb-false (child_bound shop end first last job) number above)))
 
-  pub below-each : (end : End) → AllByRecursion (IsOpen shop number end first last) (left_below shop number end first last)
+  pub below-each : (end : End) → AllByRecursion (IsOpen shop number end first last) (left_below shop number end first
+      last)
   below-each end =
       let p : ℕ → Bool = λ job. nat_lt (child_bound shop end first last job) number in
       each-kept (IsOpen shop number end first last) p (jobs_left shop.jobs (first ++ last))

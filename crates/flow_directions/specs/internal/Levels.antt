@@ -142,8 +142,8 @@ pub record IsAt {V : Type 0} (list : V → List ℕ) (cap width : ℕ) (shop : S
   pub has_lists : HasLists shop.jobs first last lists
   pub count : length (jobs_left shop.jobs (first ++ last)) ≡ left
 
--- a search stands at the child of the last of some levels, whose lists an array has; so many jobs were left at the first
--- level's node
+-- a search stands at the child of the last of some levels, whose lists an array has; so many jobs were left at the
+-- first level's node
 pub record StandsBelow (shop : Shop) (number : ℕ) (names : ℕ → List ℕ) (first last : List ℕ) (left : ℕ)
     (lists : Lists) (levels : List Level) : Type 0 where
   pub are_levels : AreLevels (IsStopped shop number names) left first last levels

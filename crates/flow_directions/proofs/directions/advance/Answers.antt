@@ -44,7 +44,8 @@ returns-then-start-eq0-clause-advanced c =
     let sequence = whole-node shop.jobs (c.args.first.now ++ c.args.last.now) is.are_jobs none in
     let all : c.all.result.now ≡ c.args.first.now ++ c.args.last.now =
     c.all.ensures.lists shop.jobs c.args.first.now c.args.last.now is.has_lists sequence.whole in
-    found-whole c.args.instance.now c.args.number c.args.budget c.args.first.now c.args.last.now c.in_ok-found.found none
+    found-whole c.args.instance.now c.args.number c.args.budget c.args.first.now c.args.last.now c.in_ok-found.found
+    none
     low (subst (λ text. IsSequenceAfter shop (c.args.first.now ++ c.args.last.now) text c.in_ok-found.found)
     c.new-then-start-eq0.ensures.items
     (subst (λ jobs. IsSequenceAfter shop jobs c.new-then-start-eq0.result.items c.in_ok-found.found) all

@@ -1,18 +1,15 @@
-use Rattle.std.proofs.Common.{◌≡◌, ℕ, ◌+◌, ◌-◌, ◌<◌, List, [], ◌∷◌, ◌++◌, length, slice_index_or, refl, ap, sym, ◌∙◌, subst}
+use Rattle.std.proofs.Common.{◌≡◌, ◌+◌, ◌-◌, [], ◌∷◌, ◌++◌, length, refl, ap, sym, ◌∙◌, subst}
 use Rattle.std.proofs.Common.{arith, length-append}
 use Rattle.std.specs.Prelude.{All}
 use Rattle.std.proofs.lemmas.List.Elements.{All-nil, All-push}
-use Rattle.flow_shop.specs.Shop.{Shop}
 use Rattle.flow_nodes.specs.Groups.{group_count}
 use Rattle.flow_nodes.specs.Marks.{chosen}
-use Rattle.flow_directions.specs.Search.{IsPart, parts_visits, visits}
-use Rattle.flow_directions.specs.internal.Levels.{StandsBelow, first_of, jobs_of, last_of, met_with, names_at, names_of}
-use Rattle.flow_directions.specs.internal.Tree.{IsTree}
-use Rattle.flow_directions.specs.declared.found.Part.{Part}
+use Rattle.flow_directions.specs.Search.{IsPart, parts_visits}
+use Rattle.flow_directions.specs.internal.Levels.{first_of, jobs_of, last_of, met_with, names_at, names_of}
 use Rattle.flow_directions.proofs.PackNames.{names-is}
-use Rattle.flow_directions.proofs.PartSteps.{left-each, left-lists, left-met, left-stands, levels-jobs, met-node, node-part}
+use Rattle.flow_directions.proofs.PartSteps.{left-each, left-lists, left-met, left-stands, levels-jobs, met-node}
+use Rattle.flow_directions.proofs.PartSteps.{node-part}
 use Rattle.flow_directions.proofs.WalkSteps.{parts-more}
-use Rattle.flow_directions.proofs.walk.parts_left.Given.{Over}
 use Rattle.flow_directions.proofs.walk.parts_left.Goals as goal
 use Rattle.flow_directions.proofs.walk.parts_left.Goals.{After-jobs_at}
 

@@ -1,7 +1,7 @@
-use Rattle.std.proofs.Common.{◌≡◌, ℕ, ◌+◌, ◌-◌, ◌*◌, ◌<◌, ◌≤◌, List, [], ◌∷◌, ◌++◌, length, Some, None, refl, ap, sym, ◌∙◌}
-use Rattle.std.proofs.Common.{slice_index_or, subst, arith, length-append}
+use Rattle.std.proofs.Common.{◌≡◌, ℕ, ◌+◌, ◌-◌, ◌*◌, ◌<◌, List, [], ◌∷◌, ◌++◌, length, Some, ap, sym, ◌∙◌}
+use Rattle.std.proofs.Common.{subst, arith, length-append}
 use Rattle.flow_shop.specs.Directions.{first_with, last_with, sign}
-use Rattle.flow_shop.specs.Sequences.{jobs_left, AreJobs, IsSequence}
+use Rattle.flow_shop.specs.Sequences.{jobs_left, IsSequence}
 use Rattle.flow_shop.proofs.EndSteps.{count-child}
 use Rattle.flow_shop.proofs.Lists.{some-of}
 use Rattle.flow_nodes.specs.Groups.{group_count}
@@ -10,7 +10,7 @@ use Rattle.flow_nodes.proofs.KeptNodes.{lengths}
 use Rattle.flow_shop.specs.Ends.{end_bound}
 use Rattle.flow_directions.specs.Search.{Continues, IsAdvanced, directions_of, first_below, visits}
 use Rattle.flow_directions.specs.internal.Lists.{HasLists}
-use Rattle.flow_directions.specs.internal.Levels.{AreNested, IsAt, IsBegun, IsLevel, IsNext, StandsBelow, first_of}
+use Rattle.flow_directions.specs.internal.Levels.{AreNested, IsBegun, IsLevel, IsNext, StandsBelow, first_of}
 use Rattle.flow_directions.specs.internal.Levels.{jobs_of, last_of, met_with, names_at, names_of}
 use Rattle.flow_directions.specs.declared.level.Level.{Level}
 use Rattle.flow_directions.specs.internal.Reached.{IsSequenceAfter}
@@ -19,7 +19,8 @@ use Rattle.flow_directions.proofs.LevelMoves.{IsTurn}
 use Rattle.flow_directions.proofs.LevelSteps.{lists-pop, lists-push, nested-pop}
 use Rattle.flow_directions.proofs.PackNames.{names-is}
 use Rattle.flow_directions.proofs.SearchReaches.{reached_is_below}
-use Rattle.flow_directions.proofs.WalkStands.{Stands, stands-first, stands-back, stands-done, turn-low, turn-next, turn-open}
+use Rattle.flow_directions.proofs.WalkStands.{Stands, stands-first, stands-back, stands-done, turn-low, turn-next}
+use Rattle.flow_directions.proofs.WalkStands.{turn-open}
 use Rattle.flow_directions.proofs.WalkStands.{turn-over, turn-down, turn-stopped}
 use Rattle.flow_directions.proofs.walk.search.Given.{Over}
 use Rattle.flow_directions.proofs.walk.search.Goals as goal
@@ -69,7 +70,8 @@ walk-init g c =
       room = made.room;
       within = omega (arith, ap length written, c.if-terms-eq0.false);
       stands = λ first last are at.
-          subst (λ ls. Stands g.V.Lanes.list g.V.Lanes.CAP g.V.Lanes.WIDTH shop c.args.terms.number first last c.args.left
+          subst (λ ls. Stands g.V.Lanes.list g.V.Lanes.CAP g.V.Lanes.WIDTH shop c.args.terms.number first last
+          c.args.left
           text c.args.lists packs2 nodes2 ls here) (sym empty)
           (stands-first g.V.Lanes.list g.V.Lanes.CAP g.V.Lanes.WIDTH shop c.args.terms.number first last c.args.left
           c.args.lists c.args.tree packs2 nodes2 here text at c.requires.some
@@ -153,16 +155,19 @@ walk-preserved-in-None g c =
       stands = λ first last are is.
           let before = here.stands first last are is in
           stands-back g.V.Lanes.list g.V.Lanes.CAP g.V.Lanes.WIDTH shop c.args.terms.number first last c.args.left
-          c.walk.directions.items c.walk.lists packs c.walk.tree.nodes.items levels rest c.walk.here level c.take.new.self
+          c.walk.directions.items c.walk.lists packs c.walk.tree.nodes.items levels rest c.walk.here level
+          c.take.new.self
           before empty parted
           (c.take.ensures shop.jobs (first_of first rest) (last_of last rest) level.job
-          (lists-pop (λ f l. HasLists shop.jobs f l c.walk.lists) first last levels rest level parted before.has_lists));
+          (lists-pop (λ f l. HasLists shop.jobs f l c.walk.lists) first last levels rest level parted
+          before.has_lists));
     }
 
 -- how many jobs the node has
 node-count : (g : Over) (c : After-next g) (first last : List ℕ) →
     Stands g.V.Lanes.list g.V.Lanes.CAP g.V.Lanes.WIDTH c.args.instance.now c.args.terms.number first last c.args.left
-    c.walk.directions.items c.walk.lists c.walk.tree.packs.items c.walk.tree.nodes.items c.walk.levels.items c.walk.here →
+    c.walk.directions.items c.walk.lists c.walk.tree.packs.items c.walk.tree.nodes.items c.walk.levels.items
+    c.walk.here →
     length (first_of first c.walk.levels.items) + length (last_of last c.walk.levels.items)
     + (c.args.left - length c.walk.levels.items) ≡ c.args.instance.now.jobs
 node-count g c first last stands =
@@ -190,7 +195,8 @@ turn : (g : Over) (c : In-Some g) →
     IsTurn (names_of c.walk.tree.packs.items (c.args.left - length c.walk.levels.items)) c.in-Some.place c.walk.here
     c.next.new.self
 turn g c =
-    subst (λ ns. IsTurn ns c.in-Some.place c.walk.here c.next.new.self) (names g (goal.at.In-Some g c).After-next) (record {
+    subst (λ ns. IsTurn ns c.in-Some.place c.walk.here c.next.new.self) (names g (goal.at.In-Some g c).After-next)
+    (record {
       at = c.next.ensures.at;
       top = c.next.ensures.top;
       end = c.next.ensures.end;
@@ -205,7 +211,8 @@ turn g c =
 -- where it was the last job, a sequence below the number is reached
 low : (g : Over) (c : After-put g) (first last : List ℕ) → c.walk.left ≡ 1 →
     Stands g.V.Lanes.list g.V.Lanes.CAP g.V.Lanes.WIDTH c.args.instance.now c.args.terms.number first last c.args.left
-    c.walk.directions.items c.walk.lists c.walk.tree.packs.items c.walk.tree.nodes.items c.walk.levels.items c.walk.here →
+    c.walk.directions.items c.walk.lists c.walk.tree.packs.items c.walk.tree.nodes.items c.walk.levels.items
+    c.walk.here →
     (first_below c.args.instance.now c.args.terms.number first last ≡ Some c.put.new.self.jobs.items)
     × (c.walk.directions.items ≡ directions_of c.args.instance.now c.args.terms.number first last)
 low g c first last one stands =
@@ -264,8 +271,10 @@ returns-then-left-eq0 g c = record {
 stopped : (g : Over) (c : After-put g) (first last : List ℕ) (total : ℕ) (levels : List Level) → total ≡ c.args.left →
     levels ≡ c.walk.levels.items ++ c.next.new.self ∷ [] →
     Stands g.V.Lanes.list g.V.Lanes.CAP g.V.Lanes.WIDTH c.args.instance.now c.args.terms.number first last c.args.left
-    c.walk.directions.items c.walk.lists c.walk.tree.packs.items c.walk.tree.nodes.items c.walk.levels.items c.walk.here →
-    StandsBelow c.args.instance.now c.args.terms.number (names_of c.walk.tree.packs.items) first last total c.put.new.self
+    c.walk.directions.items c.walk.lists c.walk.tree.packs.items c.walk.tree.nodes.items c.walk.levels.items
+    c.walk.here →
+    StandsBelow c.args.instance.now c.args.terms.number (names_of c.walk.tree.packs.items) first last total
+    c.put.new.self
     levels
 stopped g c first last total levels all levels_are stands =
     subst (StandsBelow c.args.instance.now c.args.terms.number (names_of c.walk.tree.packs.items) first last total
@@ -363,7 +372,8 @@ returns-then-len-terms g c = record {
 -- the child is searched next
 next : (g : Over) (c : After-put g) (first last : List ℕ) →
     Stands g.V.Lanes.list g.V.Lanes.CAP g.V.Lanes.WIDTH c.args.instance.now c.args.terms.number first last c.args.left
-    c.walk.directions.items c.walk.lists c.walk.tree.packs.items c.walk.tree.nodes.items c.walk.levels.items c.walk.here →
+    c.walk.directions.items c.walk.lists c.walk.tree.packs.items c.walk.tree.nodes.items c.walk.levels.items
+    c.walk.here →
     IsNext g.V.Lanes.list g.V.Lanes.CAP g.V.Lanes.WIDTH c.args.instance.now c.args.terms.number
     c.walk.tree.packs.items c.walk.tree.nodes.items (c.walk.left - 1 + 1) (first_of first c.walk.levels.items)
     (last_of last c.walk.levels.items) c.in-Some.place c.next.new.self
@@ -389,9 +399,11 @@ next g c first last stands =
       c.walk.invariant.left,
       c.walk.invariant.some,
     ) in
-    subst (λ n. IsNext g.V.Lanes.list g.V.Lanes.CAP g.V.Lanes.WIDTH c.args.instance.now c.args.terms.number packs nodes n
+    subst (λ n. IsNext g.V.Lanes.list g.V.Lanes.CAP g.V.Lanes.WIDTH c.args.instance.now c.args.terms.number packs
+    nodes n
     (first_of first levels) (last_of last levels) c.in-Some.place c.next.new.self) more
-    (turn-next g.V.Lanes.list g.V.Lanes.CAP g.V.Lanes.WIDTH c.args.instance.now c.args.terms.number first last c.args.left
+    (turn-next g.V.Lanes.list g.V.Lanes.CAP g.V.Lanes.WIDTH c.args.instance.now c.args.terms.number first last
+    c.args.left
     c.walk.directions.items c.walk.lists packs nodes levels c.walk.here c.next.new.self c.in-Some.place stands
     (turn g some) size)
 
@@ -451,7 +463,8 @@ walk-preserved g c =
           subst (λ ls. Stands g.V.Lanes.list g.V.Lanes.CAP g.V.Lanes.WIDTH shop number first last c.args.left text2
           c.put.new.self packs2 nodes2 ls child) (sym pushed)
           (turn-down g.V.Lanes.list g.V.Lanes.CAP g.V.Lanes.WIDTH shop number first last c.args.left text c.walk.lists
-          packs nodes levels c.walk.here here c.in-Some.place stands (turn g some) packs2 nodes2 c.put.new.self parent child
+          packs nodes levels c.walk.here here c.in-Some.place stands (turn g some) packs2 nodes2 c.put.new.self parent
+          child
           made.count
           (omega (arith, c.requires.few, inv.packs))
           (omega (arith, inv.left, inv.some, c.if-left-eq0.false))

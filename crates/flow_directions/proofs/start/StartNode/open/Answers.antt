@@ -1,4 +1,4 @@
-use Rattle.std.proofs.Common.{◌≡◌, ℕ, ◌+◌, ◌-◌, ◌*◌, ◌<◌, ◌≤◌, List, [], ◌∷◌, ◌++◌, length, set, slice_index_or, ap, sym, ◌∙◌}
+use Rattle.std.proofs.Common.{◌≡◌, ℕ, ◌+◌, ◌-◌, ◌<◌, List, [], ◌∷◌, ◌++◌, length, set, slice_index_or, ap, sym, ◌∙◌}
 use Rattle.std.proofs.Common.{subst, arith}
 use Rattle.std.proofs.lemmas.List.{get_or-set_same, length-set}
 use Rattle.flow_shop.specs.Sequences.{jobs_left}
@@ -146,7 +146,8 @@ returns-clause-at g c number first last is low tree =
         below = low;
         is_pack = λ none. subst (IsPack list cap width shop) (sym (stood none)) c.pack.ensures.pack;
         is_open = λ none empty.
-            subst (λ p. IsOpenNode list cap width shop number first last p (slice_index_or c.push.new.self.items 0 empty))
+            subst (λ p. IsOpenNode list cap width shop number first last p (slice_index_or c.push.new.self.items 0
+            empty))
             (sym (stood none))
             (subst (λ ns. IsOpenNode list cap width shop number first last pack (slice_index_or ns 0 empty)) (sym items)
             opened);

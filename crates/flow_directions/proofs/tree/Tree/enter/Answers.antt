@@ -1,4 +1,4 @@
-use Rattle.std.proofs.Common.{◌≡◌, ℕ, ◌+◌, ◌-◌, ◌<◌, ◌≤◌, length, slice_index_or, ap, sym, ◌∙◌, subst, arith}
+use Rattle.std.proofs.Common.{◌≡◌, ◌<◌, length, ap, sym, ◌∙◌, subst, arith}
 use Rattle.std.proofs.lemmas.List.{get_or_default}
 use Rattle.flow_nodes.specs.Groups.{group_count}
 use Rattle.flow_nodes.specs.Packs.{left_below}
@@ -38,7 +38,8 @@ returns-clause-level g c number first last tree opens count =
       kept = chosen.kept;
       job = 0;
     })) (sym c.at.ensures)
-    (level-begun list cap width shop number packs2 nodes2 left first last spot.at chosen.top chosen.end node chosen.kept 0
+    (level-begun list cap width shop number packs2 nodes2 left first last spot.at chosen.top chosen.end node
+    chosen.kept 0
     is (omega (arith, c.requires.few, c.requires.some, ap (λ ps. length ps.items) made.packs))
     (omega (arith, c.requires.order, made.top))
     (λ empty. get_or_default nodes2 spot.at empty node within ∙ sym c.index.ensures)

@@ -1,11 +1,9 @@
-use Rattle.std.proofs.Common.{◌≡◌, ℕ, suc, ◌+◌, ◌-◌, ◌<◌, ◌≤◌, List, ◌++◌, ◌∷◌, length, slice_index_or, take, ap, sym, ◌∙◌}
-use Rattle.std.proofs.Common.{OnOk, subst, arith}
+use Rattle.std.proofs.Common.{◌≡◌, ℕ, ◌+◌, ◌-◌, ◌≤◌, List, ◌++◌, length, slice_index_or, take, ap, ◌∙◌}
+use Rattle.std.proofs.Common.{arith}
 use Rattle.flow_shop.specs.Sequences.{jobs_left}
 use Rattle.flow_shop.specs.Directions.{first_with, last_with}
-use Rattle.flow_shop.proofs.EndSteps.{count-child}
 use Rattle.flow_nodes.specs.Groups.{group_count}
 use Rattle.flow_directions.specs.internal.Levels.{IsLevel, IsNext}
-use Rattle.flow_directions.specs.internal.Tree.{IsOpenAt, IsTree}
 use Rattle.flow_directions.proofs.LevelMoves.{level-moved, next-count, on-ok}
 use Rattle.flow_directions.proofs.TreeSteps.{fewer-kept}
 use Rattle.flow_directions.proofs.tree.Tree.go.Given.{Over}
@@ -87,7 +85,8 @@ returns-clause-here g c number first last tree next =
     ∙ fewer-kept nodes2 nodes3 top c.child-child.result.top low c.settle.ensures.above in
     on-ok c.enter.result (IsLevel g.V.Lanes.list g.V.Lanes.CAP g.V.Lanes.WIDTH c.args.instance.now number packs4 nodes4
     left first last here)
-    (level-moved g.V.Lanes.list g.V.Lanes.CAP g.V.Lanes.WIDTH c.args.instance.now number packs2 packs4 nodes2 nodes4 left
+    (level-moved g.V.Lanes.list g.V.Lanes.CAP g.V.Lanes.WIDTH c.args.instance.now number packs2 packs4 nodes2 nodes4
+    left
     first last here
     (omega (arith, c.requires.few, ap (λ ps. length ps.items) c.child-child.ensures.packs))
     (ap (λ ps. length ps.items) c.enter.ensures.packs ∙ c.settle.ensures.count)

@@ -1,6 +1,5 @@
-use Rattle.std.proofs.Common.{◌≡◌, ℕ, ◌+◌, ◌-◌, ◌*◌, ◌%◌, ◌<◌, ◌≤◌, List, ◌++◌, length, take, ap, sym, ◌∙◌, subst, arith}
+use Rattle.std.proofs.Common.{◌≡◌, ℕ, ◌+◌, List, length, ap, sym, ◌∙◌, subst, arith}
 use Rattle.std.proofs.Math.Seq.{take-length}
-use Rattle.flow_shop.specs.Sequences.{jobs_left}
 use Rattle.flow_nodes.specs.Groups.{group_count}
 use Rattle.flow_directions.specs.internal.Tree.{IsOpenAt}
 use Rattle.flow_directions.proofs.TreeSteps.{open-kept}
