@@ -17,3 +17,5 @@ pub mod JobsMarked
 pub mod OpenSteps
 pub mod PutSteps
 pub mod LeftBelow
+pub mod PairSteps
+pub mod PairLanes

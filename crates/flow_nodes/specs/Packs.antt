@@ -41,8 +41,9 @@ abbrev pub left_below : Shop → ℕ → End → List ℕ → List ℕ → List 
 left_below shop number end first last =
     filter (λ job. nat_lt (child_bound shop end first last job) number) (jobs_left shop.jobs (first ++ last))
 
--- an opener has a vector for each machine, and the rows of the jobs
+-- an opener knows how many machines there are, and has a vector for each, and the rows of the jobs
 pub record HasRoomFor {V : Type 0} (shop : Shop) (opener : Opener V) : Type 0 where
+  pub machines : opener.machines ≡ shop.machines
   pub near_count : length opener.near.items ≡ shop.machines
   pub rest_count : length opener.rest.items ≡ shop.machines
   pub rows : AreRows shop opener.rows.items

@@ -1,6 +1,6 @@
 //! Lanes: numbers side by side.
 
-ghost use Rattle.std.specs.Prelude.{◌≡◌, ℕ, ◌+◌, ◌<◌, ◌≤◌, ◌↔◌, max, List, length, slice_index, IsBitSet};
+ghost use Rattle.std.specs.Prelude.{◌≡◌, ℕ, ◌+◌, ◌*◌, ◌<◌, ◌≤◌, ◌↔◌, max, List, length, slice_index, IsBitSet};
 ghost use Rattle.std.proofs.Common.{rules};
 ghost use Rattle.flow_nodes.specs.Lanes.{capped, HasLane};
 
@@ -33,6 +33,19 @@ pub trait Lanes: Copy {
     fn each(number: u32) -> Self
         requires { number ≤ CAP }
         ensures { (lane : ℕ) → lane < WIDTH → HasLane CAP WIDTH (list result) lane number };
+
+    /// What stands for a number in `from_pair`.
+    ghost pair_of: { ℕ → ℕ };
+
+    /// A number twice, side by side in the halves of 32 bits, where lanes have 16 bits; else the number.
+    fn pair(number: u32) -> u32
+        requires { number ≤ CAP }
+        ensures { result ≡ pair_of number };
+
+    /// The number of a pair in all lanes.
+    fn from_pair(pair: u32) -> Self
+        ensures { (number lane : ℕ) → number ≤ CAP → pair ≡ pair_of number → lane < WIDTH →
+            HasLane CAP WIDTH (list result) lane number };
 
     /// In each lane the greater of two numbers.
     fn at_least(self, other: Self) -> Self
@@ -87,6 +100,18 @@ impl Lanes for u16x16 {
         u16x16::splat(number as u16)
     }
 
+    ghost pair_of = { λ number. number * 65537 };
+
+    #[inline(always)]
+    fn pair(number: u32) -> u32 {
+        number * 65_537
+    }
+
+    #[inline(always)]
+    fn from_pair(pair: u32) -> u16x16 {
+        u16x16::from_le_bytes(u32x8::splat(pair).to_le_bytes())
+    }
+
     #[inline(always)]
     fn at_least(self, other: u16x16) -> u16x16 {
         self.simd_max(other)
@@ -138,6 +163,18 @@ impl Lanes for u32x16 {
     #[inline(always)]
     fn each(number: u32) -> u32x16 {
         u32x16::splat(number)
+    }
+
+    ghost pair_of = { λ number. number };
+
+    #[inline(always)]
+    fn pair(number: u32) -> u32 {
+        number
+    }
+
+    #[inline(always)]
+    fn from_pair(pair: u32) -> u32x16 {
+        u32x16::splat(pair)
     }
 
     #[inline(always)]

@@ -13,6 +13,7 @@ mod open;
 mod opener;
 mod opening;
 mod pack;
+mod pairs;
 mod plain_end;
 mod single;
 mod starts;

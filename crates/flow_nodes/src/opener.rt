@@ -34,6 +34,8 @@ const FEW_GROUPS: usize = 3;
 pub struct Opener<V> {
     /// The limit that stands for the number in 32 bits.
     pub(crate) limit: u32,
+    /// How many machines there are.
+    pub(crate) machines: usize,
     /// What is at the end of the node: for each machine a vector with the same number in each lane.
     pub(crate) near: Vec<V>,
     /// The time of the jobs left and what is at the other end, likewise.
@@ -125,6 +127,7 @@ impl<V: Lanes> Opener<V> {
         let rows = rows(alloc, instance)?;
         Ok(Opener {
             limit,
+            machines,
             near,
             rest,
             rows,
@@ -139,6 +142,7 @@ impl<V: Lanes> Opener<V> {
         ensures limit { self.new.limit ≡ self.old.limit }
         ensures near { length self.new.near.items ≡ length self.old.near.items }
         ensures rest { length self.new.rest.items ≡ length self.old.rest.items }
+        ensures machines { self.new.machines ≡ self.old.machines }
         ensures rows { self.new.rows ≡ self.old.rows }
         ensures spread { IsSpread V.list V.CAP V.WIDTH end node.now self.new.near.items self.new.rest.items }
     {

@@ -1,6 +1,6 @@
 //! Opens nodes at both ends, and makes children that are opened at both ends.
 
-ghost use Rattle.std.specs.Prelude.{◌≡◌, ℕ, ◌+◌, ◌-◌, ◌*◌, ◌/◌, ◌%◌, ◌<◌, ◌≤◌, ◌↔◌, false, List, ◌++◌, length};
+ghost use Rattle.std.specs.Prelude.{◌≡◌, ◌⊎◌, ℕ, ◌-◌, ◌*◌, ◌/◌, ◌%◌, ◌<◌, ◌≤◌, ◌↔◌, false, List, ◌++◌, length};
 ghost use Rattle.std.specs.Prelude.{slice_index, slice_index_or, IsBitSet};
 ghost use Rattle.std.specs.Global.{Vec};
 ghost use Rattle.flow_nodes.specs.declared.node.Node.{Node};
@@ -16,7 +16,7 @@ ghost use Rattle.flow_nodes.specs.Groups.{IsGroup, child_bound, most_groups};
 ghost use Rattle.flow_nodes.specs.Marks.{chosen, mark};
 ghost use Rattle.flow_nodes.specs.Packs.{HasLeft, HasRoomFor, IsPack};
 ghost use Rattle.flow_nodes.specs.Open.{AreChildren, HasRoomToOpen, HasStartRoom, IsOpenNode, children_at, start_at};
-ghost use Rattle.flow_nodes.specs.internal.Spread.{IsSpread, at_other_end};
+ghost use Rattle.flow_nodes.specs.internal.Pairs.{AreRests, IsPaired};
 
 use crate::lanes::Lanes;
 use crate::marks::Marks;
@@ -24,50 +24,59 @@ use crate::node::Node;
 use crate::open::{Children, OpenNode, Put};
 use crate::opener::Opener;
 use crate::pack::Pack;
+use crate::pairs::{EndPairs, pairs_of_sums};
 use crate::starts::{keep_starts, starts_at_back, starts_at_front};
 use flow_limits::MAX_MACHINES;
 use flow_shop::{End, Instance};
 
-impl<V: Lanes> Opener<V> {
-    /// The bounds of the children that put the jobs of a group at an end, once what the groups share there is written.
-    /// A lane whose job is not left has some number. Writes when the jobs start there.
-    #[inline(always)]
-    fn bounds_with_starts(&self, end: End, group: &[V], starts: &mut [V]) -> V
-        requires near { length self.now.near.items ≡ length group.now }
-        requires rest { length self.now.rest.items ≡ length group.now }
-        requires starts { length starts.old ≡ length group.now }
-        ensures bounds { (shop : Shop) (first last jobs : List ℕ) (node : Node) (lane : ℕ) →
-            IsNode shop first last node →
-            IsSpread V.list V.CAP V.WIDTH end node self.now.near.items self.now.rest.items →
-            IsGroup V.list V.CAP V.WIDTH shop jobs group.now → lane < V.WIDTH →
-            has (first ++ last) (slice_index jobs lane) ≡ false →
-            HasLane V.CAP V.WIDTH (V.list result) lane (child_bound shop end first last (slice_index jobs lane)) }
-        ensures starts { (shop : Shop) (first last jobs : List ℕ) (node : Node) (lane machine : ℕ) (none : V) →
-            IsNode shop first last node →
-            IsSpread V.list V.CAP V.WIDTH end node self.now.near.items self.now.rest.items →
-            IsGroup V.list V.CAP V.WIDTH shop jobs group.now → lane < V.WIDTH → IsMachine shop machine →
-            HasLane V.CAP V.WIDTH (V.list (slice_index_or starts.new (machine - 1) none)) lane
-            (start_at shop end first last (slice_index jobs lane) machine) }
-    {
-        let near = self.near.as_slice();
-        let rest = self.rest.as_slice();
-        match end {
-            End::Front => starts_at_front(near, rest, group, starts),
-            End::Back => starts_at_back(near, rest, group, starts),
-        }
+/// The bounds of the children that put the jobs of a group at an end, from what the groups share there. A lane whose
+/// job is not left has some number. Writes when the jobs start there.
+#[inline(always)]
+fn bounds_with_starts<V: Lanes, const M: usize>(
+    end: End,
+    pairs: &EndPairs,
+    group: &[V],
+    starts: &mut [V],
+) -> V
+    requires constant { (M ≡ 0) ⊎ (M ≡ length group.now) }
+    requires machines { length group.now ≤ most_machines }
+    requires starts { length starts.old ≡ length group.now }
+    ensures bounds { (shop : Shop) (first last jobs : List ℕ) (node : Node) (lane : ℕ) → IsNode shop first last node →
+        IsPaired V.pair_of V.CAP (length group.now) end node pairs.now →
+        IsGroup V.list V.CAP V.WIDTH shop jobs group.now → lane < V.WIDTH →
+        has (first ++ last) (slice_index jobs lane) ≡ false →
+        HasLane V.CAP V.WIDTH (V.list result) lane (child_bound shop end first last (slice_index jobs lane)) }
+    ensures starts { (shop : Shop) (first last jobs : List ℕ) (node : Node) (lane machine : ℕ) (none : V) →
+        IsNode shop first last node → IsPaired V.pair_of V.CAP (length group.now) end node pairs.now →
+        IsGroup V.list V.CAP V.WIDTH shop jobs group.now → lane < V.WIDTH → IsMachine shop machine →
+        HasLane V.CAP V.WIDTH (V.list (slice_index_or starts.new (machine - 1) none)) lane
+        (start_at shop end first last (slice_index jobs lane) machine) }
+{
+    match end {
+        End::Front => starts_at_front::<V, M>(pairs, group, starts),
+        End::Back => starts_at_back::<V, M>(pairs, group, starts),
     }
+}
 
+impl<V: Lanes> Opener<V> {
     /// Finds the children of a node at an end that are below the number, and when their jobs start there, among the
-    /// jobs left that stand in the groups, once what the groups share there is written.
+    /// jobs left that stand in the groups, from what the groups share there.
     #[inline(always)]
-    fn find_children(&self, end: End, groups: &[Vec<V>], left: &Marks, children: &mut Children<V>)
+    fn find_children<const M: usize>(
+        &self,
+        end: End,
+        pairs: &EndPairs,
+        groups: &[Vec<V>],
+        left: &Marks,
+        children: &mut Children<V>,
+    )
         requires wide { V.WIDTH ≡ 16 }
         requires limit { self.now.limit ≤ V.CAP }
         requires few { length groups.now ≤ most_groups }
-        requires near { (group : ℕ) (none : Vec V) → group < length groups.now →
-            length self.now.near.items ≡ length (slice_index_or groups.now group none).items }
-        requires rest { (group : ℕ) (none : Vec V) → group < length groups.now →
-            length self.now.rest.items ≡ length (slice_index_or groups.now group none).items }
+        requires constant { (M ≡ 0) ⊎ (M ≡ self.now.machines) }
+        requires most { self.now.machines ≤ most_machines }
+        requires machines { (group : ℕ) (none : Vec V) → group < length groups.now →
+            length (slice_index_or groups.now group none).items ≡ self.now.machines }
         requires room { (shop : Shop) × HasStartRoom shop (length groups.now) children.old.starts.items
             × ((group : ℕ) (none : Vec V) → group < length groups.now →
             length (slice_index_or groups.now group none).items ≡ shop.machines) }
@@ -77,16 +86,14 @@ impl<V: Lanes> Opener<V> {
             mark left.now.words place ≡ 1 }
         ensures exact { (shop : Shop) (number : ℕ) (first last jobs : List ℕ) (node : Node) (place : ℕ) (none : Vec V) →
             self.now.limit ≡ limit_of number → IsNode shop first last node →
-            IsSpread V.list V.CAP V.WIDTH end node self.now.near.items self.now.rest.items →
-            place / 16 < length groups.now →
+            IsPaired V.pair_of V.CAP self.now.machines end node pairs.now → place / 16 < length groups.now →
             IsGroup V.list V.CAP V.WIDTH shop jobs (slice_index_or groups.now (place / 16) none).items →
             mark left.now.words place ≡ 1 → has (first ++ last) (slice_index jobs (place % 16)) ≡ false →
             mark children.new.below.words place ≡ 1
             ↔ (child_bound shop end first last (slice_index jobs (place % 16)) < number) }
         ensures starts { (shop : Shop) (first last jobs : List ℕ) (node : Node) (place machine : ℕ) (none : Vec V)
             (zero : V) → IsNode shop first last node →
-            IsSpread V.list V.CAP V.WIDTH end node self.now.near.items self.now.rest.items →
-            place / 16 < length groups.now →
+            IsPaired V.pair_of V.CAP self.now.machines end node pairs.now → place / 16 < length groups.now →
             IsGroup V.list V.CAP V.WIDTH shop jobs (slice_index_or groups.now (place / 16) none).items →
             mark left.now.words place ≡ 1 → IsMachine shop machine →
             HasLane V.CAP V.WIDTH (V.list (slice_index_or
@@ -99,7 +106,8 @@ impl<V: Lanes> Opener<V> {
             let word = left.words[group];
             if word != 0 {
                 let starts = children.starts[group].as_mut_slice();
-                let bounds = self.bounds_with_starts(end, groups[group].as_slice(), starts);
+                let times = groups[group].as_slice();
+                let bounds = bounds_with_starts::<V, M>(end, pairs, times, starts);
                 children.below.words[group] = (bounds.below(self.limit) & u64::from(word)) as u16;
             } else {
                 children.below.words[group] = 0;
@@ -109,32 +117,29 @@ impl<V: Lanes> Opener<V> {
     }
 
     /// Finds the children of a node at an end that are below the number, where its parent has the same list: among
-    /// those that are marked, from their starts at the parent, the time of the jobs left, and what is at the other end.
-    /// Copies the starts.
+    /// those that are marked, from their starts at the parent, and from the pairs of the time of the jobs left and what
+    /// is at the other end. Copies the starts.
     #[inline(always)]
-    fn keep_children(
+    fn keep_children<const M: usize>(
         &self,
         groups: usize,
-        work: &[u32; MAX_MACHINES],
-        far: &[u32; MAX_MACHINES],
+        rest: &[u32; MAX_MACHINES],
         parent: &Children<V>,
         children: &mut Children<V>,
     )
         requires wide { V.WIDTH ≡ 16 }
         requires limit { self.now.limit ≤ V.CAP }
         requires few { groups ≤ most_groups }
-        requires room { (shop : Shop) × (shop.machines ≤ most_machines)
-            × HasStartRoom shop groups parent.now.starts.items × HasStartRoom shop groups children.old.starts.items
-            × ((place : ℕ) → place < shop.machines →
-            (slice_index work.now place + slice_index far.now place ≤ V.CAP)
-            × (slice_index work.now place + slice_index far.now place < 4294967295)) }
+        requires constant { (M ≡ 0) ⊎ (M ≡ self.now.machines) }
+        requires room { (shop : Shop) × (self.now.machines ≡ shop.machines) × (shop.machines ≤ most_machines)
+            × HasStartRoom shop groups parent.now.starts.items × HasStartRoom shop groups children.old.starts.items }
         ensures room { (shop : Shop) (count : ℕ) → HasStartRoom shop count children.old.starts.items →
             HasStartRoom shop count children.new.starts.items }
         ensures within { (place : ℕ) → place / 16 < groups → mark children.new.below.words place ≡ 1 →
             mark children.old.below.words place ≡ 1 }
         ensures exact { (shop : Shop) (number : ℕ) (end : End) (first last : List ℕ) (job : ℕ) (node : Node)
             (place : ℕ) → self.now.limit ≡ limit_of number → HasStartRoom shop groups parent.now.starts.items →
-            IsNode shop first last node → work.now ≡ node.work → far.now ≡ at_other_end end node → IsJob shop job →
+            IsNode shop first last node → AreRests V.pair_of V.CAP shop.machines end node rest.now → IsJob shop job →
             has (first ++ last) job ≡ false → place / 16 < groups → mark children.old.below.words place ≡ 1 →
             ((machine : ℕ) (none : Vec V) (zero : V) → IsMachine shop machine →
             HasLane V.CAP V.WIDTH (V.list (slice_index_or
@@ -152,7 +157,7 @@ impl<V: Lanes> Opener<V> {
             let word = children.below.words[group];
             if word != 0 {
                 let starts = children.starts[group].as_mut_slice();
-                let bounds = keep_starts(parent.starts[group].as_slice(), work, far, starts);
+                let bounds = keep_starts::<V, M>(parent.starts[group].as_slice(), rest, starts);
                 children.below.words[group] = (bounds.below(self.limit) & u64::from(word)) as u16;
             } else {
                 children.below.words[group] = 0;
@@ -163,8 +168,8 @@ impl<V: Lanes> Opener<V> {
 
     /// Opens a node at one end. Its jobs left stand at marked places of a pack.
     #[inline(always)]
-    fn open_at(
-        &mut self,
+    fn open_at<const M: usize>(
+        &self,
         end: End,
         pack: &Pack<V>,
         node: &Node,
@@ -172,26 +177,45 @@ impl<V: Lanes> Opener<V> {
         children: &mut Children<V>,
     )
         requires wide { V.WIDTH ≡ 16 }
-        requires limit { self.old.limit ≤ V.CAP }
+        requires limit { self.now.limit ≤ V.CAP }
+        requires constant { (M ≡ 0) ⊎ (M ≡ self.now.machines) }
         requires at { (shop : Shop) × (number : ℕ) × (first : List ℕ) × (last : List ℕ)
-            × IsNode shop first last node.now × IsPack V.list V.CAP V.WIDTH shop pack.now × HasRoomFor shop self.old
-            × (self.old.limit ≡ limit_of number) × (end_bound shop first last < number)
+            × IsNode shop first last node.now × IsPack V.list V.CAP V.WIDTH shop pack.now × HasRoomFor shop self.now
+            × (self.now.limit ≡ limit_of number) × (end_bound shop first last < number)
             × HasStartRoom shop (length pack.now.groups.items) children.old.starts.items }
-        ensures limit { self.new.limit ≡ self.old.limit }
-        ensures opener { (shop : Shop) → HasRoomFor shop self.old → HasRoomFor shop self.new }
         ensures room { (shop : Shop) (count : ℕ) → HasStartRoom shop count children.old.starts.items →
             HasStartRoom shop count children.new.starts.items }
-        ensures children { (shop : Shop) (number : ℕ) (first last : List ℕ) → self.old.limit ≡ limit_of number →
+        ensures children { (shop : Shop) (number : ℕ) (first last : List ℕ) → self.now.limit ≡ limit_of number →
             IsNode shop first last node.now → IsPack V.list V.CAP V.WIDTH shop pack.now →
             HasLeft shop first last pack.now.names.items left.now →
             AreChildren V.list V.CAP V.WIDTH shop number end first last pack.now.names.items left.now children.new }
     {
-        self.write(node, end);
-        self.find_children(end, pack.groups.as_slice(), left, children);
+        let pairs = EndPairs::of::<V, M>(node, end, self.machines);
+        self.find_children::<M>(end, &pairs, pack.groups.as_slice(), left, children);
+    }
+
+    /// The same as `open`. The constant is the number of machines, or 0.
+    #[inline(never)]
+    fn open_of<const M: usize>(&self, pack: &Pack<V>, node: &mut OpenNode<V>)
+        requires wide { V.WIDTH ≡ 16 }
+        requires limit { self.now.limit ≤ V.CAP }
+        requires constant { (M ≡ 0) ⊎ (M ≡ self.now.machines) }
+        requires at { (shop : Shop) × (number : ℕ) × (first : List ℕ) × (last : List ℕ)
+            × IsNode shop first last node.old.node × IsPack V.list V.CAP V.WIDTH shop pack.now
+            × HasRoomFor shop self.now × (self.now.limit ≡ limit_of number) × (end_bound shop first last < number)
+            × HasRoomToOpen shop (length pack.now.groups.items) node.old }
+        ensures room { (shop : Shop) (groups : ℕ) → HasRoomToOpen shop groups node.old →
+            HasRoomToOpen shop groups node.new }
+        ensures node { (shop : Shop) (number : ℕ) (first last : List ℕ) → self.now.limit ≡ limit_of number →
+            IsNode shop first last node.old.node → IsPack V.list V.CAP V.WIDTH shop pack.now →
+            HasLeft shop first last pack.now.names.items node.old.left →
+            IsOpenNode V.list V.CAP V.WIDTH shop number first last pack.now node.new }
+    {
+        self.open_at::<M>(End::Front, pack, &node.node, &node.left, &mut node.front);
+        self.open_at::<M>(End::Back, pack, &node.node, &node.left, &mut node.back);
     }
 
     /// Opens a node at both ends. Its jobs left stand at marked places of a pack.
-    #[inline(never)]
     pub fn open(&mut self, pack: &Pack<V>, node: &mut OpenNode<V>)
         requires wide { V.WIDTH ≡ 16 }
         requires limit { self.old.limit ≤ V.CAP }
@@ -209,12 +233,74 @@ impl<V: Lanes> Opener<V> {
             HasLeft shop first last pack.now.names.items node.old.left →
             IsOpenNode V.list V.CAP V.WIDTH shop number first last pack.now node.new }
     {
-        self.open_at(End::Front, pack, &node.node, &node.left, &mut node.front);
-        self.open_at(End::Back, pack, &node.node, &node.left, &mut node.back);
+        match self.machines {
+            5 => self.open_of::<5>(pack, node),
+            10 => self.open_of::<10>(pack, node),
+            20 => self.open_of::<20>(pack, node),
+            _ => self.open_of::<0>(pack, node),
+        }
+    }
+
+    /// The same as `open_child`. The constant is the number of machines, or 0.
+    #[inline(never)]
+    fn open_child_of<const M: usize>(
+        &self,
+        instance: &Instance,
+        pack: &Pack<V>,
+        parent: &OpenNode<V>,
+        put: Put,
+        child: &mut OpenNode<V>,
+    )
+        requires wide { V.WIDTH ≡ 16 }
+        requires limit { self.now.limit ≤ V.CAP }
+        requires constant { (M ≡ 0) ⊎ (M ≡ self.now.machines) }
+        requires at { (number : ℕ) × (first : List ℕ) × (last : List ℕ)
+            × IsOpenNode V.list V.CAP V.WIDTH instance.now number first last pack.now parent.now
+            × IsPack V.list V.CAP V.WIDTH instance.now pack.now × HasRoomFor instance.now self.now
+            × (self.now.limit ≡ limit_of number) × (end_bound instance.now first last < number)
+            × (put.place < length pack.now.names.items)
+            × (mark (children_at put.end parent.now).below.words put.place ≡ 1)
+            × HasRoomToOpen instance.now (length pack.now.groups.items) parent.now
+            × HasRoomToOpen instance.now (length pack.now.groups.items) child.old }
+        ensures room { (shop : Shop) (groups : ℕ) → HasRoomToOpen shop groups child.old →
+            HasRoomToOpen shop groups child.new }
+        ensures child { (number : ℕ) (first last : List ℕ) →
+            IsOpenNode V.list V.CAP V.WIDTH instance.now number first last pack.now parent.now →
+            IsPack V.list V.CAP V.WIDTH instance.now pack.now → HasRoomFor instance.now self.now →
+            self.now.limit ≡ limit_of number →
+            mark (children_at put.end parent.now).below.words put.place ≡ 1 →
+            IsOpenNode V.list V.CAP V.WIDTH instance.now number
+            (first_with put.end first (slice_index pack.now.names.items put.place))
+            (last_with put.end last (slice_index pack.now.names.items put.place)) pack.now child.new }
+    {
+        let row = &self.rows[usize::from(pack.names[put.place]) - 1];
+        child
+            .node
+            .become_child::<M>(&parent.node, instance, put.end, row);
+        child.left = parent.left;
+        child.left.clear(put.place);
+        let groups = pack.groups.len();
+        match put.end {
+            End::Front => {
+                self.open_at::<M>(End::Front, pack, &child.node, &child.left, &mut child.front);
+                child.back.below = parent.back.below;
+                child.back.below.clear(put.place);
+                let node = &child.node;
+                let rest = pairs_of_sums::<V, M>(&node.work, &node.front, self.machines);
+                self.keep_children::<M>(groups, &rest, &parent.back, &mut child.back);
+            }
+            End::Back => {
+                self.open_at::<M>(End::Back, pack, &child.node, &child.left, &mut child.back);
+                child.front.below = parent.front.below;
+                child.front.below.clear(put.place);
+                let node = &child.node;
+                let rest = pairs_of_sums::<V, M>(&node.work, &node.back, self.machines);
+                self.keep_children::<M>(groups, &rest, &parent.front, &mut child.front);
+            }
+        }
     }
 
     /// Makes the child of a node that puts a job at an end, opened at both ends.
-    #[inline(never)]
     pub fn open_child(
         &mut self,
         instance: &Instance,
@@ -246,40 +332,11 @@ impl<V: Lanes> Opener<V> {
             (first_with put.end first (slice_index pack.now.names.items put.place))
             (last_with put.end last (slice_index pack.now.names.items put.place)) pack.now child.new }
     {
-        let row = &self.rows[usize::from(pack.names[put.place]) - 1];
-        child
-            .node
-            .become_child::<0>(&parent.node, instance, put.end, row);
-        child.left = parent.left;
-        child.left.clear(put.place);
-        let groups = pack.groups.len();
-        match put.end {
-            End::Front => {
-                self.open_at(End::Front, pack, &child.node, &child.left, &mut child.front);
-                child.back.below = parent.back.below;
-                child.back.below.clear(put.place);
-                let node = &child.node;
-                self.keep_children(
-                    groups,
-                    &node.work,
-                    &node.front,
-                    &parent.back,
-                    &mut child.back,
-                );
-            }
-            End::Back => {
-                self.open_at(End::Back, pack, &child.node, &child.left, &mut child.back);
-                child.front.below = parent.front.below;
-                child.front.below.clear(put.place);
-                let node = &child.node;
-                self.keep_children(
-                    groups,
-                    &node.work,
-                    &node.back,
-                    &parent.front,
-                    &mut child.front,
-                );
-            }
+        match self.machines {
+            5 => self.open_child_of::<5>(instance, pack, parent, put, child),
+            10 => self.open_child_of::<10>(instance, pack, parent, put, child),
+            20 => self.open_child_of::<20>(instance, pack, parent, put, child),
+            _ => self.open_child_of::<0>(instance, pack, parent, put, child),
         }
     }
 }

@@ -1,6 +1,6 @@
 //! When the jobs of a group start at an end of a node, side by side, and the bounds of the children there.
 
-ghost use Rattle.std.specs.Prelude.{◌≡◌, ℕ, ◌+◌, ◌-◌, ◌<◌, ◌≤◌, List, length, slice_index, slice_index_or};
+ghost use Rattle.std.specs.Prelude.{◌≡◌, ◌⊎◌, ℕ, ◌-◌, ◌<◌, ◌≤◌, List, length, slice_index, slice_index_or};
 ghost use Rattle.flow_nodes.specs.declared.node.Node.{Node};
 ghost use Rattle.flow_limits.specs.Limits.{most_machines};
 ghost use Rattle.flow_shop.specs.Shop.{Shop};
@@ -11,33 +11,40 @@ ghost use Rattle.flow_nodes.specs.Nodes.{IsMachine, IsNode};
 ghost use Rattle.flow_nodes.specs.Groups.{IsGroup};
 ghost use Rattle.flow_nodes.specs.Open.{start_at};
 ghost use Rattle.flow_nodes.specs.internal.Children.{greatest_at};
-ghost use Rattle.flow_nodes.specs.internal.Spread.{IsSpread, at_other_end};
+ghost use Rattle.flow_nodes.specs.internal.Pairs.{AreRests, IsPaired};
 
+use crate::few_groups::known_or;
 use crate::lanes::Lanes;
+use crate::pairs::EndPairs;
 use flow_limits::MAX_MACHINES;
 
 /// The bounds of the children that put the jobs of a group at the front. Writes when the jobs start there.
 #[inline(always)]
-pub(crate) fn starts_at_front<V: Lanes>(near: &[V], rest: &[V], group: &[V], starts: &mut [V]) -> V
-    requires near { length near.now ≡ length group.now }
-    requires rest { length rest.now ≡ length group.now }
+pub(crate) fn starts_at_front<V: Lanes, const M: usize>(
+    pairs: &EndPairs,
+    group: &[V],
+    starts: &mut [V],
+) -> V
+    requires constant { (M ≡ 0) ⊎ (M ≡ length group.now) }
+    requires machines { length group.now ≤ most_machines }
     requires starts { length starts.old ≡ length group.now }
     ensures bounds { (shop : Shop) (first last jobs : List ℕ) (node : Node) (lane : ℕ) → IsNode shop first last node →
-        IsSpread V.list V.CAP V.WIDTH Front node near.now rest.now →
+        IsPaired V.pair_of V.CAP (length group.now) Front node pairs.now →
         IsGroup V.list V.CAP V.WIDTH shop jobs group.now → lane < V.WIDTH →
         HasLane V.CAP V.WIDTH (V.list result) lane (greatest_at shop Front first last (slice_index jobs lane)) }
     ensures starts { (shop : Shop) (first last jobs : List ℕ) (node : Node) (lane machine : ℕ) (none : V) →
-        IsNode shop first last node → IsSpread V.list V.CAP V.WIDTH Front node near.now rest.now →
+        IsNode shop first last node → IsPaired V.pair_of V.CAP (length group.now) Front node pairs.now →
         IsGroup V.list V.CAP V.WIDTH shop jobs group.now → lane < V.WIDTH → IsMachine shop machine →
         HasLane V.CAP V.WIDTH (V.list (slice_index_or starts.new (machine - 1) none)) lane
         (start_at shop Front first last (slice_index jobs lane) machine) }
 {
     let mut free = V::each(0);
     let mut bounds = free;
-    for place in 0..group.len() {
-        let start = free.at_least(near[place]);
+    let machines = known_or::<M>(group.len());
+    for place in 0..machines {
+        let start = free.at_least(V::from_pair(pairs.near[place]));
         starts[place] = start;
-        bounds = bounds.at_least(start.plus(rest[place]));
+        bounds = bounds.at_least(start.plus(V::from_pair(pairs.rest[place])));
         free = start.plus(group[place]);
     }
     bounds
@@ -45,52 +52,52 @@ pub(crate) fn starts_at_front<V: Lanes>(near: &[V], rest: &[V], group: &[V], sta
 
 /// The bounds of the children that put the jobs of a group at the back. Writes when the jobs start there.
 #[inline(always)]
-pub(crate) fn starts_at_back<V: Lanes>(near: &[V], rest: &[V], group: &[V], starts: &mut [V]) -> V
-    requires near { length near.now ≡ length group.now }
-    requires rest { length rest.now ≡ length group.now }
+pub(crate) fn starts_at_back<V: Lanes, const M: usize>(
+    pairs: &EndPairs,
+    group: &[V],
+    starts: &mut [V],
+) -> V
+    requires constant { (M ≡ 0) ⊎ (M ≡ length group.now) }
+    requires machines { length group.now ≤ most_machines }
     requires starts { length starts.old ≡ length group.now }
     ensures bounds { (shop : Shop) (first last jobs : List ℕ) (node : Node) (lane : ℕ) → IsNode shop first last node →
-        IsSpread V.list V.CAP V.WIDTH Back node near.now rest.now →
+        IsPaired V.pair_of V.CAP (length group.now) Back node pairs.now →
         IsGroup V.list V.CAP V.WIDTH shop jobs group.now → lane < V.WIDTH →
         HasLane V.CAP V.WIDTH (V.list result) lane (greatest_at shop Back first last (slice_index jobs lane)) }
     ensures starts { (shop : Shop) (first last jobs : List ℕ) (node : Node) (lane machine : ℕ) (none : V) →
-        IsNode shop first last node → IsSpread V.list V.CAP V.WIDTH Back node near.now rest.now →
+        IsNode shop first last node → IsPaired V.pair_of V.CAP (length group.now) Back node pairs.now →
         IsGroup V.list V.CAP V.WIDTH shop jobs group.now → lane < V.WIDTH → IsMachine shop machine →
         HasLane V.CAP V.WIDTH (V.list (slice_index_or starts.new (machine - 1) none)) lane
         (start_at shop Back first last (slice_index jobs lane) machine) }
 {
     let mut free = V::each(0);
     let mut bounds = free;
-    let mut machine = group.len();
+    let mut machine = known_or::<M>(group.len());
     while machine > 0 {
         let place = machine - 1;
-        let start = free.at_least(near[place]);
+        let start = free.at_least(V::from_pair(pairs.near[place]));
         starts[place] = start;
-        bounds = bounds.at_least(start.plus(rest[place]));
+        bounds = bounds.at_least(start.plus(V::from_pair(pairs.rest[place])));
         free = start.plus(group[place]);
         machine = place;
     }
     bounds
 }
 
-/// The bounds of the children that put the jobs of a group at an end, from their starts there, the time of the jobs
-/// left, and what is at the other end. Copies the starts.
+/// The bounds of the children that put the jobs of a group at an end, from their starts there, and from the pairs of the
+/// time of the jobs left and what is at the other end. Copies the starts.
 #[inline(always)]
-pub(crate) fn keep_starts<V: Lanes>(
+pub(crate) fn keep_starts<V: Lanes, const M: usize>(
     starts: &[V],
-    work: &[u32; MAX_MACHINES],
-    far: &[u32; MAX_MACHINES],
+    rest: &[u32; MAX_MACHINES],
     kept: &mut [V],
 ) -> V
+    requires constant { (M ≡ 0) ⊎ (M ≡ length starts.now) }
     requires machines { length starts.now ≤ most_machines }
-    requires rest { (place : ℕ) → place < length starts.now →
-        slice_index work.now place + slice_index far.now place ≤ V.CAP }
-    requires small { (place : ℕ) → place < length starts.now →
-        slice_index work.now place + slice_index far.now place < 4294967295 }
     requires kept { length kept.old ≡ length starts.now }
     ensures copied { kept.new ≡ starts.now }
     ensures bounds { (shop : Shop) (end : End) (first last : List ℕ) (job : ℕ) (node : Node) (lane : ℕ) →
-        IsNode shop first last node → work.now ≡ node.work → far.now ≡ at_other_end end node →
+        IsNode shop first last node → AreRests V.pair_of V.CAP shop.machines end node rest.now →
         length starts.now ≡ shop.machines → lane < V.WIDTH →
         ((machine : ℕ) (none : V) → IsMachine shop machine →
         HasLane V.CAP V.WIDTH (V.list (slice_index_or starts.now (machine - 1) none)) lane
@@ -98,10 +105,11 @@ pub(crate) fn keep_starts<V: Lanes>(
         HasLane V.CAP V.WIDTH (V.list result) lane (greatest_at shop end first last job) }
 {
     let mut bounds = V::each(0);
-    for place in 0..starts.len() {
+    let machines = known_or::<M>(starts.len());
+    for place in 0..machines {
         let start = starts[place];
         kept[place] = start;
-        bounds = bounds.at_least(start.plus(V::each(work[place] + far[place])));
+        bounds = bounds.at_least(start.plus(V::from_pair(rest[place])));
     }
     bounds
 }

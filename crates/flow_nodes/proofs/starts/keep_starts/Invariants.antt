@@ -5,7 +5,7 @@ use Rattle.flow_shop.specs.declared.end.End.{End}
 use Rattle.flow_nodes.specs.Lanes.{HasLane}
 use Rattle.flow_nodes.specs.Nodes.{IsMachine, IsNode}
 use Rattle.flow_nodes.specs.Open.{start_at}
-use Rattle.flow_nodes.specs.internal.Spread.{at_other_end}
+use Rattle.flow_nodes.specs.internal.Pairs.{AreRests}
 use Rattle.flow_nodes.specs.declared.node.Node.{Node}
 use Rattle.flow_nodes.proofs.StartSteps.{child_at}
 use Rattle.flow_nodes.proofs.starts.keep_starts.Given as goal
@@ -16,7 +16,7 @@ invariant-loop-place g l = record {
   copied : (place : ℕ) (none : g.row.V.Denot) → place < l.place →
       slice_index_or l.kept place none ≡ slice_index_or l.starts place none;
   bounds : (shop : Shop) (end : End) (first last : List ℕ) (job : ℕ) (node : Node) (lane : ℕ) →
-      IsNode shop first last node → l.work ≡ node.work → l.far ≡ at_other_end end node →
+      IsNode shop first last node → AreRests g.V.Lanes.pair_of g.V.Lanes.CAP shop.machines end node l.rest →
       length l.starts ≡ shop.machines → lane < g.V.Lanes.WIDTH →
       ((machine : ℕ) (none : g.row.V.Denot) → IsMachine shop machine →
       HasLane g.V.Lanes.CAP g.V.Lanes.WIDTH (g.V.Lanes.list (slice_index_or l.starts (machine - 1) none)) lane

@@ -1,4 +1,4 @@
-use Rattle.std.proofs.Common.{◌≡◌, ℕ, ◌+◌, ◌-◌, ◌≤◌, max, ◌∷◌, length, map, slice_index, ap, sym, ◌∙◌}
+use Rattle.std.proofs.Common.{◌≡◌, ℕ, ◌+◌, ◌-◌, ◌<◌, ◌≤◌, max, ◌∷◌, length, map, slice_index, ap, sym, ◌∙◌}
 use Rattle.std.proofs.Common.{slice_index_or, subst, refl, arith}
 use Rattle.flow_shop.specs.Shop.{numbers, time}
 use Rattle.flow_shop.specs.Least.{greatest}
@@ -9,28 +9,27 @@ use Rattle.flow_nodes.specs.internal.Children.{back_child_at}
 use Rattle.flow_shop.specs.declared.end.End.TheVariants.{Back}
 use Rattle.flow_nodes.proofs.ChildSteps.{back-none, back-greatest-none, back-next, back-greatest}
 use Rattle.flow_nodes.proofs.GroupSteps.{lane-at}
-use Rattle.flow_nodes.proofs.SpreadSteps.{near-at, rest-at}
 use Rattle.flow_nodes.proofs.StartSteps.{back-start, spread-down}
 use Rattle.flow_nodes.proofs.starts.starts_at_back.Goals as goal
 
 pub loop-machine-init : goal.loop-machine-init
 loop-machine-init g c = record {
-  within = omega arith;
+  within = omega (arith, c.known_or-machine.ensures);
   free = λ shop first last jobs node lane is spread are within.
-      let few : shop.machines ≡ length c.args.group.now = sym are.machines in
+      let few : shop.machines ≡ c.known_or-machine.result = omega (arith, are.machines, c.known_or-machine.ensures) in
       subst (λ n. HasLane g.V.Lanes.CAP g.V.Lanes.WIDTH (g.V.Lanes.list c.each-free.result) lane n)
       (sym (back-none shop first last (slice_index jobs lane) node is (are.each lane within))
       ∙ ap (λ m. back shop (slice_index jobs lane ∷ last) (m + 1)) few)
       (c.each-free.ensures lane within);
   bounds = λ shop first last jobs node lane is spread are within.
-      let few : shop.machines ≡ length c.args.group.now = sym are.machines in
+      let few : shop.machines ≡ c.known_or-machine.result = omega (arith, are.machines, c.known_or-machine.ensures) in
       subst (λ n. HasLane g.V.Lanes.CAP g.V.Lanes.WIDTH (g.V.Lanes.list c.each-free.result) lane n)
       (sym (back-greatest-none shop first last (slice_index jobs lane) node is (are.each lane within))
       ∙ ap (λ m. greatest (map (back_child_at shop first last (slice_index jobs lane))
       (numbers (m + 1) shop.machines))) few)
       (c.each-free.ensures lane within);
   starts = λ shop first last jobs node lane is spread are within place none low high.
-      absurd (omega (arith, low, high));
+      absurd (omega (arith, low, high, c.known_or-machine.ensures));
 }
 
 pub loop-machine-preserved : goal.loop-machine-preserved
@@ -44,10 +43,10 @@ loop-machine-preserved g c = record {
       let low : 1 ≤ machine = omega (arith, c.loop-machine-test.true) in
       let high : machine ≤ shop.machines = omega (arith, c.loop-machine.invariant.within, are.machines) in
       let next : machine ≡ machine - 1 + 1 = omega (arith, low) in
+      let below : machine - 1 < length c.args.group.now = omega (arith, low, high, are.machines) in
       let start = c.at_least-start.ensures lane free near
       (c.loop-machine.invariant.free shop first last jobs node lane is spread are within)
-      (near-at spread (machine - 1) lane (omega (arith, low, high, are.machines, c.requires.near)) within
-      c.index-near-place.is) in
+      (c.from_pair.ensures near lane (spread.near (machine - 1) below).1 (spread.near (machine - 1) below).0 within) in
       let times = lane-at g.V.Lanes.list g.V.Lanes.CAP g.V.Lanes.WIDTH shop jobs c.args.group.now machine (machine - 1)
       lane c.index-group-place.result are refl low high within c.index-group-place.is in
       subst (λ n. HasLane g.V.Lanes.CAP g.V.Lanes.WIDTH (g.V.Lanes.list c.plus-free.result) lane n)
@@ -63,13 +62,13 @@ loop-machine-preserved g c = record {
       let low : 1 ≤ machine = omega (arith, c.loop-machine-test.true) in
       let high : machine ≤ shop.machines = omega (arith, c.loop-machine.invariant.within, are.machines) in
       let next : machine ≡ machine - 1 + 1 = omega (arith, low) in
+      let below : machine - 1 < length c.args.group.now = omega (arith, low, high, are.machines) in
       let start = c.at_least-start.ensures lane free near
       (c.loop-machine.invariant.free shop first last jobs node lane is spread are within)
-      (near-at spread (machine - 1) lane (omega (arith, low, high, are.machines, c.requires.near)) within
-      c.index-near-place.is) in
+      (c.from_pair.ensures near lane (spread.near (machine - 1) below).1 (spread.near (machine - 1) below).0 within) in
       let whole = c.plus.ensures lane (max free near) rest start
-      (rest-at spread (machine - 1) lane (omega (arith, low, high, are.machines, c.requires.rest)) within
-      c.index-rest-place.is) in
+      (c.from_pair-in-loop-machine.ensures rest lane (spread.rest (machine - 1) below).1
+      (spread.rest (machine - 1) below).0 within) in
       subst (λ n. HasLane g.V.Lanes.CAP g.V.Lanes.WIDTH (g.V.Lanes.list c.at_least-bounds.result) lane n)
       (back-greatest shop first last job node is (are.each lane within) machine near
       (slice_index node.work (machine - 1)) (slice_index node.front (machine - 1)) low high refl refl refl
@@ -86,10 +85,10 @@ loop-machine-preserved g c = record {
       let low : 1 ≤ machine = omega (arith, c.loop-machine-test.true) in
       let high : machine ≤ shop.machines = omega (arith, c.loop-machine.invariant.within, are.machines) in
       let next : machine ≡ machine - 1 + 1 = omega (arith, low) in
+      let below : machine - 1 < length c.args.group.now = omega (arith, low, high, are.machines) in
       let start = c.at_least-start.ensures lane free near
       (c.loop-machine.invariant.free shop first last jobs node lane is spread are within)
-      (near-at spread (machine - 1) lane (omega (arith, low, high, are.machines, c.requires.near)) within
-      c.index-near-place.is) in
+      (c.from_pair.ensures near lane (spread.near (machine - 1) below).1 (spread.near (machine - 1) below).0 within) in
       spread-down
       (λ p v. HasLane g.V.Lanes.CAP g.V.Lanes.WIDTH (g.V.Lanes.list v) lane
       (start_at shop Back first last job (p + 1))) c.loop-machine.starts (machine - 1) (length c.args.group.now)

@@ -7,7 +7,7 @@ use Rattle.flow_nodes.specs.Nodes.{IsNode}
 use Rattle.flow_nodes.specs.Groups.{IsGroup}
 use Rattle.flow_nodes.specs.Open.{start_at}
 use Rattle.flow_nodes.specs.internal.Children.{back_child_at}
-use Rattle.flow_nodes.specs.internal.Spread.{IsSpread}
+use Rattle.flow_nodes.specs.internal.Pairs.{IsPaired}
 use Rattle.flow_nodes.specs.declared.node.Node.{Node}
 use Rattle.flow_shop.specs.declared.end.End.TheVariants.{Back}
 use Rattle.flow_nodes.proofs.starts.starts_at_back.Given as goal
@@ -17,17 +17,17 @@ abbrev pub invariant-loop-machine : goal.invariant-loop-machine
 invariant-loop-machine g l = record {
   within : l.machine ≤ length l.group;
   free : (shop : Shop) (first last jobs : List ℕ) (node : Node) (lane : ℕ) → IsNode shop first last node →
-      IsSpread g.V.Lanes.list g.V.Lanes.CAP g.V.Lanes.WIDTH Back node l.near l.rest →
+      IsPaired g.V.Lanes.pair_of g.V.Lanes.CAP (length l.group) Back node l.pairs →
       IsGroup g.V.Lanes.list g.V.Lanes.CAP g.V.Lanes.WIDTH shop jobs l.group → lane < g.V.Lanes.WIDTH →
       HasLane g.V.Lanes.CAP g.V.Lanes.WIDTH (g.V.Lanes.list l.free) lane
       (back shop (slice_index jobs lane ∷ last) (l.machine + 1));
   bounds : (shop : Shop) (first last jobs : List ℕ) (node : Node) (lane : ℕ) → IsNode shop first last node →
-      IsSpread g.V.Lanes.list g.V.Lanes.CAP g.V.Lanes.WIDTH Back node l.near l.rest →
+      IsPaired g.V.Lanes.pair_of g.V.Lanes.CAP (length l.group) Back node l.pairs →
       IsGroup g.V.Lanes.list g.V.Lanes.CAP g.V.Lanes.WIDTH shop jobs l.group → lane < g.V.Lanes.WIDTH →
       HasLane g.V.Lanes.CAP g.V.Lanes.WIDTH (g.V.Lanes.list l.bounds) lane
       (greatest (map (back_child_at shop first last (slice_index jobs lane)) (numbers (l.machine + 1) shop.machines)));
   starts : (shop : Shop) (first last jobs : List ℕ) (node : Node) (lane : ℕ) → IsNode shop first last node →
-      IsSpread g.V.Lanes.list g.V.Lanes.CAP g.V.Lanes.WIDTH Back node l.near l.rest →
+      IsPaired g.V.Lanes.pair_of g.V.Lanes.CAP (length l.group) Back node l.pairs →
       IsGroup g.V.Lanes.list g.V.Lanes.CAP g.V.Lanes.WIDTH shop jobs l.group → lane < g.V.Lanes.WIDTH →
       (place : ℕ) (none : g.row.V.Denot) → l.machine ≤ place → place < length l.group →
       HasLane g.V.Lanes.CAP g.V.Lanes.WIDTH (g.V.Lanes.list (slice_index_or l.starts place none)) lane

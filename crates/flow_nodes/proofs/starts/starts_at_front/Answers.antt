@@ -9,7 +9,7 @@ use Rattle.flow_nodes.specs.internal.Children.{front_child_at}
 use Rattle.flow_shop.specs.declared.end.End.TheVariants.{Front}
 use Rattle.flow_nodes.proofs.ChildSteps.{front-none, front-next, front-greatest}
 use Rattle.flow_nodes.proofs.GroupSteps.{lane-at}
-use Rattle.flow_nodes.proofs.SpreadSteps.{near-at, rest-at, spread-more}
+use Rattle.flow_nodes.proofs.SpreadSteps.{spread-more}
 use Rattle.flow_nodes.proofs.StartSteps.{front-start}
 use Rattle.flow_nodes.proofs.starts.starts_at_front.Goals as goal
 
@@ -30,11 +30,12 @@ loop-place-preserved g c = record {
       let job : ℕ = slice_index jobs lane in
       let near : ℕ = slice_index node.front place in
       let free : ℕ = front shop (first ++ job ∷ []) place in
-      let below : place < length c.args.group.now = c.loop-place-test.true in
+      let below : place < length c.args.group.now =
+      omega (arith, c.loop-place-test.true, c.known_or-machines.ensures) in
       let few : length c.args.group.now ≡ shop.machines = are.machines in
       let start = c.at_least-start.ensures lane free near
       (c.loop-place.invariant.free shop first last jobs node lane is spread are within)
-      (near-at spread place lane (omega (arith, below, c.requires.near)) within c.index-near-place.is) in
+      (c.from_pair.ensures near lane (spread.near place below).1 (spread.near place below).0 within) in
       let same : place ≡ place + 1 - 1 = omega arith in
       let times = lane-at g.V.Lanes.list g.V.Lanes.CAP g.V.Lanes.WIDTH shop jobs c.args.group.now (place + 1) place lane
       c.index-group-place.result are same (omega arith) (omega (arith, below, few)) within c.index-group-place.is in
@@ -48,13 +49,14 @@ loop-place-preserved g c = record {
       let near : ℕ = slice_index node.front place in
       let rest : ℕ = slice_index node.work place + slice_index node.back place in
       let free : ℕ = front shop (first ++ job ∷ []) place in
-      let below : place < length c.args.group.now = c.loop-place-test.true in
+      let below : place < length c.args.group.now =
+      omega (arith, c.loop-place-test.true, c.known_or-machines.ensures) in
       let few : length c.args.group.now ≡ shop.machines = are.machines in
       let start = c.at_least-start.ensures lane free near
       (c.loop-place.invariant.free shop first last jobs node lane is spread are within)
-      (near-at spread place lane (omega (arith, below, c.requires.near)) within c.index-near-place.is) in
+      (c.from_pair.ensures near lane (spread.near place below).1 (spread.near place below).0 within) in
       let whole = c.plus.ensures lane (max free near) rest start
-      (rest-at spread place lane (omega (arith, below, c.requires.rest)) within c.index-rest-place.is) in
+      (c.from_pair-in-loop-place.ensures rest lane (spread.rest place below).1 (spread.rest place below).0 within) in
       subst (λ n. HasLane g.V.Lanes.CAP g.V.Lanes.WIDTH (g.V.Lanes.list c.at_least-bounds.result) lane n)
       (front-greatest shop first last job node is (are.each lane within) place near
       (slice_index node.work place) (slice_index node.back place) (omega (arith, below, few)) refl refl refl)
@@ -65,11 +67,12 @@ loop-place-preserved g c = record {
       let job : ℕ = slice_index jobs lane in
       let near : ℕ = slice_index node.front place in
       let free : ℕ = front shop (first ++ job ∷ []) place in
-      let below : place < length c.args.group.now = c.loop-place-test.true in
+      let below : place < length c.args.group.now =
+      omega (arith, c.loop-place-test.true, c.known_or-machines.ensures) in
       let few : length c.args.group.now ≡ shop.machines = are.machines in
       let start = c.at_least-start.ensures lane free near
       (c.loop-place.invariant.free shop first last jobs node lane is spread are within)
-      (near-at spread place lane (omega (arith, below, c.requires.near)) within c.index-near-place.is) in
+      (c.from_pair.ensures near lane (spread.near place below).1 (spread.near place below).0 within) in
       spread-more
       (λ p v. HasLane g.V.Lanes.CAP g.V.Lanes.WIDTH (g.V.Lanes.list v) lane
       (start_at shop Front first last job (p + 1))) c.loop-place.starts place c.at_least-start.result
@@ -82,7 +85,7 @@ loop-place-preserved g c = record {
 pub returns-clause-bounds : goal.returns-clause-bounds
 returns-clause-bounds g c shop first last jobs node lane is spread are within =
     let few : length c.args.group.now ≡ shop.machines = are.machines in
-    let all : c.loop-place.place ≡ shop.machines = omega (arith, few, c.loop-place-test.false) in
+    let all : c.loop-place.place ≡ shop.machines = omega (arith, few, c.loop-place-test.false, c.known_or-machines.ensures) in
     subst (λ m. HasLane g.V.Lanes.CAP g.V.Lanes.WIDTH (g.V.Lanes.list c.loop-place.bounds) lane
     (greatest (map (front_child_at shop first last (slice_index jobs lane)) (numbers 1 m)))) all
     (c.loop-place.invariant.bounds shop first last jobs node lane is spread are within)
@@ -95,4 +98,4 @@ returns-clause-starts g c shop first last jobs node lane machine none is spread 
     (g.V.Lanes.list (slice_index_or c.loop-place.starts (machine - 1) none)) lane
     (start_at shop Front first last (slice_index jobs lane) k)) next
     (c.loop-place.invariant.starts shop first last jobs node lane is spread are within (machine - 1) none
-    (omega (arith, few, c.loop-place-test.false, on.0, on.1)))
+    (omega (arith, few, c.loop-place-test.false, c.known_or-machines.ensures, on.0, on.1)))

@@ -9,9 +9,12 @@ use Rattle.flow_nodes.specs.Lanes.{HasLane}
 use Rattle.flow_nodes.specs.Groups.{IsGroup, child_bound}
 use Rattle.flow_nodes.specs.Marks.{mark}
 use Rattle.flow_nodes.specs.Open.{HasStartRoom, start_at}
+use Rattle.flow_nodes.specs.internal.Pairs.{IsPaired}
+use Rattle.flow_nodes.specs.declared.node.Node.{Node}
 use Rattle.flow_nodes.proofs.MarkSteps.{mark-elsewhere}
 use Rattle.flow_nodes.proofs.BelowSteps.{written-within, written-exact, none-left, none-written, lane-tells}
 use Rattle.flow_nodes.proofs.OpenSteps.{start-room}
+use Rattle.flow_nodes.proofs.PairSteps.{constant-is}
 use Rattle.flow_nodes.proofs.opener.Opener.find_children.Goals as goal
 use Rattle.flow_nodes.proofs.opener.Opener.find_children.Goals.{then-word-ne0, else-word-ne0}
 
@@ -31,6 +34,20 @@ index_mut-requires g c =
     let room = c.loop-group.invariant.room c.requires.room.0 (length c.args.groups.now) c.requires.room.1 in
     omega (arith, c.loop-group-test.true, room.enough, c.loop-group.children.starts.ok.0)
 
+pub bounds_with_starts-bounds-requires-clause-constant : goal.bounds_with_starts-bounds-requires-clause-constant
+bounds_with_starts-bounds-requires-clause-constant g c =
+    constant-is (ap length c.as_slice-times.ensures.value ∙ ap (λ v. length v.items) c.index-groups-group.is
+    ∙ c.requires.machines c.loop-group.group c.index-groups-group.result c.loop-group-test.true) c.requires.constant
+
+pub bounds_with_starts-bounds-requires-clause-machines : goal.bounds_with_starts-bounds-requires-clause-machines
+bounds_with_starts-bounds-requires-clause-machines g c = omega (
+  arith,
+  ap length c.as_slice-times.ensures.value,
+  ap (λ v. length v.items) c.index-groups-group.is,
+  c.requires.machines c.loop-group.group c.index-groups-group.result c.loop-group-test.true,
+  c.requires.most,
+)
+
 pub bounds_with_starts-bounds-requires-clause-starts : goal.bounds_with_starts-bounds-requires-clause-starts
 bounds_with_starts-bounds-requires-clause-starts g c =
     let group : ℕ = c.loop-group.group in
@@ -40,7 +57,7 @@ bounds_with_starts-bounds-requires-clause-starts g c =
       ap length c.as_mut_slice-starts.ensures.value,
       ap (λ v. length v.items) c.index_mut.ensures.value,
       room.machines group c.index_mut.result.now (omega (arith, c.loop-group-test.true, room.enough)),
-      ap length c.as_slice.ensures.value,
+      ap length c.as_slice-times.ensures.value,
       ap (λ v. length v.items) c.index-groups-group.is,
       c.requires.room.2 group c.index-groups-group.result c.loop-group-test.true,
     )
@@ -69,12 +86,20 @@ loop-group-preserved g c =
           with_items_is w.index_mut.result.now written (omega (arith, size, w.index_mut.result.now.ok.0)) in
           let of_group : (shop : Shop) (jobs : List ℕ) (place : ℕ) (none : Vec g.row.V.Denot) → place / 16 ≡ group →
           IsGroup list cap width shop jobs (slice_index_or groups (place / 16) none).items →
-          IsGroup list cap width shop jobs w.as_slice.result.now =
+          IsGroup list cap width shop jobs w.as_slice-times.result.now =
           λ shop jobs place none there are.
           subst (IsGroup list cap width shop jobs)
-          (sym (w.as_slice.ensures.value ∙ ap (λ v. v.items) (w.index-groups-group.is
+          (sym (w.as_slice-times.ensures.value ∙ ap (λ v. v.items) (w.index-groups-group.is
           ∙ get_or_default groups group w.index-groups-group.result none c.loop-group-test.true)))
           (subst (λ i. IsGroup list cap width shop jobs (slice_index_or groups i none).items) there are) in
+          let machines : length w.as_slice-times.result.now ≡ c.args.self.now.machines =
+          ap length w.as_slice-times.ensures.value ∙ ap (λ v. length v.items) w.index-groups-group.is
+          ∙ c.requires.machines group w.index-groups-group.result c.loop-group-test.true in
+          let shared : (node : Node) →
+          IsPaired g.V.Lanes.pair_of cap c.args.self.now.machines c.args.end node c.args.pairs.now →
+          IsPaired g.V.Lanes.pair_of cap (length w.as_slice-times.result.now) c.args.end node c.args.pairs.now =
+          λ node paired. subst (λ m. IsPaired g.V.Lanes.pair_of cap m c.args.end node c.args.pairs.now) (sym machines)
+          paired in
           let words_are = ap (λ m. m.below.words) w.children-is in
           let starts_are : c.if-word-ne0.children.starts.items ≡ set starts group vector =
           ap (λ m. m.starts.items) w.children-is in
@@ -109,9 +134,9 @@ loop-group-preserved g c =
                       written-exact left words group w.below.result w.from.result place few w.from.ensures there bound
                       number was
                       (lane-tells list cap width c.requires.wide shop number c.args.self.now.limit c.args.end first last
-                      node jobs w.as_slice.result.now w.below.result lane is these limit (omega arith) fresh
+                      node jobs w.as_slice-times.result.now w.below.result lane is these limit (omega arith) fresh
                       (w.below.ensures.each lane bound
-                      (w.bounds_with_starts-bounds.ensures.bounds shop first last jobs node lane is spread these
+                      (w.bounds_with_starts-bounds.ensures.bounds shop first last jobs node lane is (shared node spread) these
                       (omega (arith, c.requires.wide)) fresh)))
                 ]);
             starts = λ shop first last jobs node place machine none zero is spread under are was on.
@@ -132,7 +157,8 @@ loop-group-preserved g c =
                       subst (λ l. HasLane cap width (list (slice_index_or l (machine - 1) zero)) (place % 16) start)
                       (sym items)
                       (w.bounds_with_starts-bounds.ensures.starts shop first last jobs node (place % 16) machine zero is
-                      spread (of_group shop jobs place none there are) (omega (arith, c.requires.wide)) on)
+                      (shared node spread)
+                      (of_group shop jobs place none there are) (omega (arith, c.requires.wide)) on)
                 ]);
           }
       | else-word-ne0 w ↦

@@ -8,7 +8,7 @@ use Rattle.flow_nodes.specs.Nodes.{IsMachine, IsNode}
 use Rattle.flow_nodes.specs.Groups.{IsGroup, child_bound, most_groups}
 use Rattle.flow_nodes.specs.Marks.{mark}
 use Rattle.flow_nodes.specs.Open.{HasStartRoom, start_at}
-use Rattle.flow_nodes.specs.internal.Spread.{IsSpread}
+use Rattle.flow_nodes.specs.internal.Pairs.{IsPaired}
 use Rattle.flow_nodes.specs.declared.node.Node.{Node}
 use Rattle.flow_nodes.proofs.opener.Opener.find_children.Given as goal
 
@@ -22,7 +22,7 @@ invariant-loop-group g l = record {
       mark l.left.words place ≡ 1;
   exact : (shop : Shop) (number : ℕ) (first last jobs : List ℕ) (node : Node) (place : ℕ)
       (none : Vec g.row.V.Denot) → l.self.limit ≡ limit_of number → IsNode shop first last node →
-      IsSpread g.V.Lanes.list g.V.Lanes.CAP g.V.Lanes.WIDTH l.end node l.self.near.items l.self.rest.items →
+      IsPaired g.V.Lanes.pair_of g.V.Lanes.CAP l.self.machines l.end node l.pairs →
       place / 16 < l.group →
       IsGroup g.V.Lanes.list g.V.Lanes.CAP g.V.Lanes.WIDTH shop jobs
       (slice_index_or l.groups (place / 16) none).items →
@@ -31,7 +31,7 @@ invariant-loop-group g l = record {
       ↔ (child_bound shop l.end first last (slice_index jobs (place % 16)) < number);
   starts : (shop : Shop) (first last jobs : List ℕ) (node : Node) (place machine : ℕ) (none : Vec g.row.V.Denot)
       (zero : g.row.V.Denot) → IsNode shop first last node →
-      IsSpread g.V.Lanes.list g.V.Lanes.CAP g.V.Lanes.WIDTH l.end node l.self.near.items l.self.rest.items →
+      IsPaired g.V.Lanes.pair_of g.V.Lanes.CAP l.self.machines l.end node l.pairs →
       place / 16 < l.group →
       IsGroup g.V.Lanes.list g.V.Lanes.CAP g.V.Lanes.WIDTH shop jobs
       (slice_index_or l.groups (place / 16) none).items →

@@ -12,6 +12,7 @@ use Rattle.flow_nodes.proofs.ChildSteps.{greatest-is-bound}
 use Rattle.flow_nodes.proofs.MarkSteps.{mark-elsewhere}
 use Rattle.flow_nodes.proofs.BelowSteps.{written-within, written-exact, none-left, none-written}
 use Rattle.flow_nodes.proofs.OpenSteps.{start-room, job-tells}
+use Rattle.flow_nodes.proofs.PairSteps.{constant-is}
 use Rattle.flow_nodes.proofs.opener.Opener.keep_children.Goals as goal
 use Rattle.flow_nodes.proofs.opener.Opener.keep_children.Goals.{then-word-ne0, else-word-ne0}
 
@@ -21,54 +22,43 @@ loop-group-init g c = record {
   room = λ shop count room. room;
   within = λ place under marked. absurd (omega (arith, under));
   later = λ place high. refl;
-  exact = λ shop number end first last job node place limit room is work_is far_is range fresh under was starts.
+  exact = λ shop number end first last job node place limit room is rests range fresh under was starts.
       absurd (omega (arith, under));
   copied = λ place none under marked. absurd (omega (arith, under));
 }
 
 pub index_mut-requires : goal.index_mut-requires
 index_mut-requires g c =
-    let room = c.loop-group.invariant.room c.requires.room.0 c.args.groups c.requires.room.3 in
+    let room = c.loop-group.invariant.room c.requires.room.0 c.args.groups c.requires.room.4 in
     omega (arith, c.loop-group-test.true, room.enough, c.loop-group.children.starts.ok.0)
 
 pub keep_starts-bounds-requires-clause-machines : goal.keep_starts-bounds-requires-clause-machines
 keep_starts-bounds-requires-clause-machines g c =
-    let parent = c.requires.room.2 in
+    let parent = c.requires.room.3 in
     omega (
       arith,
       ap length c.as_slice.ensures.value,
       ap (λ v. length v.items) c.index.ensures,
       parent.machines c.loop-group.group c.index.result.now (omega (arith, c.loop-group-test.true, parent.enough)),
-      c.requires.room.1,
+      c.requires.room.2,
     )
 
-pub keep_starts-bounds-requires-clause-rest : goal.keep_starts-bounds-requires-clause-rest
-keep_starts-bounds-requires-clause-rest g c place low =
-    let parent = c.requires.room.2 in
-    (c.requires.room.4 place (omega (
+pub keep_starts-bounds-requires-clause-constant : goal.keep_starts-bounds-requires-clause-constant
+keep_starts-bounds-requires-clause-constant g c =
+    let parent = c.requires.room.3 in
+    constant-is (omega (
       arith,
-      low,
       ap length c.as_slice.ensures.value,
       ap (λ v. length v.items) c.index.ensures,
       parent.machines c.loop-group.group c.index.result.now (omega (arith, c.loop-group-test.true, parent.enough)),
-    ))).0
-
-pub keep_starts-bounds-requires-clause-small : goal.keep_starts-bounds-requires-clause-small
-keep_starts-bounds-requires-clause-small g c place low =
-    let parent = c.requires.room.2 in
-    (c.requires.room.4 place (omega (
-      arith,
-      low,
-      ap length c.as_slice.ensures.value,
-      ap (λ v. length v.items) c.index.ensures,
-      parent.machines c.loop-group.group c.index.result.now (omega (arith, c.loop-group-test.true, parent.enough)),
-    ))).1
+      c.requires.room.1,
+    )) c.requires.constant
 
 pub keep_starts-bounds-requires-clause-kept : goal.keep_starts-bounds-requires-clause-kept
 keep_starts-bounds-requires-clause-kept g c =
     let group : ℕ = c.loop-group.group in
-    let room = c.loop-group.invariant.room c.requires.room.0 c.args.groups c.requires.room.3 in
-    let parent = c.requires.room.2 in
+    let room = c.loop-group.invariant.room c.requires.room.0 c.args.groups c.requires.room.4 in
+    let parent = c.requires.room.3 in
     omega (
       arith,
       ap length c.as_mut_slice-starts.ensures.value,
@@ -90,8 +80,8 @@ loop-group-preserved g c =
     let starts = c.loop-group.children.starts.items in
     let old = c.args.parent.now.starts.items in
     let before_all = c.args.children.now.below.words in
-    let room = here.room c.requires.room.0 c.args.groups c.requires.room.3 in
-    let parent = c.requires.room.2 in
+    let room = here.room c.requires.room.0 c.args.groups c.requires.room.4 in
+    let parent = c.requires.room.3 in
     let few : group < length words = omega (arith, here.size, c.loop-group-test.true, c.requires.few) in
     let long : group < length starts = omega (arith, c.loop-group-test.true, room.enough) in
     let old_long : group < length old = omega (arith, c.loop-group-test.true, parent.enough) in
@@ -133,14 +123,14 @@ loop-group-preserved g c =
                 let apart : place / 16 ≢ group = omega (arith, high) in
                 ap (λ m. mark m place) words_are ∙ mark-elsewhere words group _ place apart
                 ∙ here.later place (omega (arith, high));
-            exact = λ shop number end first last job node place limit has_room is_node work_is far_is range fresh under
+            exact = λ shop number end first last job node place limit has_room is_node rests range fresh under
                 was starts_are_there.
                 let bound = child_bound shop end first last job in
                 subst (λ m. mark m place ≡ 1 ↔ (bound < number)) (sym words_are) (elim (cases_lt (place / 16) group) [
                   | inl before ↦
                       let apart : place / 16 ≢ group = omega (arith, before) in
                       subst (λ n. n ≡ 1 ↔ (bound < number)) (sym (mark-elsewhere words group _ place apart))
-                      (here.exact shop number end first last job node place limit has_room is_node work_is far_is range
+                      (here.exact shop number end first last job node place limit has_room is_node rests range
                       fresh before was starts_are_there)
                   | inr above ↦
                       let there : place / 16 ≡ group = omega (arith, above, under) in
@@ -158,7 +148,7 @@ loop-group-preserved g c =
                       let has_bound : HasLane cap width (list w.keep_starts-bounds.result) lane bound =
                       subst (λ n. HasLane cap width (list w.keep_starts-bounds.result) lane n)
                       (greatest-is-bound shop first last job node is_node range end fresh)
-                      (w.keep_starts-bounds.ensures.bounds shop end first last job node lane is_node work_is far_is
+                      (w.keep_starts-bounds.ensures.bounds shop end first last job node lane is_node rests
                       machines (omega (arith, c.requires.wide))
                       (λ machine none on. subst
                       (λ l. HasLane cap width (list (slice_index_or l (machine - 1) none)) lane
@@ -210,7 +200,7 @@ loop-group-preserved g c =
                 let apart : place / 16 ≢ group = omega (arith, high) in
                 ap (λ m. mark m place) words_are ∙ mark-elsewhere words group 0 place apart
                 ∙ here.later place (omega (arith, high));
-            exact = λ shop number end first last job node place limit has_room is_node work_is far_is range fresh under
+            exact = λ shop number end first last job node place limit has_room is_node rests range fresh under
                 was starts_are_there.
                 let bound = child_bound shop end first last job in
                 elim (cases_lt (place / 16) group) [
@@ -218,7 +208,7 @@ loop-group-preserved g c =
                       let apart : place / 16 ≢ group = omega (arith, before) in
                       subst (λ m. mark m place ≡ 1 ↔ (bound < number)) (sym words_are)
                       (subst (λ n. n ≡ 1 ↔ (bound < number)) (sym (mark-elsewhere words group 0 place apart))
-                      (here.exact shop number end first last job node place limit has_room is_node work_is far_is range
+                      (here.exact shop number end first last job node place limit has_room is_node rests range
                       fresh before was starts_are_there))
                   | inr above ↦
                       let there : place / 16 ≡ group = omega (arith, above, under) in
@@ -248,8 +238,8 @@ returns-clause-within g c place under =
     c.loop-group.invariant.within place (omega (arith, under, c.loop-group-test.false))
 
 pub returns-clause-exact : goal.returns-clause-exact
-returns-clause-exact g c shop number end first last job node place limit room is work_is far_is range fresh under =
-    c.loop-group.invariant.exact shop number end first last job node place limit room is work_is far_is range fresh
+returns-clause-exact g c shop number end first last job node place limit room is rests range fresh under =
+    c.loop-group.invariant.exact shop number end first last job node place limit room is rests range fresh
     (omega (arith, under, c.loop-group-test.false))
 
 pub returns-clause-copied : goal.returns-clause-copied

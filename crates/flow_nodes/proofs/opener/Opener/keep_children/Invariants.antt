@@ -8,7 +8,7 @@ use Rattle.flow_nodes.specs.Nodes.{IsJob, IsMachine, IsNode}
 use Rattle.flow_nodes.specs.Groups.{child_bound, most_groups}
 use Rattle.flow_nodes.specs.Marks.{mark}
 use Rattle.flow_nodes.specs.Open.{HasStartRoom, start_at}
-use Rattle.flow_nodes.specs.internal.Spread.{at_other_end}
+use Rattle.flow_nodes.specs.internal.Pairs.{AreRests}
 use Rattle.flow_nodes.specs.declared.node.Node.{Node}
 use Rattle.flow_nodes.proofs.opener.Opener.keep_children.Given as goal
 
@@ -24,7 +24,8 @@ invariant-loop-group g l = record {
       mark l.children.below.words place ≡ mark l.fn.children.below.words place;
   exact : (shop : Shop) (number : ℕ) (end : End) (first last : List ℕ) (job : ℕ) (node : Node) (place : ℕ) →
       l.self.limit ≡ limit_of number → HasStartRoom shop l.groups l.parent.starts.items →
-      IsNode shop first last node → l.work ≡ node.work → l.far ≡ at_other_end end node → IsJob shop job →
+      IsNode shop first last node → AreRests g.V.Lanes.pair_of g.V.Lanes.CAP shop.machines end node l.rest →
+      IsJob shop job →
       has (first ++ last) job ≡ false → place / 16 < l.group → mark l.fn.children.below.words place ≡ 1 →
       ((machine : ℕ) (none : Vec g.row.V.Denot) (zero : g.row.V.Denot) → IsMachine shop machine →
       HasLane g.V.Lanes.CAP g.V.Lanes.WIDTH (g.V.Lanes.list (slice_index_or

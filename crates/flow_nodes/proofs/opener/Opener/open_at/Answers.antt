@@ -11,44 +11,34 @@ use Rattle.flow_nodes.specs.Packs.{left_below}
 use Rattle.flow_nodes.specs.Open.{start_at}
 use Rattle.flow_shop.proofs.Lists.{some-of}
 use Rattle.flow_nodes.proofs.ChosenNames.{chosen-filter}
-use Rattle.flow_nodes.proofs.SpreadSteps.{node-small-bound}
+use Rattle.flow_nodes.proofs.PairSteps.{node-fits}
 use Rattle.flow_nodes.proofs.JobsMarked.{group-name, marked-left}
 use Rattle.flow_nodes.proofs.opener.Opener.open_at.Goals as goal
 
-pub write-requires : goal.write-requires
-write-requires g c =
-    let at = c.requires.at in (
-      at.0,
-      at.2,
-      at.3,
-      at.4,
-      at.6,
-      omega (arith, at.7, at.8, c.requires.limit, node-small-bound at.0 at.2 at.3 c.args.node.now at.4),
+pub of-pairs-requires-clause-few : goal.of-pairs-requires-clause-few
+of-pairs-requires-clause-few g c = omega (arith, c.requires.at.6.machines, c.requires.at.4.limits.machines)
+
+pub of-pairs-requires-clause-fit : goal.of-pairs-requires-clause-fit
+of-pairs-requires-clause-fit g c place low =
+    let at = c.requires.at in
+    node-fits at.0 at.2 at.3 c.args.node.now g.V.Lanes.CAP at.1 c.args.self.now.limit at.4 at.8 at.7 c.requires.limit
+    place (omega (arith, low, at.6.machines))
+
+pub find_children-requires-clause-most : goal.find_children-requires-clause-most
+find_children-requires-clause-most g c = omega (arith, c.requires.at.6.machines, c.requires.at.4.limits.machines)
+
+pub find_children-requires-clause-machines : goal.find_children-requires-clause-machines
+find_children-requires-clause-machines g c group none within =
+    omega (
+      arith,
+      c.requires.at.6.machines,
+      c.requires.at.5.room.machines group none (omega (arith, within, ap length c.as_slice.ensures.value)),
+      ap (λ l. length (slice_index_or l group none).items) c.as_slice.ensures.value,
     )
 
 pub find_children-requires-clause-few : goal.find_children-requires-clause-few
 find_children-requires-clause-few g c =
     omega (arith, c.requires.at.5.room.few, ap length c.as_slice.ensures.value)
-
-pub find_children-requires-clause-near : goal.find_children-requires-clause-near
-find_children-requires-clause-near g c group none within =
-    omega (
-      arith,
-      c.write.ensures.near,
-      c.requires.at.6.near_count,
-      c.requires.at.5.room.machines group none (omega (arith, within, ap length c.as_slice.ensures.value)),
-      ap (λ l. length (slice_index_or l group none).items) c.as_slice.ensures.value,
-    )
-
-pub find_children-requires-clause-rest : goal.find_children-requires-clause-rest
-find_children-requires-clause-rest g c group none within =
-    omega (
-      arith,
-      c.write.ensures.rest,
-      c.requires.at.6.rest_count,
-      c.requires.at.5.room.machines group none (omega (arith, within, ap length c.as_slice.ensures.value)),
-      ap (λ l. length (slice_index_or l group none).items) c.as_slice.ensures.value,
-    )
 
 pub find_children-requires-clause-room : goal.find_children-requires-clause-room
 find_children-requires-clause-room g c =
@@ -76,7 +66,7 @@ returns-clause-children g c shop number first last limit is is_pack has_left =
           (slice_index_or c.find_children.new.children.starts.items (place / 16) none).items (machine - 1) zero))
           (place % 16) (start_at shop c.args.end first last job machine)) (named place)
           (c.find_children.ensures.starts shop first last (these place) c.args.node.now place machine none zero is
-          c.write.ensures.spread (in_groups place inside) (are place none inside) was on);
+          c.of-pairs.ensures (in_groups place inside) (are place none inside) was on);
     }
   where
     names : List ℕ
@@ -116,7 +106,7 @@ returns-clause-children g c shop number first last limit is is_pack has_left =
         let none = some-of c.as_slice.result.now (omega (arith, in_groups place inside)) in
         subst (λ job. mark c.find_children.new.children.below.words place ≡ 1 ↔ (bound job < number)) (named place)
         (c.find_children.ensures.exact shop number first last (these place) c.args.node.now place none
-        (c.write.ensures.limit ∙ limit) is c.write.ensures.spread (in_groups place inside) (are place none inside) was
+        limit is c.of-pairs.ensures (in_groups place inside) (are place none inside) was
         (ap (has (first ++ last)) (named place)
         ∙ marked-left shop.jobs (first ++ last) left names has_left place inside was))
 

@@ -1,5 +1,4 @@
-use Rattle.std.proofs.Common.{◌∙◌}
-use Rattle.flow_nodes.proofs.opener.Opener.open.Goals as goal
+use Rattle.flow_nodes.proofs.opener.Opener.open_of.Goals as goal
 
 pub returns-clause-room : goal.returns-clause-room
 returns-clause-room g c shop groups room = record {
@@ -12,5 +11,5 @@ returns-clause-node g c shop number first last limit is is_pack has_left = recor
   is_node = is;
   has_left = has_left;
   at_front = c.open_at.ensures.children shop number first last limit is is_pack has_left;
-  at_back = c.open_at-2.ensures.children shop number first last (c.open_at.ensures.limit ∙ limit) is is_pack has_left;
+  at_back = c.open_at-2.ensures.children shop number first last limit is is_pack has_left;
 }

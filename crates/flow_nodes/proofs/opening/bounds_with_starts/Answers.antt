@@ -1,11 +1,11 @@
-use Rattle.std.proofs.Common.{◌-◌, slice_index, slice_index_or, ap, sym, ◌∙◌, subst}
+use Rattle.std.proofs.Common.{◌-◌, length, slice_index, slice_index_or, ap, sym, ◌∙◌, subst}
 use Rattle.flow_shop.specs.declared.end.End.TheVariants.{Front, Back}
 use Rattle.flow_nodes.specs.Lanes.{HasLane}
 use Rattle.flow_nodes.specs.Groups.{child_bound}
 use Rattle.flow_nodes.specs.Open.{start_at}
-use Rattle.flow_nodes.specs.internal.Spread.{IsSpread}
+use Rattle.flow_nodes.specs.internal.Pairs.{IsPaired}
 use Rattle.flow_nodes.proofs.ChildSteps.{greatest-is-bound}
-use Rattle.flow_nodes.proofs.opener.Opener.bounds_with_starts.Goals as goal
+use Rattle.flow_nodes.proofs.opening.bounds_with_starts.Goals as goal
 
 pub returns-in-Front-clause-bounds : goal.returns-in-Front-clause-bounds
 returns-in-Front-clause-bounds g c shop first last jobs node lane is spread are within fresh =
@@ -13,12 +13,8 @@ returns-in-Front-clause-bounds g c shop first last jobs node lane is spread are 
     (greatest-is-bound shop first last (slice_index jobs lane) node is (are.each lane within) Front fresh
     ∙ ap (λ end. child_bound shop end first last (slice_index jobs lane)) (sym c.in-Front.is))
     (c.starts_at_front.ensures.bounds shop first last jobs node lane is
-    (subst (λ xs. IsSpread g.V.Lanes.list g.V.Lanes.CAP g.V.Lanes.WIDTH Front node xs c.as_slice-rest.result.now)
-    (sym c.as_slice-near.ensures.value)
-    (subst (λ xs. IsSpread g.V.Lanes.list g.V.Lanes.CAP g.V.Lanes.WIDTH Front node c.args.self.now.near.items xs)
-    (sym c.as_slice-rest.ensures.value)
-    (subst (λ end. IsSpread g.V.Lanes.list g.V.Lanes.CAP g.V.Lanes.WIDTH end node c.args.self.now.near.items
-    c.args.self.now.rest.items) c.in-Front.is spread))) are within)
+    (subst (λ end. IsPaired g.V.Lanes.pair_of g.V.Lanes.CAP (length c.args.group.now) end node c.args.pairs.now)
+    c.in-Front.is spread) are within)
 
 pub returns-in-Front-clause-starts : goal.returns-in-Front-clause-starts
 returns-in-Front-clause-starts g c shop first last jobs node lane machine none is spread are within on =
@@ -26,12 +22,8 @@ returns-in-Front-clause-starts g c shop first last jobs node lane machine none i
     (g.V.Lanes.list (slice_index_or c.starts_at_front.new.starts (machine - 1) none)) lane
     (start_at shop end first last (slice_index jobs lane) machine)) (sym c.in-Front.is)
     (c.starts_at_front.ensures.starts shop first last jobs node lane machine none is
-    (subst (λ xs. IsSpread g.V.Lanes.list g.V.Lanes.CAP g.V.Lanes.WIDTH Front node xs c.as_slice-rest.result.now)
-    (sym c.as_slice-near.ensures.value)
-    (subst (λ xs. IsSpread g.V.Lanes.list g.V.Lanes.CAP g.V.Lanes.WIDTH Front node c.args.self.now.near.items xs)
-    (sym c.as_slice-rest.ensures.value)
-    (subst (λ end. IsSpread g.V.Lanes.list g.V.Lanes.CAP g.V.Lanes.WIDTH end node c.args.self.now.near.items
-    c.args.self.now.rest.items) c.in-Front.is spread))) are within on)
+    (subst (λ end. IsPaired g.V.Lanes.pair_of g.V.Lanes.CAP (length c.args.group.now) end node c.args.pairs.now)
+    c.in-Front.is spread) are within on)
 
 pub returns-in-Back-clause-bounds : goal.returns-in-Back-clause-bounds
 returns-in-Back-clause-bounds g c shop first last jobs node lane is spread are within fresh =
@@ -39,12 +31,8 @@ returns-in-Back-clause-bounds g c shop first last jobs node lane is spread are w
     (greatest-is-bound shop first last (slice_index jobs lane) node is (are.each lane within) Back fresh
     ∙ ap (λ end. child_bound shop end first last (slice_index jobs lane)) (sym c.in-Back.is))
     (c.starts_at_back.ensures.bounds shop first last jobs node lane is
-    (subst (λ xs. IsSpread g.V.Lanes.list g.V.Lanes.CAP g.V.Lanes.WIDTH Back node xs c.as_slice-rest.result.now)
-    (sym c.as_slice-near.ensures.value)
-    (subst (λ xs. IsSpread g.V.Lanes.list g.V.Lanes.CAP g.V.Lanes.WIDTH Back node c.args.self.now.near.items xs)
-    (sym c.as_slice-rest.ensures.value)
-    (subst (λ end. IsSpread g.V.Lanes.list g.V.Lanes.CAP g.V.Lanes.WIDTH end node c.args.self.now.near.items
-    c.args.self.now.rest.items) c.in-Back.is spread))) are within)
+    (subst (λ end. IsPaired g.V.Lanes.pair_of g.V.Lanes.CAP (length c.args.group.now) end node c.args.pairs.now)
+    c.in-Back.is spread) are within)
 
 pub returns-in-Back-clause-starts : goal.returns-in-Back-clause-starts
 returns-in-Back-clause-starts g c shop first last jobs node lane machine none is spread are within on =
@@ -52,9 +40,5 @@ returns-in-Back-clause-starts g c shop first last jobs node lane machine none is
     (g.V.Lanes.list (slice_index_or c.starts_at_back.new.starts (machine - 1) none)) lane
     (start_at shop end first last (slice_index jobs lane) machine)) (sym c.in-Back.is)
     (c.starts_at_back.ensures.starts shop first last jobs node lane machine none is
-    (subst (λ xs. IsSpread g.V.Lanes.list g.V.Lanes.CAP g.V.Lanes.WIDTH Back node xs c.as_slice-rest.result.now)
-    (sym c.as_slice-near.ensures.value)
-    (subst (λ xs. IsSpread g.V.Lanes.list g.V.Lanes.CAP g.V.Lanes.WIDTH Back node c.args.self.now.near.items xs)
-    (sym c.as_slice-rest.ensures.value)
-    (subst (λ end. IsSpread g.V.Lanes.list g.V.Lanes.CAP g.V.Lanes.WIDTH end node c.args.self.now.near.items
-    c.args.self.now.rest.items) c.in-Back.is spread))) are within on)
+    (subst (λ end. IsPaired g.V.Lanes.pair_of g.V.Lanes.CAP (length c.args.group.now) end node c.args.pairs.now)
+    c.in-Back.is spread) are within on)

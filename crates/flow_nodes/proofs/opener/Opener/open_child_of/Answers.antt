@@ -1,14 +1,15 @@
-use Rattle.std.proofs.Common.{◌≡◌, ℕ, ◌*◌, ◌/◌, ◌<◌, ◌++◌, length, slice_index, refl, sym}
+use Rattle.std.proofs.Common.{◌≡◌, ℕ, ◌*◌, ◌/◌, ◌<◌, ◌++◌, length, slice_index, sym}
 use Rattle.std.proofs.Common.{◌∙◌, subst, arith}
 use Rattle.flow_shop.specs.Directions.{first_with, last_with}
 use Rattle.flow_shop.specs.declared.end.End.TheVariants.{Front, Back}
 use Rattle.flow_nodes.specs.Nodes.{IsNode}
 use Rattle.flow_nodes.specs.Open.{HasStartRoom, IsOpenNode}
-use Rattle.flow_nodes.proofs.SpreadSteps.{node-within, node-small-bound}
+use Rattle.flow_nodes.specs.internal.Pairs.{AreRests}
+use Rattle.flow_nodes.proofs.PairSteps.{constant-is, node-fits}
 use Rattle.flow_nodes.proofs.JobsMarked.{marked-left}
 use Rattle.flow_nodes.proofs.OpenSteps.{kept-children}
 use Rattle.flow_nodes.proofs.PutSteps.{cleared-apart, cleared-was, put-job, put-fresh, put-below, put-row, put-left}
-use Rattle.flow_nodes.proofs.opener.Opener.open_child.Goals as goal
+use Rattle.flow_nodes.proofs.opener.Opener.open_child_of.Goals as goal
 
 pub become_child-requires-clause-at : goal.become_child-requires-clause-at
 become_child-requires-clause-at g c =
@@ -24,6 +25,9 @@ become_child-requires-clause-at g c =
       put-row at.3 at.4 end place at.8 at.9 c.args.self.now.rows.items c.index.result.now c.from.result
           c.index-row.result.now at.5.rows c.index.ensures c.from.ensures c.index-row.ensures,
     )
+
+pub become_child-requires-clause-constant : goal.become_child-requires-clause-constant
+become_child-requires-clause-constant g c = constant-is (sym c.requires.at.5.machines) c.requires.constant
 
 pub open_at-requires-clause-at : goal.open_at-requires-clause-at
 open_at-requires-clause-at g c =
@@ -46,6 +50,94 @@ open_at-requires-clause-at g c =
       at.11.at_front,
     )
 
+pub pairs_of_sums-rest-requires-clause-few : goal.pairs_of_sums-rest-requires-clause-few
+pairs_of_sums-rest-requires-clause-few g c =
+    let at = c.requires.at in
+    let shop = c.args.instance.now in
+    let end = c.args.put.end in
+    let place : ℕ = c.args.put.place in
+    let job : ℕ = slice_index c.args.pack.now.names.items place in
+    let node = c.become_child.new.self in
+    let is = c.become_child.ensures at.1 at.2 job at.3.is_node (put-job at.3 at.4 end place at.8 at.9)
+    (put-fresh at.3 at.4 end place at.8 at.9)
+    (put-row at.3 at.4 end place at.8 at.9 c.args.self.now.rows.items c.index.result.now c.from.result
+    c.index-row.result.now at.5.rows c.index.ensures c.from.ensures c.index-row.ensures) in
+    omega (arith, at.5.machines, is.limits.machines)
+
+pub pairs_of_sums-rest-requires-clause-fit : goal.pairs_of_sums-rest-requires-clause-fit
+pairs_of_sums-rest-requires-clause-fit g c on low =
+    let at = c.requires.at in
+    let shop = c.args.instance.now in
+    let end = c.args.put.end in
+    let place : ℕ = c.args.put.place in
+    let job : ℕ = slice_index c.args.pack.now.names.items place in
+    let node = c.become_child.new.self in
+    let is = c.become_child.ensures at.1 at.2 job at.3.is_node (put-job at.3 at.4 end place at.8 at.9)
+    (put-fresh at.3 at.4 end place at.8 at.9)
+    (put-row at.3 at.4 end place at.8 at.9 c.args.self.now.rows.items c.index.result.now c.from.result
+    c.index-row.result.now at.5.rows c.index.ensures c.from.ensures c.index-row.ensures) in
+    omega (arith, (node-fits shop (first_with end at.1 job) (last_with end at.2 job) node g.V.Lanes.CAP at.0 c.args.self.now.limit is
+    (put-below at.3 at.4 end place at.8 at.9) at.6 c.requires.limit on (omega (arith, low, at.5.machines))).0)
+
+pub pairs_of_sums-rest-requires-clause-small : goal.pairs_of_sums-rest-requires-clause-small
+pairs_of_sums-rest-requires-clause-small g c on low =
+    let at = c.requires.at in
+    let shop = c.args.instance.now in
+    let end = c.args.put.end in
+    let place : ℕ = c.args.put.place in
+    let job : ℕ = slice_index c.args.pack.now.names.items place in
+    let node = c.become_child.new.self in
+    let is = c.become_child.ensures at.1 at.2 job at.3.is_node (put-job at.3 at.4 end place at.8 at.9)
+    (put-fresh at.3 at.4 end place at.8 at.9)
+    (put-row at.3 at.4 end place at.8 at.9 c.args.self.now.rows.items c.index.result.now c.from.result
+    c.index-row.result.now at.5.rows c.index.ensures c.from.ensures c.index-row.ensures) in
+    omega (arith, (node-fits shop (first_with end at.1 job) (last_with end at.2 job) node g.V.Lanes.CAP at.0 c.args.self.now.limit is
+    (put-below at.3 at.4 end place at.8 at.9) at.6 c.requires.limit on (omega (arith, low, at.5.machines))).1)
+
+pub pairs_of_sums-rest-requires-in-Back-clause-few : goal.pairs_of_sums-rest-requires-in-Back-clause-few
+pairs_of_sums-rest-requires-in-Back-clause-few g c =
+    let at = c.requires.at in
+    let shop = c.args.instance.now in
+    let end = c.args.put.end in
+    let place : ℕ = c.args.put.place in
+    let job : ℕ = slice_index c.args.pack.now.names.items place in
+    let node = c.become_child.new.self in
+    let is = c.become_child.ensures at.1 at.2 job at.3.is_node (put-job at.3 at.4 end place at.8 at.9)
+    (put-fresh at.3 at.4 end place at.8 at.9)
+    (put-row at.3 at.4 end place at.8 at.9 c.args.self.now.rows.items c.index.result.now c.from.result
+    c.index-row.result.now at.5.rows c.index.ensures c.from.ensures c.index-row.ensures) in
+    omega (arith, at.5.machines, is.limits.machines)
+
+pub pairs_of_sums-rest-requires-in-Back-clause-fit : goal.pairs_of_sums-rest-requires-in-Back-clause-fit
+pairs_of_sums-rest-requires-in-Back-clause-fit g c on low =
+    let at = c.requires.at in
+    let shop = c.args.instance.now in
+    let end = c.args.put.end in
+    let place : ℕ = c.args.put.place in
+    let job : ℕ = slice_index c.args.pack.now.names.items place in
+    let node = c.become_child.new.self in
+    let is = c.become_child.ensures at.1 at.2 job at.3.is_node (put-job at.3 at.4 end place at.8 at.9)
+    (put-fresh at.3 at.4 end place at.8 at.9)
+    (put-row at.3 at.4 end place at.8 at.9 c.args.self.now.rows.items c.index.result.now c.from.result
+    c.index-row.result.now at.5.rows c.index.ensures c.from.ensures c.index-row.ensures) in
+    omega (arith, (node-fits shop (first_with end at.1 job) (last_with end at.2 job) node g.V.Lanes.CAP at.0 c.args.self.now.limit is
+    (put-below at.3 at.4 end place at.8 at.9) at.6 c.requires.limit on (omega (arith, low, at.5.machines))).0)
+
+pub pairs_of_sums-rest-requires-in-Back-clause-small : goal.pairs_of_sums-rest-requires-in-Back-clause-small
+pairs_of_sums-rest-requires-in-Back-clause-small g c on low =
+    let at = c.requires.at in
+    let shop = c.args.instance.now in
+    let end = c.args.put.end in
+    let place : ℕ = c.args.put.place in
+    let job : ℕ = slice_index c.args.pack.now.names.items place in
+    let node = c.become_child.new.self in
+    let is = c.become_child.ensures at.1 at.2 job at.3.is_node (put-job at.3 at.4 end place at.8 at.9)
+    (put-fresh at.3 at.4 end place at.8 at.9)
+    (put-row at.3 at.4 end place at.8 at.9 c.args.self.now.rows.items c.index.result.now c.from.result
+    c.index-row.result.now at.5.rows c.index.ensures c.from.ensures c.index-row.ensures) in
+    omega (arith, (node-fits shop (first_with end at.1 job) (last_with end at.2 job) node g.V.Lanes.CAP at.0 c.args.self.now.limit is
+    (put-below at.3 at.4 end place at.8 at.9) at.6 c.requires.limit on (omega (arith, low, at.5.machines))).1)
+
 pub keep_children-requires-clause-room : goal.keep_children-requires-clause-room
 keep_children-requires-clause-room g c =
     let at = c.requires.at in
@@ -58,10 +150,9 @@ keep_children-requires-clause-room g c =
     (put-fresh at.3 at.4 end place at.8 at.9)
     (put-row at.3 at.4 end place at.8 at.9 c.args.self.now.rows.items c.index.result.now c.from.result
     c.index-row.result.now at.5.rows c.index.ensures c.from.ensures c.index-row.ensures) in
-    let under = put-below at.3 at.4 end place at.8 at.9 in
-    let small = node-small-bound shop (first_with end at.1 job) (last_with end at.2 job) node is in
     let long = c.args.pack.now.groups.ok.0 in (
       shop,
+      at.5.machines,
       is.limits.machines,
       record {
         enough = omega (arith, at.10.at_back.enough, c.len-groups.ensures, long);
@@ -71,14 +162,7 @@ keep_children-requires-clause-room g c =
         enough = omega (arith, at.11.at_back.enough, c.len-groups.ensures, long);
         machines = at.11.at_back.machines;
       },
-      λ at_place low.
-          let within = node-within shop (first_with end at.1 job) (last_with end at.2 job) node at_place is low in
-          (omega (arith, within, under, at.6, small, c.requires.limit), omega (arith, within, small)),
     )
-
-pub returns-in-Front-clause-opener : goal.returns-in-Front-clause-opener
-returns-in-Front-clause-opener g c shop room =
-    c.open_at.ensures.opener shop room
 
 pub returns-in-Front-clause-room : goal.returns-in-Front-clause-room
 returns-in-Front-clause-room g c shop groups room = record {
@@ -111,6 +195,17 @@ returns-in-Front-clause-child g c number first last is is_pack has_room limit ma
       );
       machines = c.requires.at.10.at_back.machines;
     } in
+    let rests : AreRests g.V.Lanes.pair_of cap shop.machines Back node c.pairs_of_sums-rest.result =
+    λ on low.
+    let at = c.requires.at in
+    let put : ℕ = slice_index c.args.pack.now.names.items place in
+    let fits = node-fits shop (first_with end at.1 put) (last_with end at.2 put) node cap at.0 c.args.self.now.limit
+    (c.become_child.ensures at.1 at.2 put at.3.is_node (put-job at.3 at.4 end place at.8 at.9)
+    (put-fresh at.3 at.4 end place at.8 at.9)
+    (put-row at.3 at.4 end place at.8 at.9 c.args.self.now.rows.items c.index.result.now c.from.result
+    c.index-row.result.now at.5.rows c.index.ensures c.from.ensures c.index-row.ensures))
+    (put-below at.3 at.4 end place at.8 at.9) at.6 c.requires.limit on low in
+    (c.pairs_of_sums-rest.ensures on (omega (arith, low, has_room.machines)), omega (arith, fits.0)) in
     let range = put-job is is_pack end place inside marked in
     let fresh = put-fresh is is_pack end place inside marked in
     let is_node : IsNode shop (first_with Front first job) (last_with Front last job) node =
@@ -145,8 +240,8 @@ returns-in-Front-clause-child g c number first last is is_pack has_room limit ma
           c.clear-in-Front.ensures.others at cleared in
           (c.clear.ensures.others at apart ∙ is.at_back.within at low was, was))
           (λ at low was also. c.keep_children.ensures.exact shop number Back (first_with Front first job)
-          (last_with Front last job) (slice_index names at) node at (c.open_at.ensures.limit ∙ limit) room is_node
-          refl refl (is_pack.room.jobs at low)
+          (last_with Front last job) (slice_index names at) node at limit room is_node
+          rests (is_pack.room.jobs at low)
           (marked-left shop.jobs (first_with Front first job ++ last_with Front last job) left.words names has_left at
           low was) (under at low)
           (c.clear-in-Front.ensures.others at
@@ -189,10 +284,9 @@ keep_children-requires-in-Back-clause-room g c =
     (put-fresh at.3 at.4 end place at.8 at.9)
     (put-row at.3 at.4 end place at.8 at.9 c.args.self.now.rows.items c.index.result.now c.from.result
     c.index-row.result.now at.5.rows c.index.ensures c.from.ensures c.index-row.ensures) in
-    let under = put-below at.3 at.4 end place at.8 at.9 in
-    let small = node-small-bound shop (first_with end at.1 job) (last_with end at.2 job) node is in
     let long = c.args.pack.now.groups.ok.0 in (
       shop,
+      at.5.machines,
       is.limits.machines,
       record {
         enough = omega (arith, at.10.at_front.enough, c.len-groups.ensures, long);
@@ -202,14 +296,7 @@ keep_children-requires-in-Back-clause-room g c =
         enough = omega (arith, at.11.at_front.enough, c.len-groups.ensures, long);
         machines = at.11.at_front.machines;
       },
-      λ at_place low.
-          let within = node-within shop (first_with end at.1 job) (last_with end at.2 job) node at_place is low in
-          (omega (arith, within, under, at.6, small, c.requires.limit), omega (arith, within, small)),
     )
-
-pub returns-in-Back-clause-opener : goal.returns-in-Back-clause-opener
-returns-in-Back-clause-opener g c shop room =
-    c.open_at-in-Back.ensures.opener shop room
 
 pub returns-in-Back-clause-room : goal.returns-in-Back-clause-room
 returns-in-Back-clause-room g c shop groups room = record {
@@ -242,6 +329,17 @@ returns-in-Back-clause-child g c number first last is is_pack has_room limit mar
       );
       machines = c.requires.at.10.at_front.machines;
     } in
+    let rests : AreRests g.V.Lanes.pair_of cap shop.machines Front node c.pairs_of_sums-rest-in-Back.result =
+    λ on low.
+    let at = c.requires.at in
+    let put : ℕ = slice_index c.args.pack.now.names.items place in
+    let fits = node-fits shop (first_with end at.1 put) (last_with end at.2 put) node cap at.0 c.args.self.now.limit
+    (c.become_child.ensures at.1 at.2 put at.3.is_node (put-job at.3 at.4 end place at.8 at.9)
+    (put-fresh at.3 at.4 end place at.8 at.9)
+    (put-row at.3 at.4 end place at.8 at.9 c.args.self.now.rows.items c.index.result.now c.from.result
+    c.index-row.result.now at.5.rows c.index.ensures c.from.ensures c.index-row.ensures))
+    (put-below at.3 at.4 end place at.8 at.9) at.6 c.requires.limit on low in
+    (c.pairs_of_sums-rest-in-Back.ensures on (omega (arith, low, has_room.machines)), omega (arith, fits.0)) in
     let range = put-job is is_pack end place inside marked in
     let fresh = put-fresh is is_pack end place inside marked in
     let is_node : IsNode shop (first_with Back first job) (last_with Back last job) node =
@@ -276,8 +374,8 @@ returns-in-Back-clause-child g c number first last is is_pack has_room limit mar
           c.clear-in-Back.ensures.others at cleared in
           (c.clear.ensures.others at apart ∙ is.at_front.within at low was, was))
           (λ at low was also. c.keep_children-in-Back.ensures.exact shop number Front (first_with Back first job)
-          (last_with Back last job) (slice_index names at) node at (c.open_at-in-Back.ensures.limit ∙ limit) room
-          is_node refl refl (is_pack.room.jobs at low)
+          (last_with Back last job) (slice_index names at) node at limit room
+          is_node rests (is_pack.room.jobs at low)
           (marked-left shop.jobs (first_with Back first job ++ last_with Back last job) left.words names has_left at
           low was) (under at low)
           (c.clear-in-Back.ensures.others at

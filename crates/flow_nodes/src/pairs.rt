@@ -1,0 +1,86 @@
+//! What the groups of a node share at an end, as pairs, each of which is put into all lanes.
+
+ghost use Rattle.std.specs.Prelude.{◌≡◌, ◌⊎◌, ℕ, ◌+◌, ◌<◌, ◌≤◌, slice_index};
+ghost use Rattle.flow_limits.specs.Limits.{most_machines};
+ghost use Rattle.flow_nodes.specs.internal.Pairs.{IsPaired, fits_at};
+
+use crate::few_groups::known_or;
+use crate::lanes::Lanes;
+use crate::node::Node;
+use flow_limits::MAX_MACHINES;
+use flow_shop::End;
+
+/// What the groups of a node share at an end, a pair for each machine.
+#[derive(Clone, Copy)]
+pub(crate) struct EndPairs {
+    /// What is at the end.
+    pub(crate) near: [u32; MAX_MACHINES],
+    /// The time of the jobs left and what is at the other end.
+    pub(crate) rest: [u32; MAX_MACHINES],
+}
+
+/// The pairs of the numbers of so many machines.
+#[inline(always)]
+fn pairs_of<V: Lanes, const M: usize>(
+    numbers: &[u32; MAX_MACHINES],
+    machines: usize,
+) -> [u32; MAX_MACHINES]
+    requires constant { (M ≡ 0) ⊎ (M ≡ machines) }
+    requires few { machines ≤ most_machines }
+    requires fit { (place : ℕ) → place < machines → slice_index numbers.now place ≤ V.CAP }
+    ensures { (place : ℕ) → place < machines →
+        slice_index result place ≡ V.pair_of (slice_index numbers.now place) }
+{
+    let mut pairs = [0; MAX_MACHINES];
+    let count = known_or::<M>(machines);
+    for place in 0..count {
+        pairs[place] = V::pair(numbers[place]);
+    }
+    pairs
+}
+
+/// The pairs of the sums of two numbers for each of so many machines.
+#[inline(always)]
+pub(crate) fn pairs_of_sums<V: Lanes, const M: usize>(
+    first: &[u32; MAX_MACHINES],
+    second: &[u32; MAX_MACHINES],
+    machines: usize,
+) -> [u32; MAX_MACHINES]
+    requires constant { (M ≡ 0) ⊎ (M ≡ machines) }
+    requires few { machines ≤ most_machines }
+    requires fit { (place : ℕ) → place < machines →
+        slice_index first.now place + slice_index second.now place ≤ V.CAP }
+    requires small { (place : ℕ) → place < machines →
+        slice_index first.now place + slice_index second.now place ≤ 4294967295 }
+    ensures { (place : ℕ) → place < machines →
+        slice_index result place ≡ V.pair_of (slice_index first.now place + slice_index second.now place) }
+{
+    let mut pairs = [0; MAX_MACHINES];
+    let count = known_or::<M>(machines);
+    for place in 0..count {
+        pairs[place] = V::pair(first[place] + second[place]);
+    }
+    pairs
+}
+
+impl EndPairs {
+    /// What the groups of a node share at an end.
+    #[inline(always)]
+    pub(crate) fn of<V: Lanes, const M: usize>(node: &Node, end: End, machines: usize) -> EndPairs
+        requires constant { (M ≡ 0) ⊎ (M ≡ machines) }
+        requires few { machines ≤ most_machines }
+        requires fit { (place : ℕ) → place < machines → fits_at V.CAP node.now place }
+        ensures { IsPaired V.pair_of V.CAP machines end node.now result }
+    {
+        match end {
+            End::Front => EndPairs {
+                near: pairs_of::<V, M>(&node.front, machines),
+                rest: pairs_of_sums::<V, M>(&node.work, &node.back, machines),
+            },
+            End::Back => EndPairs {
+                near: pairs_of::<V, M>(&node.back, machines),
+                rest: pairs_of_sums::<V, M>(&node.work, &node.front, machines),
+            },
+        }
+    }
+}
