@@ -15,6 +15,12 @@ use Rattle.flow_nodes.specs.declared.node.Node.{Node}
 use Rattle.flow_nodes.proofs.ChildBounds.{child-bound-small}
 use Rattle.flow_nodes.proofs.MarkSteps.{bit-set, set-bit, mark-there}
 
+-- the mark of a place is a bit of its word
+pub word-at : (left : List ℕ) (group word place : ℕ) → word ≡ slice_index left group → place / 16 ≡ group →
+    mark left place ≡ bit_at word (place % 16)
+word-at left group word place word_is there =
+    ap (λ g. bit_at (slice_index left g) (place % 16)) there ∙ ap (λ w. bit_at w (place % 16)) (sym word_is)
+
 -- a word of those left is met with bits, and written
 module _ (left words : List ℕ) (group bits word place : ℕ) (within : group < length words)
     (word_is : word ≡ slice_index left group) (there : place / 16 ≡ group) where

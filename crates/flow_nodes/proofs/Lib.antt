@@ -19,3 +19,4 @@ pub mod PutSteps
 pub mod LeftBelow
 pub mod PairSteps
 pub mod PairLanes
+pub mod PassSteps

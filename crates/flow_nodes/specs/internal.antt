@@ -2,3 +2,4 @@ pub mod Children
 pub mod Spread
 pub mod Small
 pub mod Pairs
+pub mod Passes

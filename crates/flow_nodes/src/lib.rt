@@ -14,6 +14,7 @@ mod opener;
 mod opening;
 mod pack;
 mod pairs;
+mod passes;
 mod plain_end;
 mod single;
 mod starts;

@@ -25,38 +25,13 @@ use crate::open::{Children, OpenNode, Put};
 use crate::opener::Opener;
 use crate::pack::Pack;
 use crate::pairs::{EndPairs, pairs_of_sums};
-use crate::starts::{keep_starts, starts_at_back, starts_at_front};
+use crate::passes::{Sought, below_at};
+use crate::starts::keep_starts;
 use flow_limits::MAX_MACHINES;
 use flow_shop::{End, Instance};
 
-/// The bounds of the children that put the jobs of a group at an end, from what the groups share there. A lane whose
-/// job is not left has some number. Writes when the jobs start there.
-#[inline(always)]
-fn bounds_with_starts<V: Lanes, const M: usize>(
-    end: End,
-    pairs: &EndPairs,
-    group: &[V],
-    starts: &mut [V],
-) -> V
-    requires constant { (M ≡ 0) ⊎ (M ≡ length group.now) }
-    requires machines { length group.now ≤ most_machines }
-    requires starts { length starts.old ≡ length group.now }
-    ensures bounds { (shop : Shop) (first last jobs : List ℕ) (node : Node) (lane : ℕ) → IsNode shop first last node →
-        IsPaired V.pair_of V.CAP (length group.now) end node pairs.now →
-        IsGroup V.list V.CAP V.WIDTH shop jobs group.now → lane < V.WIDTH →
-        has (first ++ last) (slice_index jobs lane) ≡ false →
-        HasLane V.CAP V.WIDTH (V.list result) lane (child_bound shop end first last (slice_index jobs lane)) }
-    ensures starts { (shop : Shop) (first last jobs : List ℕ) (node : Node) (lane machine : ℕ) (none : V) →
-        IsNode shop first last node → IsPaired V.pair_of V.CAP (length group.now) end node pairs.now →
-        IsGroup V.list V.CAP V.WIDTH shop jobs group.now → lane < V.WIDTH → IsMachine shop machine →
-        HasLane V.CAP V.WIDTH (V.list (slice_index_or starts.new (machine - 1) none)) lane
-        (start_at shop end first last (slice_index jobs lane) machine) }
-{
-    match end {
-        End::Front => starts_at_front::<V, M>(pairs, group, starts),
-        End::Back => starts_at_back::<V, M>(pairs, group, starts),
-    }
-}
+/// With more machines, passes over several groups end early where they can.
+const LOOKED_AT: usize = 12;
 
 impl<V: Lanes> Opener<V> {
     /// Finds the children of a node at an end that are below the number, and when their jobs start there, among the
@@ -95,20 +70,24 @@ impl<V: Lanes> Opener<V> {
             (zero : V) → IsNode shop first last node →
             IsPaired V.pair_of V.CAP self.now.machines end node pairs.now → place / 16 < length groups.now →
             IsGroup V.list V.CAP V.WIDTH shop jobs (slice_index_or groups.now (place / 16) none).items →
-            mark left.now.words place ≡ 1 → IsMachine shop machine →
+            mark children.new.below.words place ≡ 1 → IsMachine shop machine →
             HasLane V.CAP V.WIDTH (V.list (slice_index_or
             (slice_index_or children.new.starts.items (place / 16) none).items (machine - 1) zero)) (place % 16)
             (start_at shop end first last (slice_index jobs (place % 16)) machine) }
         ensures count { (names : List ℕ) → length names ≡ length groups.now * 16 →
             children.new.count ≡ length (chosen children.new.below.words names) }
     {
+        let sought = Sought {
+            limit: self.limit,
+            looks: groups.len() > 1 && self.machines > LOOKED_AT,
+        };
         for group in 0..groups.len() {
             let word = left.words[group];
             if word != 0 {
                 let starts = children.starts[group].as_mut_slice();
                 let times = groups[group].as_slice();
-                let bounds = bounds_with_starts::<V, M>(end, pairs, times, starts);
-                children.below.words[group] = (bounds.below(self.limit) & u64::from(word)) as u16;
+                let below = below_at::<V, M>(end, pairs, times, starts, word, sought);
+                children.below.words[group] = below;
             } else {
                 children.below.words[group] = 0;
             }

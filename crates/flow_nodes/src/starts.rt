@@ -1,4 +1,4 @@
-//! When the jobs of a group start at an end of a node, side by side, and the bounds of the children there.
+//! The bounds of the children that put the jobs of a group at an end, from when they start there.
 
 ghost use Rattle.std.specs.Prelude.{◌≡◌, ◌⊎◌, ℕ, ◌-◌, ◌<◌, ◌≤◌, List, length, slice_index, slice_index_or};
 ghost use Rattle.flow_nodes.specs.declared.node.Node.{Node};
@@ -17,72 +17,6 @@ use crate::few_groups::known_or;
 use crate::lanes::Lanes;
 use crate::pairs::EndPairs;
 use flow_limits::MAX_MACHINES;
-
-/// The bounds of the children that put the jobs of a group at the front. Writes when the jobs start there.
-#[inline(always)]
-pub(crate) fn starts_at_front<V: Lanes, const M: usize>(
-    pairs: &EndPairs,
-    group: &[V],
-    starts: &mut [V],
-) -> V
-    requires constant { (M ≡ 0) ⊎ (M ≡ length group.now) }
-    requires machines { length group.now ≤ most_machines }
-    requires starts { length starts.old ≡ length group.now }
-    ensures bounds { (shop : Shop) (first last jobs : List ℕ) (node : Node) (lane : ℕ) → IsNode shop first last node →
-        IsPaired V.pair_of V.CAP (length group.now) Front node pairs.now →
-        IsGroup V.list V.CAP V.WIDTH shop jobs group.now → lane < V.WIDTH →
-        HasLane V.CAP V.WIDTH (V.list result) lane (greatest_at shop Front first last (slice_index jobs lane)) }
-    ensures starts { (shop : Shop) (first last jobs : List ℕ) (node : Node) (lane machine : ℕ) (none : V) →
-        IsNode shop first last node → IsPaired V.pair_of V.CAP (length group.now) Front node pairs.now →
-        IsGroup V.list V.CAP V.WIDTH shop jobs group.now → lane < V.WIDTH → IsMachine shop machine →
-        HasLane V.CAP V.WIDTH (V.list (slice_index_or starts.new (machine - 1) none)) lane
-        (start_at shop Front first last (slice_index jobs lane) machine) }
-{
-    let mut free = V::each(0);
-    let mut bounds = free;
-    let machines = known_or::<M>(group.len());
-    for place in 0..machines {
-        let start = free.at_least(V::from_pair(pairs.near[place]));
-        starts[place] = start;
-        bounds = bounds.at_least(start.plus(V::from_pair(pairs.rest[place])));
-        free = start.plus(group[place]);
-    }
-    bounds
-}
-
-/// The bounds of the children that put the jobs of a group at the back. Writes when the jobs start there.
-#[inline(always)]
-pub(crate) fn starts_at_back<V: Lanes, const M: usize>(
-    pairs: &EndPairs,
-    group: &[V],
-    starts: &mut [V],
-) -> V
-    requires constant { (M ≡ 0) ⊎ (M ≡ length group.now) }
-    requires machines { length group.now ≤ most_machines }
-    requires starts { length starts.old ≡ length group.now }
-    ensures bounds { (shop : Shop) (first last jobs : List ℕ) (node : Node) (lane : ℕ) → IsNode shop first last node →
-        IsPaired V.pair_of V.CAP (length group.now) Back node pairs.now →
-        IsGroup V.list V.CAP V.WIDTH shop jobs group.now → lane < V.WIDTH →
-        HasLane V.CAP V.WIDTH (V.list result) lane (greatest_at shop Back first last (slice_index jobs lane)) }
-    ensures starts { (shop : Shop) (first last jobs : List ℕ) (node : Node) (lane machine : ℕ) (none : V) →
-        IsNode shop first last node → IsPaired V.pair_of V.CAP (length group.now) Back node pairs.now →
-        IsGroup V.list V.CAP V.WIDTH shop jobs group.now → lane < V.WIDTH → IsMachine shop machine →
-        HasLane V.CAP V.WIDTH (V.list (slice_index_or starts.new (machine - 1) none)) lane
-        (start_at shop Back first last (slice_index jobs lane) machine) }
-{
-    let mut free = V::each(0);
-    let mut bounds = free;
-    let mut machine = known_or::<M>(group.len());
-    while machine > 0 {
-        let place = machine - 1;
-        let start = free.at_least(V::from_pair(pairs.near[place]));
-        starts[place] = start;
-        bounds = bounds.at_least(start.plus(V::from_pair(pairs.rest[place])));
-        free = start.plus(group[place]);
-        machine = place;
-    }
-    bounds
-}
 
 /// The bounds of the children that put the jobs of a group at an end, from their starts there, and from the pairs of the
 /// time of the jobs left and what is at the other end. Copies the starts.

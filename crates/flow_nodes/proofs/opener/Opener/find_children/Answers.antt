@@ -11,8 +11,8 @@ use Rattle.flow_nodes.specs.Marks.{mark}
 use Rattle.flow_nodes.specs.Open.{HasStartRoom, start_at}
 use Rattle.flow_nodes.specs.internal.Pairs.{IsPaired}
 use Rattle.flow_nodes.specs.declared.node.Node.{Node}
-use Rattle.flow_nodes.proofs.MarkSteps.{mark-elsewhere}
-use Rattle.flow_nodes.proofs.BelowSteps.{written-within, written-exact, none-left, none-written, lane-tells}
+use Rattle.flow_nodes.proofs.MarkSteps.{mark-elsewhere, mark-there}
+use Rattle.flow_nodes.proofs.BelowSteps.{word-at, none-left, none-written}
 use Rattle.flow_nodes.proofs.OpenSteps.{start-room}
 use Rattle.flow_nodes.proofs.PairSteps.{constant-is}
 use Rattle.flow_nodes.proofs.opener.Opener.find_children.Goals as goal
@@ -34,13 +34,13 @@ index_mut-requires g c =
     let room = c.loop-group.invariant.room c.requires.room.0 (length c.args.groups.now) c.requires.room.1 in
     omega (arith, c.loop-group-test.true, room.enough, c.loop-group.children.starts.ok.0)
 
-pub bounds_with_starts-bounds-requires-clause-constant : goal.bounds_with_starts-bounds-requires-clause-constant
-bounds_with_starts-bounds-requires-clause-constant g c =
+pub below_at-below-requires-clause-constant : goal.below_at-below-requires-clause-constant
+below_at-below-requires-clause-constant g c =
     constant-is (ap length c.as_slice-times.ensures.value ∙ ap (λ v. length v.items) c.index-groups-group.is
     ∙ c.requires.machines c.loop-group.group c.index-groups-group.result c.loop-group-test.true) c.requires.constant
 
-pub bounds_with_starts-bounds-requires-clause-machines : goal.bounds_with_starts-bounds-requires-clause-machines
-bounds_with_starts-bounds-requires-clause-machines g c = omega (
+pub below_at-below-requires-clause-machines : goal.below_at-below-requires-clause-machines
+below_at-below-requires-clause-machines g c = omega (
   arith,
   ap length c.as_slice-times.ensures.value,
   ap (λ v. length v.items) c.index-groups-group.is,
@@ -48,8 +48,8 @@ bounds_with_starts-bounds-requires-clause-machines g c = omega (
   c.requires.most,
 )
 
-pub bounds_with_starts-bounds-requires-clause-starts : goal.bounds_with_starts-bounds-requires-clause-starts
-bounds_with_starts-bounds-requires-clause-starts g c =
+pub below_at-below-requires-clause-starts : goal.below_at-below-requires-clause-starts
+below_at-below-requires-clause-starts g c =
     let group : ℕ = c.loop-group.group in
     let room = c.loop-group.invariant.room c.requires.room.0 (length c.args.groups.now) c.requires.room.1 in
     omega (
@@ -78,10 +78,10 @@ loop-group-preserved g c =
     let long : group < length starts = omega (arith, c.loop-group-test.true, room.enough) in
     elim c.if-word-ne0.branch [
       | then-word-ne0 w ↦
-          let written = w.bounds_with_starts-bounds.new.starts in
+          let written = w.below_at-below.new.starts in
           let vector = with_items w.index_mut.result.now written in
           let size : length written ≡ length w.index_mut.result.now.items =
-          w.bounds_with_starts-bounds.auto.starts ∙ ap length w.as_mut_slice-starts.ensures.value in
+          w.below_at-below.auto.starts ∙ ap length w.as_mut_slice-starts.ensures.value in
           let is_written : vector.items ≡ written =
           with_items_is w.index_mut.result.now written (omega (arith, size, w.index_mut.result.now.ok.0)) in
           let of_group : (shop : Shop) (jobs : List ℕ) (place : ℕ) (none : Vec g.row.V.Denot) → place / 16 ≡ group →
@@ -117,8 +117,10 @@ loop-group-preserved g c =
                   (sym (ap (λ m. mark m place) words_are ∙ mark-elsewhere words group _ place apart) ∙ marked)
               | inr above ↦
                   let there : place / 16 ≡ group = omega (arith, above, under) in
-                  written-within left words group w.below.result w.from.result place few w.from.ensures there
-                  (sym (ap (λ m. mark m place) words_are) ∙ marked)
+                  word-at left group _ place refl there
+                  ∙ w.below_at-below.ensures.within (place % 16)
+                  (sym (mark-there words group w.below_at-below.result place few there)
+                  ∙ sym (ap (λ m. mark m place) words_are) ∙ marked)
             ];
             exact = λ shop number first last jobs node place none limit is spread under are was fresh.
                 let bound = child_bound shop c.args.end first last (slice_index jobs (place % 16)) in
@@ -131,16 +133,15 @@ loop-group-preserved g c =
                       let there : place / 16 ≡ group = omega (arith, above, under) in
                       let lane : ℕ = place % 16 in
                       let these = of_group shop jobs place none there are in
-                      written-exact left words group w.below.result w.from.result place few w.from.ensures there bound
-                      number was
-                      (lane-tells list cap width c.requires.wide shop number c.args.self.now.limit c.args.end first last
-                      node jobs w.as_slice-times.result.now w.below.result lane is these limit (omega arith) fresh
-                      (w.below.ensures.each lane bound
-                      (w.bounds_with_starts-bounds.ensures.bounds shop first last jobs node lane is (shared node spread) these
-                      (omega (arith, c.requires.wide)) fresh)))
+                      subst (λ n. n ≡ 1 ↔ (bound < number))
+                      (sym (mark-there words group w.below_at-below.result place few there))
+                      (w.below_at-below.ensures.exact shop number first last jobs node lane limit is
+                      (shared node spread) these (omega (arith, c.requires.wide))
+                      (sym (word-at left group _ place refl there) ∙ was) fresh)
                 ]);
-            starts = λ shop first last jobs node place machine none zero is spread under are was on.
+            starts = λ shop first last jobs node place machine none zero is spread under are one on.
                 let start : ℕ = start_at shop c.args.end first last (slice_index jobs (place % 16)) machine in
+                let marked = sym (ap (λ m. mark m place) words_are) ∙ one in
                 subst (λ l. HasLane cap width
                 (list (slice_index_or (slice_index_or l (place / 16) none).items (machine - 1) zero)) (place % 16)
                 start) (sym starts_are) (elim (cases_lt (place / 16) group) [
@@ -148,7 +149,8 @@ loop-group-preserved g c =
                       let apart : place / 16 ≢ group = omega (arith, before) in
                       subst (λ v. HasLane cap width (list (slice_index_or v.items (machine - 1) zero)) (place % 16)
                       start) (sym (get_or-set_other starts group (place / 16) vector none apart))
-                      (here.starts shop first last jobs node place machine none zero is spread before are was on)
+                      (here.starts shop first last jobs node place machine none zero is spread before are
+                      (sym (mark-elsewhere words group _ place apart) ∙ marked) on)
                   | inr above ↦
                       let there : place / 16 ≡ group = omega (arith, above, under) in
                       let items : (slice_index_or (set starts group vector) (place / 16) none).items ≡ written =
@@ -156,9 +158,10 @@ loop-group-preserved g c =
                       ∙ ap (λ v. v.items) (get_or-set_same starts group vector none long) ∙ is_written in
                       subst (λ l. HasLane cap width (list (slice_index_or l (machine - 1) zero)) (place % 16) start)
                       (sym items)
-                      (w.bounds_with_starts-bounds.ensures.starts shop first last jobs node (place % 16) machine zero is
+                      (w.below_at-below.ensures.starts shop first last jobs node (place % 16) machine zero is
                       (shared node spread)
-                      (of_group shop jobs place none there are) (omega (arith, c.requires.wide)) on)
+                      (of_group shop jobs place none there are) (omega (arith, c.requires.wide))
+                      (sym (mark-there words group w.below_at-below.result place few there) ∙ marked) on)
                 ]);
           }
       | else-word-ne0 w ↦
@@ -193,17 +196,24 @@ loop-group-preserved g c =
                       let there : place / 16 ≡ group = omega (arith, above, under) in
                       absurd (omega (arith, none-left left words group _ place few refl w.if-word-ne0.false there, was))
                 ];
-            starts = λ shop first last jobs node place machine none zero is spread under are was on.
+            starts = λ shop first last jobs node place machine none zero is spread under are one on.
                 let start : ℕ = start_at shop c.args.end first last (slice_index jobs (place % 16)) machine in
                 elim (cases_lt (place / 16) group) [
                   | inl before ↦
+                      let apart : place / 16 ≢ group = omega (arith, before) in
                       subst (λ l. HasLane cap width
                       (list (slice_index_or (slice_index_or l (place / 16) none).items (machine - 1) zero)) (place % 16)
                       start) (sym starts_are)
-                      (here.starts shop first last jobs node place machine none zero is spread before are was on)
+                      (here.starts shop first last jobs node place machine none zero is spread before are
+                      (sym (ap (λ m. mark m place) words_are ∙ mark-elsewhere words group 0 place apart) ∙ one) on)
                   | inr above ↦
                       let there : place / 16 ≡ group = omega (arith, above, under) in
-                      absurd (omega (arith, none-left left words group _ place few refl w.if-word-ne0.false there, was))
+                      absurd (omega (
+                        arith,
+                        ap (λ m. mark m place) words_are,
+                        none-written left words group _ place few refl w.if-word-ne0.false there,
+                        one,
+                      ))
                 ];
           }
     ]

@@ -35,7 +35,7 @@ invariant-loop-group g l = record {
       place / 16 < l.group →
       IsGroup g.V.Lanes.list g.V.Lanes.CAP g.V.Lanes.WIDTH shop jobs
       (slice_index_or l.groups (place / 16) none).items →
-      mark l.left.words place ≡ 1 → IsMachine shop machine →
+      mark l.children.below.words place ≡ 1 → IsMachine shop machine →
       HasLane g.V.Lanes.CAP g.V.Lanes.WIDTH (g.V.Lanes.list (slice_index_or
       (slice_index_or l.children.starts.items (place / 16) none).items (machine - 1) zero)) (place % 16)
       (start_at shop l.end first last (slice_index jobs (place % 16)) machine);

@@ -61,12 +61,11 @@ returns-clause-children g c shop number first last limit is is_pack has_left =
       count = c.find_children.ensures.count names
           (omega (arith, is_pack.room.names, ap length c.as_slice.ensures.value)) ∙ ap length below;
       starts = λ place machine none zero inside marked on.
-          let was = c.find_children.ensures.within place (in_groups place inside) marked in
           subst (λ job. HasLane g.V.Lanes.CAP g.V.Lanes.WIDTH (g.V.Lanes.list (slice_index_or
           (slice_index_or c.find_children.new.children.starts.items (place / 16) none).items (machine - 1) zero))
           (place % 16) (start_at shop c.args.end first last job machine)) (named place)
           (c.find_children.ensures.starts shop first last (these place) c.args.node.now place machine none zero is
-          c.of-pairs.ensures (in_groups place inside) (are place none inside) was on);
+          c.of-pairs.ensures (in_groups place inside) (are place none inside) marked on);
     }
   where
     names : List ℕ

@@ -76,8 +76,11 @@ pairs_of_sums-rest-requires-clause-fit g c on low =
     (put-fresh at.3 at.4 end place at.8 at.9)
     (put-row at.3 at.4 end place at.8 at.9 c.args.self.now.rows.items c.index.result.now c.from.result
     c.index-row.result.now at.5.rows c.index.ensures c.from.ensures c.index-row.ensures) in
-    omega (arith, (node-fits shop (first_with end at.1 job) (last_with end at.2 job) node g.V.Lanes.CAP at.0 c.args.self.now.limit is
-    (put-below at.3 at.4 end place at.8 at.9) at.6 c.requires.limit on (omega (arith, low, at.5.machines))).0)
+    omega (
+      arith,
+      (node-fits shop (first_with end at.1 job) (last_with end at.2 job) node g.V.Lanes.CAP at.0 c.args.self.now.limit is
+          (put-below at.3 at.4 end place at.8 at.9) at.6 c.requires.limit on (omega (arith, low, at.5.machines))).0,
+    )
 
 pub pairs_of_sums-rest-requires-clause-small : goal.pairs_of_sums-rest-requires-clause-small
 pairs_of_sums-rest-requires-clause-small g c on low =
@@ -91,8 +94,11 @@ pairs_of_sums-rest-requires-clause-small g c on low =
     (put-fresh at.3 at.4 end place at.8 at.9)
     (put-row at.3 at.4 end place at.8 at.9 c.args.self.now.rows.items c.index.result.now c.from.result
     c.index-row.result.now at.5.rows c.index.ensures c.from.ensures c.index-row.ensures) in
-    omega (arith, (node-fits shop (first_with end at.1 job) (last_with end at.2 job) node g.V.Lanes.CAP at.0 c.args.self.now.limit is
-    (put-below at.3 at.4 end place at.8 at.9) at.6 c.requires.limit on (omega (arith, low, at.5.machines))).1)
+    omega (
+      arith,
+      (node-fits shop (first_with end at.1 job) (last_with end at.2 job) node g.V.Lanes.CAP at.0 c.args.self.now.limit is
+          (put-below at.3 at.4 end place at.8 at.9) at.6 c.requires.limit on (omega (arith, low, at.5.machines))).1,
+    )
 
 pub pairs_of_sums-rest-requires-in-Back-clause-few : goal.pairs_of_sums-rest-requires-in-Back-clause-few
 pairs_of_sums-rest-requires-in-Back-clause-few g c =
@@ -120,8 +126,11 @@ pairs_of_sums-rest-requires-in-Back-clause-fit g c on low =
     (put-fresh at.3 at.4 end place at.8 at.9)
     (put-row at.3 at.4 end place at.8 at.9 c.args.self.now.rows.items c.index.result.now c.from.result
     c.index-row.result.now at.5.rows c.index.ensures c.from.ensures c.index-row.ensures) in
-    omega (arith, (node-fits shop (first_with end at.1 job) (last_with end at.2 job) node g.V.Lanes.CAP at.0 c.args.self.now.limit is
-    (put-below at.3 at.4 end place at.8 at.9) at.6 c.requires.limit on (omega (arith, low, at.5.machines))).0)
+    omega (
+      arith,
+      (node-fits shop (first_with end at.1 job) (last_with end at.2 job) node g.V.Lanes.CAP at.0 c.args.self.now.limit is
+          (put-below at.3 at.4 end place at.8 at.9) at.6 c.requires.limit on (omega (arith, low, at.5.machines))).0,
+    )
 
 pub pairs_of_sums-rest-requires-in-Back-clause-small : goal.pairs_of_sums-rest-requires-in-Back-clause-small
 pairs_of_sums-rest-requires-in-Back-clause-small g c on low =
@@ -135,8 +144,11 @@ pairs_of_sums-rest-requires-in-Back-clause-small g c on low =
     (put-fresh at.3 at.4 end place at.8 at.9)
     (put-row at.3 at.4 end place at.8 at.9 c.args.self.now.rows.items c.index.result.now c.from.result
     c.index-row.result.now at.5.rows c.index.ensures c.from.ensures c.index-row.ensures) in
-    omega (arith, (node-fits shop (first_with end at.1 job) (last_with end at.2 job) node g.V.Lanes.CAP at.0 c.args.self.now.limit is
-    (put-below at.3 at.4 end place at.8 at.9) at.6 c.requires.limit on (omega (arith, low, at.5.machines))).1)
+    omega (
+      arith,
+      (node-fits shop (first_with end at.1 job) (last_with end at.2 job) node g.V.Lanes.CAP at.0 c.args.self.now.limit is
+          (put-below at.3 at.4 end place at.8 at.9) at.6 c.requires.limit on (omega (arith, low, at.5.machines))).1,
+    )
 
 pub keep_children-requires-clause-room : goal.keep_children-requires-clause-room
 keep_children-requires-clause-room g c =
