@@ -99,6 +99,7 @@ impl<V: Lanes> Tree<V> {
         requires few { groups ≤ length self.now.packs.items }
         requires within { at < length self.now.nodes.items }
         requires at { (number : ℕ) × (first : List ℕ) × (last : List ℕ)
+            × IsTree V.CAP instance.now number self.now
             × IsOpenAt V.list V.CAP V.WIDTH instance.now number first last groups at self.now.packs.items
             self.now.nodes.items }
         ensures { (number : ℕ) (first last : List ℕ) →

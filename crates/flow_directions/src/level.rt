@@ -8,6 +8,7 @@ ghost use Rattle.flow_shop.specs.Directions.{first_with, last_with};
 ghost use Rattle.flow_nodes.specs.Groups.{group_count};
 ghost use Rattle.flow_nodes.specs.Marks.{chosen, mark};
 ghost use Rattle.flow_nodes.specs.declared.pack.Pack.{Pack};
+ghost use Rattle.flow_directions.specs.declared.level.Level.{Level};
 ghost use Rattle.flow_directions.specs.internal.Levels.{IsBegun, IsLevel, IsNext};
 ghost use Rattle.flow_directions.specs.internal.Tree.{IsOpenAt, IsTree};
 
@@ -43,6 +44,18 @@ pub(crate) struct Level {
 }
 
 impl Level {
+    /// A level of no node, to be written over.
+    pub(crate) fn empty() -> Level {
+        Level {
+            at: 0,
+            top: 0,
+            end: End::Front,
+            rest: Marks::none(),
+            kept: None,
+            job: 0,
+        }
+    }
+
     /// The place of the next job whose child is to be searched, in the pack that has the jobs left. `None` where
     /// there is none.
     #[inline(always)]
@@ -68,14 +81,16 @@ impl Level {
 }
 
 impl<V: Lanes> Tree<V> {
-    /// Begins with the children of the node at a spot, at the end that is taken, where so many jobs are left.
+    /// Begins with the children of the node at a spot, at the end that is taken, where so many jobs are left. Writes
+    /// the level over another one.
     #[inline(always)]
     pub(crate) fn enter(
         &mut self,
         instance: &Instance,
         spot: Spot,
         left: u16,
-    ) -> Result<Level, AllocError>
+        level: &mut Level,
+    ) -> Result<(), AllocError>
         requires wide { V.WIDTH ≡ 16 }
         requires some { 1 ≤ left }
         requires few { group_count left ≤ length self.old.packs.items }
@@ -89,25 +104,23 @@ impl<V: Lanes> Tree<V> {
             OnOk result (IsTree V.CAP instance.now number self.new) }
         ensures packs { self.new.packs ≡ self.old.packs }
         ensures above { take spot.top self.new.nodes.items ≡ take spot.top self.old.nodes.items }
-        ensures top { IfOk result (λ level. spot.top ≤ level.top) }
-        ensures room { IfOk result (λ level. level.top < length self.new.nodes.items) }
+        ensures top { OnOk result (spot.top ≤ level.new.top) }
+        ensures room { OnOk result (level.new.top < length self.new.nodes.items) }
         ensures level { (number : ℕ) (first last : List ℕ) → IsTree V.CAP instance.now number self.old →
             IsOpenAt V.list V.CAP V.WIDTH instance.now number first last (group_count left) spot.at
             self.old.packs.items self.old.nodes.items →
             length (jobs_left instance.now.jobs (first ++ last)) ≡ left →
-            IfOk result (λ level. IsBegun V.list V.CAP V.WIDTH instance.now number self.new.packs.items
-            self.new.nodes.items left first last level) }
+            OnOk result (IsBegun V.list V.CAP V.WIDTH instance.now number self.new.packs.items
+            self.new.nodes.items left first last level.new) }
     {
         let chosen = self.choose(instance, group_count(left), spot.at, spot.top)?;
-        let rest = self.nodes[spot.at].at(chosen.end).below;
-        Ok(Level {
-            at: spot.at,
-            top: chosen.top,
-            end: chosen.end,
-            rest,
-            kept: chosen.kept,
-            job: 0,
-        })
+        level.at = spot.at;
+        level.top = chosen.top;
+        level.end = chosen.end;
+        level.rest = self.nodes[spot.at].at(chosen.end).below;
+        level.kept = chosen.kept;
+        level.job = 0;
+        Ok(())
     }
 
     /// Finds the child of a level that puts the job of a place, where it is kept, or makes it. So many jobs are left at
@@ -204,15 +217,17 @@ impl<V: Lanes> Tree<V> {
         })
     }
 
-    /// Goes to the child of a level that puts the job of a place. So many jobs are left at the child.
+    /// Goes to the child of a level that puts the job of a place: puts the level behind those above it, and writes that
+    /// of the child in its place. So many jobs are left at the child.
     #[inline(always)]
     pub(crate) fn go(
         &mut self,
         instance: &Instance,
+        levels: &mut Vec<Level>,
         here: &mut Level,
         place: usize,
         left: u16,
-    ) -> Result<Level, AllocError>
+    ) -> Result<(), AllocError>
         requires wide { V.WIDTH ≡ 16 }
         requires some { 1 ≤ left }
         requires few { group_count (left + 1) ≤ length self.old.packs.items }
@@ -228,26 +243,27 @@ impl<V: Lanes> Tree<V> {
             slice_index_or self.new.packs.items (group_count more - 1) none
             ≡ slice_index_or self.old.packs.items (group_count more - 1) none }
         ensures above { take here.old.top self.new.nodes.items ≡ take here.old.top self.old.nodes.items }
-        ensures end { here.new.end ≡ here.old.end }
-        ensures job { here.new.job ≡ here.old.job }
-        ensures rest { here.new.rest ≡ here.old.rest }
-        ensures top { here.new.top ≡ here.old.top }
-        ensures behind { IfOk result (λ level. here.old.top ≤ level.top) }
-        ensures room { IfOk result (λ level. level.top < length self.new.nodes.items) }
-        ensures here { (number : ℕ) (first last : List ℕ) → IsTree V.CAP instance.now number self.old →
+        ensures deeper { OnOk result (length levels.new.items ≡ length levels.old.items + 1) }
+        ensures behind { OnOk result (here.old.top ≤ here.new.top) }
+        ensures room { OnOk result (here.new.top < length self.new.nodes.items) }
+        ensures above_it { OnOk result ((level : Level) × (levels.new.items ≡ levels.old.items ++ level ∷ [])
+            × (level.end ≡ here.old.end) × (level.job ≡ here.old.job) × (level.top ≡ here.old.top)
+            × (level.rest ≡ here.old.rest) × ((number : ℕ) (first last : List ℕ) →
+            IsTree V.CAP instance.now number self.old →
             IsNext V.list V.CAP V.WIDTH instance.now number self.old.packs.items self.old.nodes.items (left + 1)
             first last place here.old →
-            OnOk result (IsLevel V.list V.CAP V.WIDTH instance.now number self.new.packs.items
-            self.new.nodes.items (left + 1) first last here.new) }
+            IsLevel V.list V.CAP V.WIDTH instance.now number self.new.packs.items self.new.nodes.items (left + 1)
+            first last level)) }
         ensures level { (number : ℕ) (first last : List ℕ) → IsTree V.CAP instance.now number self.old →
             IsNext V.list V.CAP V.WIDTH instance.now number self.old.packs.items self.old.nodes.items (left + 1)
             first last place here.old →
-            IfOk result (λ level. IsBegun V.list V.CAP V.WIDTH instance.now number self.new.packs.items
+            OnOk result (IsBegun V.list V.CAP V.WIDTH instance.now number self.new.packs.items
             self.new.nodes.items left (first_with here.old.end first here.old.job)
-            (last_with here.old.end last here.old.job) level) }
+            (last_with here.old.end last here.old.job) here.new) }
     {
         let child = self.child(instance, here, place, left);
         let spot = self.settle(instance, child, left)?;
-        self.enter(instance, spot, left)
+        levels.push(*here)?;
+        self.enter(instance, spot, left, here)
     }
 }

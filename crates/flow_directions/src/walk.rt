@@ -137,7 +137,8 @@ pub(crate) fn search<V: Lanes>(
         return Ok(Advanced::Rest { directions, parts });
     }
     let mut left = left;
-    let mut here = tree.enter(instance, Spot { at: 0, top: 1 }, left)?;
+    let mut here = Level::empty();
+    tree.enter(instance, Spot { at: 0, top: 1 }, left, &mut here)?;
     directions.push(sign_of(here.end))?;
     'walk: loop {
         match here.next(&tree.packs[group_count(left) - 1]) {
@@ -160,9 +161,7 @@ pub(crate) fn search<V: Lanes>(
                     let parts = parts_left(&tree, &mut lists, &mut levels, left)?;
                     return Ok(Advanced::Rest { directions, parts });
                 }
-                let child = tree.go(instance, &mut here, place, left)?;
-                levels.push(here)?;
-                here = child;
+                tree.go(instance, &mut levels, &mut here, place, left)?;
                 directions.push(sign_of(here.end))?;
             }
         }

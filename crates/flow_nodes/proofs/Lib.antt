@@ -1,4 +1,5 @@
 pub mod LaneSteps
+pub mod LaneSums
 pub mod NodeSteps
 pub mod KeptNodes
 pub mod ChildSteps

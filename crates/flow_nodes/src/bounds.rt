@@ -1,10 +1,11 @@
 //! The bounds of the children that put the jobs of a group at an end, side by side.
 
-ghost use Rattle.std.specs.Prelude.{◌≡◌, ℕ, ◌/◌, ◌%◌, ◌<◌, ◌≤◌, ◌↔◌, false, List, ◌++◌, length, slice_index};
-ghost use Rattle.std.specs.Prelude.{slice_index_or, IsBitSet};
+ghost use Rattle.std.specs.Prelude.{◌≡◌, ◌⊎◌, ℕ, ◌/◌, ◌%◌, ◌<◌, ◌≤◌, ◌↔◌, true, false, List, ◌++◌, length};
+ghost use Rattle.std.specs.Prelude.{slice_index, slice_index_or, IsBitSet};
 ghost use Rattle.std.specs.Global.{Vec};
 ghost use Rattle.flow_limits.specs.Limits.{most_machines};
 ghost use Rattle.flow_shop.specs.Shop.{Shop};
+ghost use Rattle.flow_shop.specs.Ends.{end_bound};
 ghost use Rattle.flow_shop.specs.Sequences.{has};
 ghost use Rattle.flow_shop.specs.declared.end.End.TheVariants.{Front, Back};
 ghost use Rattle.flow_nodes.specs.Lanes.{HasLane, limit_of};
@@ -12,47 +13,68 @@ ghost use Rattle.flow_nodes.specs.Nodes.{IsNode};
 ghost use Rattle.flow_nodes.specs.Groups.{IsGroup, child_bound, most_groups};
 ghost use Rattle.flow_nodes.specs.Marks.{mark};
 ghost use Rattle.flow_nodes.specs.internal.Children.{greatest_at};
+ghost use Rattle.flow_nodes.specs.internal.Small.{IsSmall};
 
+use crate::few_groups::known_or;
 use crate::lanes::Lanes;
 use crate::marks::Marks;
 use crate::node::Node;
 use flow_shop::End;
 
-/// The bounds of the children that put the jobs of a group at the front.
+/// The same number in all lanes. The constant says that it is known to be no greater than the cap.
 #[inline(always)]
-fn front_bounds<V: Lanes>(node: &Node, group: &[V]) -> V
-    requires { length group.now ≤ most_machines }
+fn in_lanes<V: Lanes, const SMALL: bool>(number: u64) -> V
+    requires { SMALL ≡ true → (number ≤ V.CAP) × (number < 4294967295) }
+    ensures { (lane : ℕ) → lane < V.WIDTH → HasLane V.CAP V.WIDTH (V.list result) lane number }
+{
+    if SMALL {
+        V::each(number as u32)
+    } else {
+        V::all(number)
+    }
+}
+
+/// The bounds of the children that put the jobs of a group at the front. The constants are the number of machines, or
+/// 0, and whether the numbers of the node are known to be small.
+#[inline(always)]
+fn front_bounds<V: Lanes, const M: usize, const SMALL: bool>(node: &Node, group: &[V]) -> V
+    requires constant { (M ≡ 0) ⊎ (M ≡ length group.now) }
+    requires machines { length group.now ≤ most_machines }
+    requires small { SMALL ≡ true → IsSmall V.CAP (length group.now) node.now }
     ensures { (shop : Shop) (first last jobs : List ℕ) (lane : ℕ) → IsNode shop first last node.now →
         IsGroup V.list V.CAP V.WIDTH shop jobs group.now → lane < V.WIDTH →
         HasLane V.CAP V.WIDTH (V.list result) lane (greatest_at shop Front first last (slice_index jobs lane)) }
 {
-    let mut free = V::all(0);
+    let mut free = V::each(0);
     let mut bounds = free;
-    for place in 0..group.len() {
-        let start = free.at_least(V::all(u64::from(node.front[place])));
+    let machines = known_or::<M>(group.len());
+    for place in 0..machines {
+        let start = free.at_least(in_lanes::<V, SMALL>(u64::from(node.front[place])));
         let rest = u64::from(node.work[place]) + u64::from(node.back[place]);
-        bounds = bounds.at_least(start.plus(V::all(rest)));
+        bounds = bounds.at_least(start.plus(in_lanes::<V, SMALL>(rest)));
         free = start.plus(group[place]);
     }
     bounds
 }
 
-/// The bounds of the children that put the jobs of a group at the back.
+/// The bounds of the children that put the jobs of a group at the back, likewise.
 #[inline(always)]
-fn back_bounds<V: Lanes>(node: &Node, group: &[V]) -> V
-    requires { length group.now ≤ most_machines }
+fn back_bounds<V: Lanes, const M: usize, const SMALL: bool>(node: &Node, group: &[V]) -> V
+    requires constant { (M ≡ 0) ⊎ (M ≡ length group.now) }
+    requires machines { length group.now ≤ most_machines }
+    requires small { SMALL ≡ true → IsSmall V.CAP (length group.now) node.now }
     ensures { (shop : Shop) (first last jobs : List ℕ) (lane : ℕ) → IsNode shop first last node.now →
         IsGroup V.list V.CAP V.WIDTH shop jobs group.now → lane < V.WIDTH →
         HasLane V.CAP V.WIDTH (V.list result) lane (greatest_at shop Back first last (slice_index jobs lane)) }
 {
-    let mut free = V::all(0);
+    let mut free = V::each(0);
     let mut bounds = free;
-    let mut machine = group.len();
+    let mut machine = known_or::<M>(group.len());
     while machine > 0 {
         let place = machine - 1;
-        let start = free.at_least(V::all(u64::from(node.back[place])));
+        let start = free.at_least(in_lanes::<V, SMALL>(u64::from(node.back[place])));
         let rest = u64::from(node.work[place]) + u64::from(node.front[place]);
-        bounds = bounds.at_least(start.plus(V::all(rest)));
+        bounds = bounds.at_least(start.plus(in_lanes::<V, SMALL>(rest)));
         free = start.plus(group[place]);
         machine = place;
     }
@@ -71,8 +93,27 @@ impl Node {
             HasLane V.CAP V.WIDTH (V.list result) lane (child_bound shop end first last (slice_index jobs lane)) }
     {
         match end {
-            End::Front => front_bounds(self, group),
-            End::Back => back_bounds(self, group),
+            End::Front => front_bounds::<V, 0, false>(self, group),
+            End::Back => back_bounds::<V, 0, false>(self, group),
+        }
+    }
+
+    /// The same bounds, where the node's own bound is no greater than the cap. The constant is the number of machines,
+    /// or 0.
+    #[inline(always)]
+    pub fn small_child_bounds<V: Lanes, const M: usize>(&self, end: End, group: &[V]) -> V
+        requires constant { (M ≡ 0) ⊎ (M ≡ length group.now) }
+        requires machines { length group.now ≤ most_machines }
+        requires small { (shop : Shop) × (first : List ℕ) × (last : List ℕ) × IsNode shop first last self.now
+            × (length group.now ≡ shop.machines) × (end_bound shop first last ≤ V.CAP) }
+        ensures { (shop : Shop) (first last jobs : List ℕ) (lane : ℕ) → IsNode shop first last self.now →
+            IsGroup V.list V.CAP V.WIDTH shop jobs group.now → lane < V.WIDTH →
+            has (first ++ last) (slice_index jobs lane) ≡ false →
+            HasLane V.CAP V.WIDTH (V.list result) lane (child_bound shop end first last (slice_index jobs lane)) }
+    {
+        match end {
+            End::Front => front_bounds::<V, M, true>(self, group),
+            End::Back => back_bounds::<V, M, true>(self, group),
         }
     }
 

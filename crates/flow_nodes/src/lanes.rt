@@ -1,13 +1,26 @@
 //! Lanes: numbers side by side.
 
-ghost use Rattle.std.specs.Prelude.{◌≡◌, ℕ, ◌+◌, ◌*◌, ◌<◌, ◌≤◌, ◌↔◌, max, List, length, slice_index, IsBitSet};
+ghost use Rattle.std.specs.Prelude.{◌≡◌, ℕ, ◌+◌, ◌*◌, ◌<◌, ◌≤◌, ◌↔◌, max, List, length, slice_index, sum_by};
+ghost use Rattle.std.specs.Prelude.{IsBitSet};
+ghost use Rattle.std.specs.Int.{bit_at};
 ghost use Rattle.std.proofs.Common.{rules};
 ghost use Rattle.flow_nodes.specs.Lanes.{capped, HasLane};
+ghost use Rattle.flow_nodes.specs.Marks.{picked};
 
 use std::simd::prelude::*;
 
 /// The greatest number of a lane of 16 bits.
 const NARROW_CAP: u32 = 65_535;
+
+/// The bit of each lane, where a lane has 16 bits.
+const NARROW_BITS: [u16; 16] = [
+    1, 2, 4, 8, 16, 32, 64, 128, 256, 512, 1024, 2048, 4096, 8192, 16384, 32768,
+];
+
+/// The bit of each lane, where a lane has 32 bits.
+const WIDE_BITS: [u32; 16] = [
+    1, 2, 4, 8, 16, 32, 64, 128, 256, 512, 1024, 2048, 4096, 8192, 16384, 32768,
+];
 
 /// Numbers side by side. A lane has its number, or the cap where that is less. So for each limit up to the cap, a
 /// number is below the limit exactly where its lane is.
@@ -63,6 +76,15 @@ pub trait Lanes: Copy {
         ensures each { (lane value : ℕ) → HasLane CAP WIDTH (list self) lane value →
             IsBitSet result lane ↔ (value < number) }
         ensures none { (lane : ℕ) → WIDTH ≤ lane → ¬ IsBitSet result lane };
+
+    /// The sum of the lanes whose bits are set in a word.
+    fn sum_marked(self, word: u16) -> u64
+        requires { WIDTH ≡ 16 }
+        ensures small { result ≤ 16 * 4294967295 }
+        ensures sum { (f : ℕ → ℕ) (names : List ℕ) → length names ≡ WIDTH →
+            ((lane : ℕ) → lane < WIDTH → bit_at word lane ≡ 1 →
+            HasLane CAP WIDTH (list self) lane (f (slice_index names lane)) × (f (slice_index names lane) ≤ CAP)) →
+            result ≡ sum_by f (picked word 0 names) };
 
     /// The number of a lane.
     fn at(self, lane: usize) -> u32
@@ -128,6 +150,18 @@ impl Lanes for u16x16 {
     }
 
     #[inline(always)]
+    fn sum_marked(self, word: u16) -> u64 {
+        let bits = u16x16::from_array(NARROW_BITS);
+        let marked = (u16x16::splat(word) & bits).simd_eq(bits);
+        let lanes = marked.select(self, u16x16::splat(0)).to_array();
+        let mut sum = 0;
+        for lane in 0..16 {
+            sum += u32::from(lanes[lane]);
+        }
+        u64::from(sum)
+    }
+
+    #[inline(always)]
     fn at(self, lane: usize) -> u32 {
         u32::from(self.to_array()[lane])
     }
@@ -190,6 +224,18 @@ impl Lanes for u32x16 {
     #[inline(always)]
     fn below(self, number: u32) -> u64 {
         self.simd_lt(u32x16::splat(number)).to_bitmask()
+    }
+
+    #[inline(always)]
+    fn sum_marked(self, word: u16) -> u64 {
+        let bits = u32x16::from_array(WIDE_BITS);
+        let marked = (u32x16::splat(u32::from(word)) & bits).simd_eq(bits);
+        let lanes = marked.select(self, u32x16::splat(0)).to_array();
+        let mut sum = 0;
+        for lane in 0..16 {
+            sum += u64::from(lanes[lane]);
+        }
+        sum
     }
 
     #[inline(always)]

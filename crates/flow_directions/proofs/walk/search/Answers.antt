@@ -51,8 +51,8 @@ returns-then-terms-eq0 g c = record {
 pub walk-init : goal.walk-init
 walk-init g c =
     let shop = c.args.instance.now in
-    let here = c.in_ok-here.here in
-    let made = c.in_ok-here.ensures in
+    let here = c.enter.new.level in
+    let made = c.in_ok-enter.ensures in
     let packs2 = c.enter.new.self.packs.items in
     let nodes2 = c.enter.new.self.nodes.items in
     let levels = c.in_ok-levels.levels.items in
@@ -426,18 +426,18 @@ walk-preserved g c =
     let packs2 = c.go.new.self.packs.items in
     let nodes2 = c.go.new.self.nodes.items in
     let levels = c.walk.levels.items in
-    let levels2 = c.push-in-Some.new.self.items in
-    let parent = c.go.new.here in
-    let child = c.in_ok-child-in-Some.child in
-    let made = c.in_ok-child-in-Some.ensures in
+    let levels2 = c.go.new.levels.items in
+    let made = c.in_ok-go-in-Some.ensures in
+    let parent = made.above_it.0 in
+    let child = c.go.new.here in
     let text = c.walk.directions.items in
-    let text2 = c.push-in-Some-2.new.self.items in
+    let text2 = c.push-in-Some.new.self.items in
     let inv = c.walk.invariant in
     let put = (goal.at.walk-preserved g c).After-put in
     let some = (goal.at.After-put g put).In-Some in
-    let pushed : levels2 ≡ levels ++ parent ∷ [] = c.in_ok-push-in-Some-2.ensures.items in
+    let pushed : levels2 ≡ levels ++ parent ∷ [] = made.above_it.1 in
     let written : text2 ≡ text ++ sign child.end ∷ [] =
-    c.in_ok-push-in-Some-3.ensures.items ∙ ap (λ s. text ++ s ∷ []) c.sign_of-in-Some.ensures in
+    c.in_ok-push-in-Some-2.ensures.items ∙ ap (λ s. text ++ s ∷ []) c.sign_of-in-Some.ensures in
     let more : c.walk.left - 1 + 1 ≡ c.args.left - length levels = omega (arith, inv.left, inv.some) in
     let less : c.walk.left - 1 ≡ c.args.left - length levels - 1 = omega (arith, inv.left, inv.some) in
     record {
@@ -469,9 +469,9 @@ walk-preserved g c =
           (omega (arith, c.requires.few, inv.packs))
           (omega (arith, inv.left, inv.some, c.if-left-eq0.false))
           (λ n none least. made.others n none (omega (arith, least, less)))
-          made.above made.end made.job made.top made.rest
+          made.above made.above_it.2 made.above_it.3 made.above_it.4 made.above_it.5
           (subst (λ n. IsLevel g.V.Lanes.list g.V.Lanes.CAP g.V.Lanes.WIDTH shop number packs2 nodes2 n begin behind
-          parent) more (made.here number begin behind inv.tree is_next))
+          parent) more (made.above_it.6 number begin behind inv.tree is_next))
           (subst (λ n. IsBegun g.V.Lanes.list g.V.Lanes.CAP g.V.Lanes.WIDTH shop number packs2 nodes2 n
           (first_with here.end begin here.job) (last_with here.end behind here.job) child) less
           (made.level number begin behind inv.tree is_next))

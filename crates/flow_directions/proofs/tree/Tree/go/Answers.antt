@@ -4,6 +4,7 @@ use Rattle.flow_shop.specs.Sequences.{jobs_left}
 use Rattle.flow_shop.specs.Directions.{first_with, last_with}
 use Rattle.flow_nodes.specs.Groups.{group_count}
 use Rattle.flow_directions.specs.internal.Levels.{IsLevel, IsNext}
+use Rattle.flow_directions.specs.internal.Tree.{IsTree}
 use Rattle.flow_directions.proofs.LevelMoves.{level-moved, next-count, on-ok}
 use Rattle.flow_directions.proofs.TreeSteps.{fewer-kept}
 use Rattle.flow_directions.proofs.tree.Tree.go.Given.{Over}
@@ -68,8 +69,14 @@ returns-in_err-spot-clause-above g c =
 pub returns-clause-above : goal.returns-clause-above
 returns-clause-above g c = above g (goal.at.returns-clause-above g c).After-enter
 
-pub returns-clause-here : goal.returns-clause-here
-returns-clause-here g c number first last tree next =
+-- the level that is put behind those above it
+stays : (g : Over) (c : After-enter g) (number : ℕ) (first last : List ℕ) →
+    IsTree g.V.Lanes.CAP c.args.instance.now number c.args.self.now →
+    IsNext g.V.Lanes.list g.V.Lanes.CAP g.V.Lanes.WIDTH c.args.instance.now number c.args.self.now.packs.items
+    c.args.self.now.nodes.items (c.args.left + 1) first last c.args.place c.args.here.now →
+    IsLevel g.V.Lanes.list g.V.Lanes.CAP g.V.Lanes.WIDTH c.args.instance.now number c.enter.new.self.packs.items
+    c.enter.new.self.nodes.items (c.args.left + 1) first last c.child-child.new.here
+stays g c number first last tree next =
     let packs2 = c.child-child.new.self.packs.items in
     let packs4 = c.enter.new.self.packs.items in
     let nodes2 = c.child-child.new.self.nodes.items in
@@ -83,16 +90,27 @@ returns-clause-here g c number first last tree next =
     fewer-kept nodes3 nodes4 top c.in_ok-spot.spot.top (omega (arith, low, c.in_ok-spot.ensures.behind))
     c.enter.ensures.above
     ∙ fewer-kept nodes2 nodes3 top c.child-child.result.top low c.settle.ensures.above in
-    on-ok c.enter.result (IsLevel g.V.Lanes.list g.V.Lanes.CAP g.V.Lanes.WIDTH c.args.instance.now number packs4 nodes4
-    left first last here)
-    (level-moved g.V.Lanes.list g.V.Lanes.CAP g.V.Lanes.WIDTH c.args.instance.now number packs2 packs4 nodes2 nodes4
+    level-moved g.V.Lanes.list g.V.Lanes.CAP g.V.Lanes.WIDTH c.args.instance.now number packs2 packs4 nodes2 nodes4
     left
     first last here
     (omega (arith, c.requires.few, ap (λ ps. length ps.items) c.child-child.ensures.packs))
     (ap (λ ps. length ps.items) c.enter.ensures.packs ∙ c.settle.ensures.count)
     (λ none. ap (λ ps. slice_index_or ps.items (group_count left - 1) none) c.enter.ensures.packs
     ∙ c.settle.ensures.others left none (omega arith))
-    same (c.child-child.ensures.level number first last tree next))
+    same (c.child-child.ensures.level number first last tree next)
+
+pub returns-clause-above_it : goal.returns-clause-above_it
+returns-clause-above_it g c =
+    let here = (goal.at.returns-clause-above_it g c).After-enter in
+    on-ok c.enter.result _ (
+      c.child-child.new.here,
+      c.in_ok-push.ensures.items,
+      c.child-child.ensures.end,
+      c.child-child.ensures.job,
+      c.child-child.ensures.top,
+      c.child-child.ensures.rest,
+      stays g here,
+    )
 
 pub returns-clause-level : goal.returns-clause-level
 returns-clause-level g c number first last tree next =
@@ -103,3 +121,9 @@ returns-clause-level g c number first last tree next =
     c.enter.ensures.level number first2 last2 (c.in_ok-spot.ensures.tree number tree2)
     (c.in_ok-spot.ensures.node number first2 last2 tree2
     (c.child-child.ensures.child number first last tree next) counted) counted
+
+pub returns-in_err-push-clause-above : goal.returns-in_err-push-clause-above
+returns-in_err-push-clause-above g c =
+    fewer-kept c.child-child.new.self.nodes.items c.settle.new.self.nodes.items c.args.here.now.top
+    c.child-child.result.top c.child-child.ensures.behind c.settle.ensures.above
+    ∙ c.child-child.ensures.above

@@ -6,6 +6,7 @@ use Rattle.flow_nodes.specs.Packs.{IsPack}
 use Rattle.flow_nodes.specs.PlainEnd.{plain_end_by}
 use Rattle.flow_directions.specs.Search.{bound_sum, count_below}
 use Rattle.flow_nodes.specs.Open.{IsOpenNode}
+use Rattle.flow_nodes.proofs.SpreadSteps.{node-small-bound}
 use Rattle.flow_directions.specs.internal.Tree.{IsOpenAt}
 use Rattle.flow_directions.proofs.TreeSteps.{open-read}
 use Rattle.flow_directions.proofs.EndTaken.{fewer-is, as-many}
@@ -39,15 +40,29 @@ pub sum_of_bounds-front-requires-clause-at : goal.sum_of_bounds-front-requires-c
 sum_of_bounds-front-requires-clause-at g c =
     let here = (goal.at.sum_of_bounds-front-requires-clause-at g c).After-index-pack in
     let at = c.requires.at in
-    let opened = read-is g here at.0 at.1 at.2 at.3 in
-    (at.1, at.2, opened.is_node, pack-is g here at.0 at.1 at.2 at.3, opened.has_left)
+    let opened = read-is g here at.0 at.1 at.2 at.4 in
+    let bound = node-small-bound c.args.instance.now at.1 at.2 c.index-open.result.now.node opened.is_node in (
+      at.1,
+      at.2,
+      opened.is_node,
+      omega (arith, at.4.below, at.3.capped, bound),
+      pack-is g here at.0 at.1 at.2 at.4,
+      opened.has_left,
+    )
 
 pub sum_of_bounds-back-requires-clause-at : goal.sum_of_bounds-back-requires-clause-at
 sum_of_bounds-back-requires-clause-at g c =
     let here = (goal.at.sum_of_bounds-back-requires-clause-at g c).After-index-pack in
     let at = c.requires.at in
-    let opened = read-is g here at.0 at.1 at.2 at.3 in
-    (at.1, at.2, opened.is_node, pack-is g here at.0 at.1 at.2 at.3, opened.has_left)
+    let opened = read-is g here at.0 at.1 at.2 at.4 in
+    let bound = node-small-bound c.args.instance.now at.1 at.2 c.index-open.result.now.node opened.is_node in (
+      at.1,
+      at.2,
+      opened.is_node,
+      omega (arith, at.4.below, at.3.capped, bound),
+      pack-is g here at.0 at.1 at.2 at.4,
+      opened.has_left,
+    )
 
 -- the plain rule by the counts of the node is that by the counts of its children
 counts-are : (g : Over) (c : After-index-open g) (number : ℕ) (first last : List ℕ) (front_sum back_sum : ℕ) →

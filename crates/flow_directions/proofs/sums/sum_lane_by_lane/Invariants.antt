@@ -4,7 +4,7 @@ use Rattle.flow_shop.specs.Sequences.{has}
 use Rattle.flow_nodes.specs.Nodes.{IsNode}
 use Rattle.flow_nodes.specs.Groups.{IsGroup, child_bound}
 use Rattle.flow_nodes.specs.Marks.{picked}
-use Rattle.flow_directions.proofs.sums.sum_of_group.Given as goal
+use Rattle.flow_directions.proofs.sums.sum_lane_by_lane.Given as goal
 
 -- what is left to add makes the whole sum
 abbrev pub invariant-loop-lane : goal.invariant-loop-lane

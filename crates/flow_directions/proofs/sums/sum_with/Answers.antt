@@ -4,8 +4,8 @@ use Rattle.std.proofs.lemmas.List.{drop_all}
 use Rattle.flow_nodes.specs.Groups.{child_bound}
 use Rattle.flow_nodes.specs.Marks.{picked, chosen}
 use Rattle.flow_directions.proofs.BoundSums.{zero-picked, none-chosen, group-sum, group-at}
-use Rattle.flow_directions.proofs.sums.sum_of_bounds.Goals as goal
-use Rattle.flow_directions.proofs.sums.sum_of_bounds.Goals.{then-word-ne0, else-word-ne0}
+use Rattle.flow_directions.proofs.sums.sum_with.Goals as goal
+use Rattle.flow_directions.proofs.sums.sum_with.Goals.{then-word-ne0, else-word-ne0}
 
 -- sixteen names from a place on
 sixteen : (names all : List ℕ) (from : ℕ) → names ≡ all →
@@ -22,10 +22,10 @@ sum_of_group-sum-requires-clause-at g c =
     omega (arith, c.loop-group-test.true, c.len-group-end.ensures, c.args.pack.now.groups.ok.0) in
     let facts = group-at g.V.Lanes.list g.V.Lanes.CAP g.V.Lanes.WIDTH c.args.instance.now at.0 at.1 c.args.pack.now
     c.args.left.now group (take (group * 16 + 16 - group * 16) (drop (group * 16) c.deref.result.now))
-    c.index.result.now c.as_slice.result.now at.3 at.4 long
+    c.index.result.now c.as_slice.result.now at.4 at.5 long
     (sixteen c.deref.result.now c.args.pack.now.names.items (group * 16) c.deref.ensures.value) c.index.ensures
     c.as_slice.ensures.value in
-    (at.0, at.1, at.2, facts.0, facts.1)
+    (at.0, at.1, at.2, at.3, facts.0, facts.1)
 
 pub loop-group-preserved : goal.loop-group-preserved
 loop-group-preserved g c =
@@ -35,7 +35,7 @@ loop-group-preserved g c =
     let long : group < length c.args.pack.now.groups.items =
     omega (arith, c.loop-group-test.true, c.len-group-end.ensures, c.args.pack.now.groups.ok.0) in
     let size : length words ≡ 50 = search rules in
-    let few : group < length words = omega (arith, long, size, c.requires.at.3.room.few) in
+    let few : group < length words = omega (arith, long, size, c.requires.at.4.room.few) in
     elim c.if-word-ne0.branch [
       | then-word-ne0 w ↦ record {
         small = omega (arith, w.sum-is, w.sum_of_group-sum.ensures.small, c.loop-group.invariant.small);

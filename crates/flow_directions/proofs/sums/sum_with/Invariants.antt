@@ -3,7 +3,7 @@ use Rattle.flow_nodes.specs.Groups.{child_bound}
 use Rattle.flow_nodes.specs.Marks.{chosen}
 use Rattle.flow_nodes.specs.Nodes.{IsNode}
 use Rattle.flow_nodes.specs.Packs.{HasLeft, IsPack}
-use Rattle.flow_directions.proofs.sums.sum_of_bounds.Given as goal
+use Rattle.flow_directions.proofs.sums.sum_with.Given as goal
 
 -- what is left to add makes the whole sum
 abbrev pub invariant-loop-group : goal.invariant-loop-group
