@@ -18,6 +18,7 @@ ghost use Rattle.flow_nodes.specs.Packs.{HasLeft, HasRoomFor, IsPack};
 ghost use Rattle.flow_nodes.specs.Open.{AreChildren, HasRoomToOpen, HasStartRoom, IsOpenNode, children_at, start_at};
 ghost use Rattle.flow_nodes.specs.internal.Pairs.{AreRests, IsPaired};
 
+use crate::few_groups::known_or;
 use crate::lanes::Lanes;
 use crate::marks::Marks;
 use crate::node::Node;
@@ -33,11 +34,20 @@ use flow_shop::{End, Instance};
 /// With more machines, passes over several groups end early where they can.
 const LOOKED_AT: usize = 12;
 
+/// The number of groups, which is 1 where the constant says so.
+#[inline(always)]
+fn count_of<const ONE: bool>(groups: usize) -> usize
+    requires { (ONE ≡ false) ⊎ (groups ≡ 1) }
+    ensures { result ≡ groups }
+{
+    if ONE { 1 } else { groups }
+}
+
 impl<V: Lanes> Opener<V> {
     /// Finds the children of a node at an end that are below the number, and when their jobs start there, among the
     /// jobs left that stand in the groups, from what the groups share there.
     #[inline(always)]
-    fn find_children<const M: usize>(
+    fn find_children<const M: usize, const ONE: bool>(
         &self,
         end: End,
         pairs: &EndPairs,
@@ -49,6 +59,7 @@ impl<V: Lanes> Opener<V> {
         requires limit { self.now.limit ≤ V.CAP }
         requires few { length groups.now ≤ most_groups }
         requires constant { (M ≡ 0) ⊎ (M ≡ self.now.machines) }
+        requires one { (ONE ≡ false) ⊎ (length groups.now ≡ 1) }
         requires most { self.now.machines ≤ most_machines }
         requires machines { (group : ℕ) (none : Vec V) → group < length groups.now →
             length (slice_index_or groups.now group none).items ≡ self.now.machines }
@@ -79,9 +90,10 @@ impl<V: Lanes> Opener<V> {
     {
         let sought = Sought {
             limit: self.limit,
-            looks: groups.len() > 1 && self.machines > LOOKED_AT,
+            looks: !ONE && known_or::<M>(self.machines) > LOOKED_AT,
         };
-        for group in 0..groups.len() {
+        let count = count_of::<ONE>(groups.len());
+        for group in 0..count {
             let word = left.words[group];
             if word != 0 {
                 let starts = children.starts[group].as_mut_slice();
@@ -92,14 +104,14 @@ impl<V: Lanes> Opener<V> {
                 children.below.words[group] = 0;
             }
         }
-        children.count = children.below.count(groups.len());
+        children.count = children.below.count(count);
     }
 
     /// Finds the children of a node at an end that are below the number, where its parent has the same list: among
     /// those that are marked, from their starts at the parent, and from the pairs of the time of the jobs left and what
     /// is at the other end. Copies the starts.
     #[inline(always)]
-    fn keep_children<const M: usize>(
+    fn keep_children<const M: usize, const ONE: bool>(
         &self,
         groups: usize,
         rest: &[u32; MAX_MACHINES],
@@ -110,6 +122,7 @@ impl<V: Lanes> Opener<V> {
         requires limit { self.now.limit ≤ V.CAP }
         requires few { groups ≤ most_groups }
         requires constant { (M ≡ 0) ⊎ (M ≡ self.now.machines) }
+        requires one { (ONE ≡ false) ⊎ (groups ≡ 1) }
         requires room { (shop : Shop) × (self.now.machines ≡ shop.machines) × (shop.machines ≤ most_machines)
             × HasStartRoom shop groups parent.now.starts.items × HasStartRoom shop groups children.old.starts.items }
         ensures room { (shop : Shop) (count : ℕ) → HasStartRoom shop count children.old.starts.items →
@@ -132,7 +145,8 @@ impl<V: Lanes> Opener<V> {
         ensures count { (names : List ℕ) → length names ≡ groups * 16 →
             children.new.count ≡ length (chosen children.new.below.words names) }
     {
-        for group in 0..groups {
+        let count = count_of::<ONE>(groups);
+        for group in 0..count {
             let word = children.below.words[group];
             if word != 0 {
                 let starts = children.starts[group].as_mut_slice();
@@ -142,12 +156,12 @@ impl<V: Lanes> Opener<V> {
                 children.below.words[group] = 0;
             }
         }
-        children.count = children.below.count(groups);
+        children.count = children.below.count(count);
     }
 
     /// Opens a node at one end. Its jobs left stand at marked places of a pack.
     #[inline(always)]
-    fn open_at<const M: usize>(
+    fn open_at<const M: usize, const ONE: bool>(
         &self,
         end: End,
         pack: &Pack<V>,
@@ -158,6 +172,7 @@ impl<V: Lanes> Opener<V> {
         requires wide { V.WIDTH ≡ 16 }
         requires limit { self.now.limit ≤ V.CAP }
         requires constant { (M ≡ 0) ⊎ (M ≡ self.now.machines) }
+        requires one { (ONE ≡ false) ⊎ (length pack.now.groups.items ≡ 1) }
         requires at { (shop : Shop) × (number : ℕ) × (first : List ℕ) × (last : List ℕ)
             × IsNode shop first last node.now × IsPack V.list V.CAP V.WIDTH shop pack.now × HasRoomFor shop self.now
             × (self.now.limit ≡ limit_of number) × (end_bound shop first last < number)
@@ -170,7 +185,7 @@ impl<V: Lanes> Opener<V> {
             AreChildren V.list V.CAP V.WIDTH shop number end first last pack.now.names.items left.now children.new }
     {
         let pairs = EndPairs::of::<V, M>(node, end, self.machines);
-        self.find_children::<M>(end, &pairs, pack.groups.as_slice(), left, children);
+        self.find_children::<M, ONE>(end, &pairs, pack.groups.as_slice(), left, children);
     }
 
     /// The same as `open`. The constant is the number of machines, or 0.
@@ -190,8 +205,8 @@ impl<V: Lanes> Opener<V> {
             HasLeft shop first last pack.now.names.items node.old.left →
             IsOpenNode V.list V.CAP V.WIDTH shop number first last pack.now node.new }
     {
-        self.open_at::<M>(End::Front, pack, &node.node, &node.left, &mut node.front);
-        self.open_at::<M>(End::Back, pack, &node.node, &node.left, &mut node.back);
+        self.open_at::<M, false>(End::Front, pack, &node.node, &node.left, &mut node.front);
+        self.open_at::<M, false>(End::Back, pack, &node.node, &node.left, &mut node.back);
     }
 
     /// Opens a node at both ends. Its jobs left stand at marked places of a pack.
@@ -220,9 +235,9 @@ impl<V: Lanes> Opener<V> {
         }
     }
 
-    /// The same as `open_child`. The constant is the number of machines, or 0.
+    /// The same as `open_child`. The constants are the number of machines, or 0, and whether the pack has one group.
     #[inline(never)]
-    fn open_child_of<const M: usize>(
+    fn open_child_of<const M: usize, const ONE: bool>(
         &self,
         instance: &Instance,
         pack: &Pack<V>,
@@ -233,6 +248,7 @@ impl<V: Lanes> Opener<V> {
         requires wide { V.WIDTH ≡ 16 }
         requires limit { self.now.limit ≤ V.CAP }
         requires constant { (M ≡ 0) ⊎ (M ≡ self.now.machines) }
+        requires one { (ONE ≡ false) ⊎ (length pack.now.groups.items ≡ 1) }
         requires at { (number : ℕ) × (first : List ℕ) × (last : List ℕ)
             × IsOpenNode V.list V.CAP V.WIDTH instance.now number first last pack.now parent.now
             × IsPack V.list V.CAP V.WIDTH instance.now pack.now × HasRoomFor instance.now self.now
@@ -261,20 +277,26 @@ impl<V: Lanes> Opener<V> {
         let groups = pack.groups.len();
         match put.end {
             End::Front => {
-                self.open_at::<M>(End::Front, pack, &child.node, &child.left, &mut child.front);
+                self.open_at::<M, ONE>(
+                    End::Front,
+                    pack,
+                    &child.node,
+                    &child.left,
+                    &mut child.front,
+                );
                 child.back.below = parent.back.below;
                 child.back.below.clear(put.place);
                 let node = &child.node;
                 let rest = pairs_of_sums::<V, M>(&node.work, &node.front, self.machines);
-                self.keep_children::<M>(groups, &rest, &parent.back, &mut child.back);
+                self.keep_children::<M, ONE>(groups, &rest, &parent.back, &mut child.back);
             }
             End::Back => {
-                self.open_at::<M>(End::Back, pack, &child.node, &child.left, &mut child.back);
+                self.open_at::<M, ONE>(End::Back, pack, &child.node, &child.left, &mut child.back);
                 child.front.below = parent.front.below;
                 child.front.below.clear(put.place);
                 let node = &child.node;
                 let rest = pairs_of_sums::<V, M>(&node.work, &node.back, self.machines);
-                self.keep_children::<M>(groups, &rest, &parent.front, &mut child.front);
+                self.keep_children::<M, ONE>(groups, &rest, &parent.front, &mut child.front);
             }
         }
     }
@@ -311,11 +333,20 @@ impl<V: Lanes> Opener<V> {
             (first_with put.end first (slice_index pack.now.names.items put.place))
             (last_with put.end last (slice_index pack.now.names.items put.place)) pack.now child.new }
     {
-        match self.machines {
-            5 => self.open_child_of::<5>(instance, pack, parent, put, child),
-            10 => self.open_child_of::<10>(instance, pack, parent, put, child),
-            20 => self.open_child_of::<20>(instance, pack, parent, put, child),
-            _ => self.open_child_of::<0>(instance, pack, parent, put, child),
+        if pack.groups.len() == 1 {
+            match self.machines {
+                5 => self.open_child_of::<5, true>(instance, pack, parent, put, child),
+                10 => self.open_child_of::<10, true>(instance, pack, parent, put, child),
+                20 => self.open_child_of::<20, true>(instance, pack, parent, put, child),
+                _ => self.open_child_of::<0, true>(instance, pack, parent, put, child),
+            }
+        } else {
+            match self.machines {
+                5 => self.open_child_of::<5, false>(instance, pack, parent, put, child),
+                10 => self.open_child_of::<10, false>(instance, pack, parent, put, child),
+                20 => self.open_child_of::<20, false>(instance, pack, parent, put, child),
+                _ => self.open_child_of::<0, false>(instance, pack, parent, put, child),
+            }
         }
     }
 }

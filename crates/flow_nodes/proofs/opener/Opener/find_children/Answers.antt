@@ -32,19 +32,21 @@ loop-group-init g c = record {
 pub index_mut-requires : goal.index_mut-requires
 index_mut-requires g c =
     let room = c.loop-group.invariant.room c.requires.room.0 (length c.args.groups.now) c.requires.room.1 in
-    omega (arith, c.loop-group-test.true, room.enough, c.loop-group.children.starts.ok.0)
+    omega (arith, c.count_of-count.ensures, c.loop-group-test.true, room.enough, c.loop-group.children.starts.ok.0)
 
 pub below_at-below-requires-clause-constant : goal.below_at-below-requires-clause-constant
 below_at-below-requires-clause-constant g c =
     constant-is (ap length c.as_slice-times.ensures.value ∙ ap (λ v. length v.items) c.index-groups-group.is
-    ∙ c.requires.machines c.loop-group.group c.index-groups-group.result c.loop-group-test.true) c.requires.constant
+    ∙ c.requires.machines c.loop-group.group c.index-groups-group.result
+    (omega (arith, c.loop-group-test.true, c.count_of-count.ensures))) c.requires.constant
 
 pub below_at-below-requires-clause-machines : goal.below_at-below-requires-clause-machines
 below_at-below-requires-clause-machines g c = omega (
   arith,
   ap length c.as_slice-times.ensures.value,
   ap (λ v. length v.items) c.index-groups-group.is,
-  c.requires.machines c.loop-group.group c.index-groups-group.result c.loop-group-test.true,
+  c.requires.machines c.loop-group.group c.index-groups-group.result
+      (omega (arith, c.loop-group-test.true, c.count_of-count.ensures)),
   c.requires.most,
 )
 
@@ -56,10 +58,11 @@ below_at-below-requires-clause-starts g c =
       arith,
       ap length c.as_mut_slice-starts.ensures.value,
       ap (λ v. length v.items) c.index_mut.ensures.value,
-      room.machines group c.index_mut.result.now (omega (arith, c.loop-group-test.true, room.enough)),
+      room.machines group c.index_mut.result.now (omega (arith, c.count_of-count.ensures, c.loop-group-test.true, room.enough)),
       ap length c.as_slice-times.ensures.value,
       ap (λ v. length v.items) c.index-groups-group.is,
-      c.requires.room.2 group c.index-groups-group.result c.loop-group-test.true,
+      c.requires.room.2 group c.index-groups-group.result
+          (omega (arith, c.loop-group-test.true, c.count_of-count.ensures)),
     )
 
 pub loop-group-preserved : goal.loop-group-preserved
@@ -74,8 +77,8 @@ loop-group-preserved g c =
     let left = c.args.left.now.words in
     let groups = c.args.groups.now in
     let room = here.room c.requires.room.0 (length groups) c.requires.room.1 in
-    let few : group < length words = omega (arith, here.size, c.loop-group-test.true, c.requires.few) in
-    let long : group < length starts = omega (arith, c.loop-group-test.true, room.enough) in
+    let few : group < length words = omega (arith, here.size, c.count_of-count.ensures, c.loop-group-test.true, c.requires.few) in
+    let long : group < length starts = omega (arith, c.count_of-count.ensures, c.loop-group-test.true, room.enough) in
     elim c.if-word-ne0.branch [
       | then-word-ne0 w ↦
           let written = w.below_at-below.new.starts in
@@ -90,11 +93,13 @@ loop-group-preserved g c =
           λ shop jobs place none there are.
           subst (IsGroup list cap width shop jobs)
           (sym (w.as_slice-times.ensures.value ∙ ap (λ v. v.items) (w.index-groups-group.is
-          ∙ get_or_default groups group w.index-groups-group.result none c.loop-group-test.true)))
+          ∙ get_or_default groups group w.index-groups-group.result none
+          (omega (arith, c.loop-group-test.true, c.count_of-count.ensures)))))
           (subst (λ i. IsGroup list cap width shop jobs (slice_index_or groups i none).items) there are) in
           let machines : length w.as_slice-times.result.now ≡ c.args.self.now.machines =
           ap length w.as_slice-times.ensures.value ∙ ap (λ v. length v.items) w.index-groups-group.is
-          ∙ c.requires.machines group w.index-groups-group.result c.loop-group-test.true in
+          ∙ c.requires.machines group w.index-groups-group.result
+          (omega (arith, c.loop-group-test.true, c.count_of-count.ensures)) in
           let shared : (node : Node) →
           IsPaired g.V.Lanes.pair_of cap c.args.self.now.machines c.args.end node c.args.pairs.now →
           IsPaired g.V.Lanes.pair_of cap (length w.as_slice-times.result.now) c.args.end node c.args.pairs.now =
@@ -223,14 +228,17 @@ returns-clause-room g c = c.loop-group.invariant.room
 
 pub returns-clause-within : goal.returns-clause-within
 returns-clause-within g c place under =
-    c.loop-group.invariant.within place (omega (arith, under, c.loop-group-test.false))
+    c.loop-group.invariant.within place (omega (arith, under, c.count_of-count.ensures, c.loop-group-test.false))
 
 pub returns-clause-exact : goal.returns-clause-exact
 returns-clause-exact g c shop number first last jobs node place none limit is spread under =
     c.loop-group.invariant.exact shop number first last jobs node place none limit is spread
-    (omega (arith, under, c.loop-group-test.false))
+    (omega (arith, under, c.count_of-count.ensures, c.loop-group-test.false))
 
 pub returns-clause-starts : goal.returns-clause-starts
 returns-clause-starts g c shop first last jobs node place machine none zero is spread under =
     c.loop-group.invariant.starts shop first last jobs node place machine none zero is spread
-    (omega (arith, under, c.loop-group-test.false))
+    (omega (arith, under, c.count_of-count.ensures, c.loop-group-test.false))
+
+pub returns-clause-count : goal.returns-clause-count
+returns-clause-count g c names long = c.count-children.ensures names (omega (arith, long, c.count_of-count.ensures))

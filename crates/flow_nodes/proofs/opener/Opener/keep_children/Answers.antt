@@ -30,7 +30,7 @@ loop-group-init g c = record {
 pub index_mut-requires : goal.index_mut-requires
 index_mut-requires g c =
     let room = c.loop-group.invariant.room c.requires.room.0 c.args.groups c.requires.room.4 in
-    omega (arith, c.loop-group-test.true, room.enough, c.loop-group.children.starts.ok.0)
+    omega (arith, c.count_of-count.ensures, c.loop-group-test.true, room.enough, c.loop-group.children.starts.ok.0)
 
 pub keep_starts-bounds-requires-clause-machines : goal.keep_starts-bounds-requires-clause-machines
 keep_starts-bounds-requires-clause-machines g c =
@@ -39,7 +39,7 @@ keep_starts-bounds-requires-clause-machines g c =
       arith,
       ap length c.as_slice.ensures.value,
       ap (λ v. length v.items) c.index.ensures,
-      parent.machines c.loop-group.group c.index.result.now (omega (arith, c.loop-group-test.true, parent.enough)),
+      parent.machines c.loop-group.group c.index.result.now (omega (arith, c.count_of-count.ensures, c.loop-group-test.true, parent.enough)),
       c.requires.room.2,
     )
 
@@ -50,7 +50,7 @@ keep_starts-bounds-requires-clause-constant g c =
       arith,
       ap length c.as_slice.ensures.value,
       ap (λ v. length v.items) c.index.ensures,
-      parent.machines c.loop-group.group c.index.result.now (omega (arith, c.loop-group-test.true, parent.enough)),
+      parent.machines c.loop-group.group c.index.result.now (omega (arith, c.count_of-count.ensures, c.loop-group-test.true, parent.enough)),
       c.requires.room.1,
     )) c.requires.constant
 
@@ -63,10 +63,10 @@ keep_starts-bounds-requires-clause-kept g c =
       arith,
       ap length c.as_mut_slice-starts.ensures.value,
       ap (λ v. length v.items) c.index_mut.ensures.value,
-      room.machines group c.index_mut.result.now (omega (arith, c.loop-group-test.true, room.enough)),
+      room.machines group c.index_mut.result.now (omega (arith, c.count_of-count.ensures, c.loop-group-test.true, room.enough)),
       ap length c.as_slice.ensures.value,
       ap (λ v. length v.items) c.index.ensures,
-      parent.machines group c.index.result.now (omega (arith, c.loop-group-test.true, parent.enough)),
+      parent.machines group c.index.result.now (omega (arith, c.count_of-count.ensures, c.loop-group-test.true, parent.enough)),
     )
 
 pub loop-group-preserved : goal.loop-group-preserved
@@ -82,9 +82,9 @@ loop-group-preserved g c =
     let before_all = c.args.children.now.below.words in
     let room = here.room c.requires.room.0 c.args.groups c.requires.room.4 in
     let parent = c.requires.room.3 in
-    let few : group < length words = omega (arith, here.size, c.loop-group-test.true, c.requires.few) in
-    let long : group < length starts = omega (arith, c.loop-group-test.true, room.enough) in
-    let old_long : group < length old = omega (arith, c.loop-group-test.true, parent.enough) in
+    let few : group < length words = omega (arith, here.size, c.count_of-count.ensures, c.loop-group-test.true, c.requires.few) in
+    let long : group < length starts = omega (arith, c.count_of-count.ensures, c.loop-group-test.true, room.enough) in
+    let old_long : group < length old = omega (arith, c.count_of-count.ensures, c.loop-group-test.true, parent.enough) in
     let still : (place : ℕ) → place / 16 ≡ group → mark words place ≡ mark before_all place =
     λ place there. here.later place (omega (arith, there)) in
     elim c.if-word-ne0.branch [
@@ -235,13 +235,16 @@ returns-clause-room g c = c.loop-group.invariant.room
 
 pub returns-clause-within : goal.returns-clause-within
 returns-clause-within g c place under =
-    c.loop-group.invariant.within place (omega (arith, under, c.loop-group-test.false))
+    c.loop-group.invariant.within place (omega (arith, under, c.count_of-count.ensures, c.loop-group-test.false))
 
 pub returns-clause-exact : goal.returns-clause-exact
 returns-clause-exact g c shop number end first last job node place limit room is rests range fresh under =
     c.loop-group.invariant.exact shop number end first last job node place limit room is rests range fresh
-    (omega (arith, under, c.loop-group-test.false))
+    (omega (arith, under, c.count_of-count.ensures, c.loop-group-test.false))
 
 pub returns-clause-copied : goal.returns-clause-copied
 returns-clause-copied g c place none under =
-    c.loop-group.invariant.copied place none (omega (arith, under, c.loop-group-test.false))
+    c.loop-group.invariant.copied place none (omega (arith, under, c.count_of-count.ensures, c.loop-group-test.false))
+
+pub returns-clause-count : goal.returns-clause-count
+returns-clause-count g c names long = c.count-children.ensures names (omega (arith, long, c.count_of-count.ensures))
