@@ -21,3 +21,4 @@ pub mod LeftBelow
 pub mod PairSteps
 pub mod PairLanes
 pub mod PassSteps
+pub mod ScanSteps

@@ -16,6 +16,7 @@ mod pack;
 mod pairs;
 mod passes;
 mod plain_end;
+mod scan;
 mod single;
 mod starts;
 

@@ -13,6 +13,7 @@ ghost use Rattle.flow_nodes.specs.Groups.{IsCappedBound, child_bound};
 ghost use Rattle.flow_nodes.specs.Nodes.{IsJob, IsMachine, IsNode, work};
 
 use crate::few_groups::known_or;
+use crate::scan::{FOUR, fewer_of_four};
 use crate::single::{greater, number_of, single, sum};
 use flow_limits::MAX_MACHINES;
 use flow_shop::{End, Instance, Row};
@@ -174,8 +175,10 @@ fn work_without(
     ensures { (place : ℕ) → place < machines →
         slice_index fewer.new place + slice_index times.now place ≡ slice_index works.now place }
 {
-    for place in 0..machines {
-        fewer[place] = works[place] - times[place];
+    let mut at = 0;
+    'fours: while at < machines {
+        fewer_of_four(works, times, at.min(MAX_MACHINES - FOUR), fewer);
+        at += FOUR;
     }
 }
 
