@@ -2,10 +2,11 @@
 use Rattle.std.proofs.Common.{◌≡◌, ℕ, zero, suc, ◌+◌, ◌*◌, ◌/◌, ◌%◌, ◌^◌, ◌<◌, ◌≤◌, List, [], ◌∷◌, length, drop, take}
 use Rattle.std.proofs.Common.{get_or, refl, ap, ◌∙◌, inl, inr, arith}
 use Rattle.std.specs.Prelude.{replicate}
-use Rattle.std.specs.Simd.Lanes.{Each1, number_l, digits_l}
+use Rattle.std.specs.Simd.Lanes.{Each1, number_l, digits_l, zip2}
 use Rattle.std.proofs.lemmas.Bool.{cases_eq}
 use Rattle.std.proofs.lemmas.List.{get_or-drop}
 use Rattle.std.proofs.lemmas.Simd.{Each1-replicate, get_or-replicate, get_or_narrower, get_or_wider}
+use Rattle.std.proofs.lemmas.Simd.{length-zip2, get_or-zip2}
 use Rattle.flow_nodes.specs.Lanes.{HasLane}
 
 -- digits are below their base, and as many as were asked for
@@ -78,3 +79,20 @@ from-pair number pair lane fits is low =
             ∙ omega arith
       ];
     }
+
+-- four numbers times 65537
+abbrev pub twice : List ℕ → List ℕ
+twice four = zip2 (λ a b. a * b % 2 ^ 32) four (replicate 4 65537)
+
+pub twice-size : (four : List ℕ) → length four ≡ 4 → length (twice four) ≡ 4
+twice-size four size = length-zip2 (λ a b. a * b % 2 ^ 32) four (replicate 4 65537) size ∙ size
+
+small-product : (x : ℕ) → x ≤ 65535 → x * 65537 % 4294967296 ≡ x * 65537
+small-product x small = omega arith
+
+pub twice-each : (four : List ℕ) → length four ≡ 4 → (place : ℕ) → place < 4 → get_or four place 0 ≤ 65535 →
+    get_or (twice four) place 0 ≡ get_or four place 0 * 65537
+twice-each four size place low small =
+    get_or-zip2 (λ a b. a * b % 2 ^ 32) four (replicate 4 65537) place 0 0 0 (omega (arith, size)) low
+    ∙ ap (λ n. get_or four place 0 * n % 2 ^ 32) (get_or-replicate 4 place 65537 0 low)
+    ∙ small-product (get_or four place 0) small

@@ -50,10 +50,13 @@ pub trait Lanes: Copy {
     /// What stands for a number in `from_pair`.
     ghost pair_of: { ℕ → ℕ };
 
-    /// A number twice, side by side in the halves of 32 bits, where lanes have 16 bits; else the number.
-    fn pair(number: u32) -> u32
-        requires { number ≤ CAP }
-        ensures { result ≡ pair_of number };
+    /// Of each of four numbers that is no greater than the cap: the number twice, side by side in the halves of 32 bits,
+    /// where lanes have 16 bits; else the number.
+    fn pairs(four: u32x4) -> u32x4
+        requires { length four ≡ 4 }
+        ensures size { length result ≡ 4 }
+        ensures each { (place : ℕ) → place < 4 → slice_index four place ≤ CAP →
+            slice_index result place ≡ pair_of (slice_index four place) };
 
     /// The number of a pair in all lanes.
     fn from_pair(pair: u32) -> Self
@@ -125,8 +128,8 @@ impl Lanes for u16x16 {
     ghost pair_of = { λ number. number * 65537 };
 
     #[inline(always)]
-    fn pair(number: u32) -> u32 {
-        number * 65_537
+    fn pairs(four: u32x4) -> u32x4 {
+        four * u32x4::splat(65_537)
     }
 
     #[inline(always)]
@@ -202,8 +205,8 @@ impl Lanes for u32x16 {
     ghost pair_of = { λ number. number };
 
     #[inline(always)]
-    fn pair(number: u32) -> u32 {
-        number
+    fn pairs(four: u32x4) -> u32x4 {
+        four
     }
 
     #[inline(always)]

@@ -7,6 +7,7 @@ ghost use Rattle.flow_nodes.specs.internal.Pairs.{IsPaired, fits_at};
 use crate::few_groups::known_or;
 use crate::lanes::Lanes;
 use crate::node::Node;
+use crate::scan::{FOUR, four_of, put_four};
 use flow_limits::MAX_MACHINES;
 use flow_shop::End;
 
@@ -33,8 +34,11 @@ fn pairs_of<V: Lanes, const M: usize>(
 {
     let mut pairs = [0; MAX_MACHINES];
     let count = known_or::<M>(machines);
-    for place in 0..count {
-        pairs[place] = V::pair(numbers[place]);
+    let mut at = 0;
+    'fours: while at < count {
+        let from = at.min(MAX_MACHINES - FOUR);
+        put_four(V::pairs(four_of(numbers, from)), from, &mut pairs);
+        at += FOUR;
     }
     pairs
 }
@@ -57,8 +61,12 @@ pub(crate) fn pairs_of_sums<V: Lanes, const M: usize>(
 {
     let mut pairs = [0; MAX_MACHINES];
     let count = known_or::<M>(machines);
-    for place in 0..count {
-        pairs[place] = V::pair(first[place] + second[place]);
+    let mut at = 0;
+    'fours: while at < count {
+        let from = at.min(MAX_MACHINES - FOUR);
+        let sums = four_of(first, from) + four_of(second, from);
+        put_four(V::pairs(sums), from, &mut pairs);
+        at += FOUR;
     }
     pairs
 }

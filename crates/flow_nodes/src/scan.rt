@@ -10,7 +10,7 @@ pub(crate) const FOUR: usize = 4;
 
 /// The numbers of four machines, from that at a place on.
 #[inline(always)]
-fn four_of(numbers: &[u32; MAX_MACHINES], at: usize) -> u32x4
+pub(crate) fn four_of(numbers: &[u32; MAX_MACHINES], at: usize) -> u32x4
     requires at { at ≤ 22 }
     ensures size { length result ≡ 4 }
     ensures each { (lane : ℕ) → lane < 4 → slice_index result lane ≡ slice_index numbers.now (at + lane) }
@@ -21,7 +21,7 @@ fn four_of(numbers: &[u32; MAX_MACHINES], at: usize) -> u32x4
 
 /// Writes the numbers of four machines, from that at a place on.
 #[inline(always)]
-fn put_four(four: u32x4, at: usize, numbers: &mut [u32; MAX_MACHINES])
+pub(crate) fn put_four(four: u32x4, at: usize, numbers: &mut [u32; MAX_MACHINES])
     requires at { at ≤ 22 }
     requires four { length four ≡ 4 }
     ensures each { (lane place : ℕ) → lane < 4 → place ≡ at + lane →
