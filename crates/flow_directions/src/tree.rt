@@ -146,9 +146,10 @@ impl<V: Lanes> Tree<V> {
         })
     }
 
-    /// Grows the list to so many nodes, where it has fewer.
+    /// Makes nodes behind those of the list, until they are so many.
+    #[cold]
     #[inline(never)]
-    pub(crate) fn grow(&mut self, instance: &Instance, count: usize) -> Result<(), AllocError>
+    fn add_nodes(&mut self, instance: &Instance, count: usize) -> Result<(), AllocError>
         requires few { length self.old.packs.items ≤ 50 }
         ensures tree { (number : ℕ) → IsTree V.CAP instance.now number self.old →
             IsTree V.CAP instance.now number self.new }
@@ -160,6 +161,23 @@ impl<V: Lanes> Tree<V> {
         'nodes: while self.nodes.len() < count {
             let node = OpenNode::new(self.alloc, instance, self.packs.len())?;
             self.nodes.push(node)?;
+        }
+        Ok(())
+    }
+
+    /// Grows the list to so many nodes, where it has fewer.
+    #[inline(always)]
+    pub(crate) fn grow(&mut self, instance: &Instance, count: usize) -> Result<(), AllocError>
+        requires few { length self.old.packs.items ≤ 50 }
+        ensures tree { (number : ℕ) → IsTree V.CAP instance.now number self.old →
+            IsTree V.CAP instance.now number self.new }
+        ensures packs { self.new.packs ≡ self.old.packs }
+        ensures begin { take (length self.old.nodes.items) self.new.nodes.items ≡ self.old.nodes.items }
+        ensures more { length self.old.nodes.items ≤ length self.new.nodes.items }
+        ensures size { OnOk result (count ≤ length self.new.nodes.items) }
+    {
+        if self.nodes.len() < count {
+            return self.add_nodes(instance, count);
         }
         Ok(())
     }

@@ -3,7 +3,7 @@ use Rattle.std.proofs.Common.{subst, arith}
 use Rattle.std.proofs.lemmas.List.{take-append-le}
 use Rattle.flow_nodes.specs.Open.{HasRoomToOpen}
 use Rattle.flow_directions.proofs.TreeSteps.{each-push}
-use Rattle.flow_directions.proofs.tree.Tree.grow.Goals as goal
+use Rattle.flow_directions.proofs.tree.Tree.add_nodes.Goals as goal
 
 pub nodes-preserved : goal.nodes-preserved
 nodes-preserved g c =

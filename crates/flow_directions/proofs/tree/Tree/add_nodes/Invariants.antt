@@ -1,6 +1,6 @@
 use Rattle.std.proofs.Common.{◌≡◌, ℕ, ◌-◌, ◌≤◌, length, take}
 use Rattle.flow_directions.specs.internal.Tree.{IsTree}
-use Rattle.flow_directions.proofs.tree.Tree.grow.Given as goal
+use Rattle.flow_directions.proofs.tree.Tree.add_nodes.Given as goal
 
 -- the nodes so far
 abbrev pub invariant-nodes : goal.invariant-nodes
