@@ -1,4 +1,5 @@
 pub mod LaneSteps
+pub mod ByteSteps
 pub mod NodeSteps
 pub mod KeptNodes
 pub mod ChildSteps

@@ -1,3 +1,4 @@
 pub mod Children
 pub mod Spread
 pub mod Small
+pub mod Bytes
