@@ -1,5 +1,5 @@
 -- What the operations on vectors of bytes do to a lane, and how late jobs are, machine by machine.
-use Rattle.std.proofs.Common.{◌≡◌, ◌≢◌, ℕ, suc, ◌+◌, ◌-◌, ◌*◌, ◌%◌, ◌^◌, ◌<◌, ◌≤◌, min, max, false, cond, ltb, List, ◌∷◌, [], ◌++◌}
+use Rattle.std.proofs.Common.{◌≡◌, ℕ, ◌+◌, ◌-◌, ◌%◌, ◌^◌, ◌<◌, ◌≤◌, min, max, false, cond, ltb, List, ◌++◌}
 use Rattle.std.proofs.Common.{length, map, get_or, slice_index, slice_index_or, ap, sym, ◌∙◌, subst, inl, inr, arith, w8}
 use Rattle.std.proofs.Common.{◌⊎◌, ◌/◌, bit_and, set}
 use Rattle.std.specs.Prelude.{IsBitSet}

@@ -90,9 +90,11 @@ module _ {V : Type 0} (list : V → List ℕ) (cap width : ℕ) (shop : Shop) (n
       ∙ marked-left shop.jobs (first ++ last) left.words names has_left place inside was in (
         λ marked.
             let stays = below_kept place within marked in
-            let was = kept_left place within stays in
-            (was, (Decides-ltb (bound (slice_index names place)) number).1
-                (subst (λ job. bound job < number) named ((exact jobs place none within are stays (fresh was)).0 marked))),
+            let was = kept_left place within stays in (
+              was,
+              (Decides-ltb (bound (slice_index names place)) number).1
+                  (subst (λ job. bound job < number) named ((exact jobs place none within are stays (fresh was)).0 marked)),
+            ),
         λ both.
             let under : bound (slice_index jobs (place % 16)) < number =
             subst (λ job. bound job < number) (sym named)

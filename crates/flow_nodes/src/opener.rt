@@ -30,7 +30,7 @@ use std::alloc::{AllocError, Global};
 use std::simd::prelude::*;
 
 /// So many groups or fewer are looked at with no vectors that they share.
-const FEW_GROUPS: usize = 3;
+pub(crate) const FEW_GROUPS: usize = 3;
 
 /// Opens nodes: finds their children below a number. It has memory for what the groups of a node share.
 #[derive(Drop)]

@@ -11,6 +11,7 @@ ghost use Rattle.flow_nodes.specs.Packs.{AreBytes, HasByteRoom, HasRoom, IsPack,
 use crate::group::{LANES, turn_group};
 use crate::lanes::Lanes;
 use crate::marks::Marks;
+use crate::opener::FEW_GROUPS;
 use flow_shop::{Instance, Row};
 use std::alloc::{AllocError, Global};
 use std::simd::prelude::*;
@@ -61,7 +62,7 @@ impl<V: Lanes> Pack<V> {
         })
     }
 
-    /// A pack with room for so many groups, and for their times in bytes.
+    /// A pack with room for so many groups; and where they are not few, for their times in bytes.
     pub fn with_bytes(
         alloc: Global,
         instance: &Instance,
@@ -73,8 +74,9 @@ impl<V: Lanes> Pack<V> {
         ensures bytes { IfOk result (λ pack. HasByteRoom instance.now pack) }
     {
         let machines = instance.machines() as usize;
-        let mut bytes = Vec::with_capacity(alloc, count)?;
-        'groups: while bytes.len() < count {
+        let wanted = if count > FEW_GROUPS { count } else { 0 };
+        let mut bytes = Vec::with_capacity(alloc, wanted)?;
+        'groups: while bytes.len() < wanted {
             bytes.push(vec![in alloc; u8x16::splat(0); machines]?)?;
         }
         let Pack { groups, names, .. } = Pack::new(alloc, instance, count)?;

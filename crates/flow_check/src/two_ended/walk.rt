@@ -1,6 +1,6 @@
 //! The walk through the nodes that directions open: where the directions end that prove a number.
 
-ghost use Rattle.std.specs.Prelude.{◌≡◌, ◌≢◌, ◌⊎◌, ℕ, ◌+◌, ◌-◌, ◌*◌, ◌%◌, ◌≤◌, ◌<◌, false, List, [], ◌∷◌, ◌++◌};
+ghost use Rattle.std.specs.Prelude.{◌≡◌, ◌≢◌, ◌⊎◌, ℕ, ◌+◌, ◌-◌, ◌*◌, ◌%◌, ◌≤◌, ◌<◌, true, false, List, [], ◌∷◌, ◌++◌};
 ghost use Rattle.std.specs.Prelude.{length, drop, take, slice_index, slice_index_or, Err, IfOk, IfErr, IfSome, IfNone};
 ghost use Rattle.flow_limits.specs.Limits.{most_jobs};
 ghost use Rattle.flow_shop.specs.Shop.{Shop};
@@ -20,9 +20,7 @@ ghost use Rattle.flow_check.specs.declared.fault.CheckFault.TheVariants.{Memory}
 
 use crate::fault::CheckFault;
 use crate::two_ended::DIRECTIONS;
-use flow_nodes::{
-    LANES, Lanes, Marks, Node, Opener, Pack, fits_narrow_lanes, limit_of,
-};
+use flow_nodes::{LANES, Lanes, Marks, Node, Opener, Pack, fits_narrow_lanes, limit_of};
 use flow_shop::{End, Instance, Row, rows};
 use std::alloc::{AllocError, Global};
 use std::simd::prelude::*;
@@ -153,6 +151,20 @@ fn pack_groups(left: u16) -> usize
         (left + (LANES - 1)) / LANES
     } else {
         (left + (FINE_JOBS - 1)) / FINE_JOBS * FINE_GROUPS
+    }
+}
+
+/// Whether a pack of fewer groups is enough for so many jobs left than for one more.
+#[inline(always)]
+fn fits_fewer(left: u16) -> bool
+    ensures fewer { result ≡ true → pack_groups left < pack_groups (left + 1) }
+    ensures same { result ≡ false → pack_groups (left + 1) ≤ pack_groups left }
+{
+    let left = usize::from(left);
+    if left <= FINE_JOBS {
+        left % LANES == 0
+    } else {
+        left % FINE_JOBS == 0
     }
 }
 
@@ -437,7 +449,7 @@ impl<V: Lanes> Path<V> {
             (names_at self.new.packs.items (pack_groups left - 1)) (here self.new).left }
     {
         self.put::<M>(instance, rows, place);
-        if pack_groups(left) < pack_groups(left + 1) {
+        if fits_fewer(left) {
             self.pack(instance, rows, left);
         }
     }

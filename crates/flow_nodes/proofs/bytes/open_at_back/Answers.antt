@@ -1,10 +1,9 @@
-use Rattle.std.proofs.Common.{◌≡◌, ℕ, ◌+◌, ◌-◌, ◌<◌, ◌≤◌, min, max, List, ◌∷◌, length, map, slice_index, slice_index_or}
-use Rattle.std.proofs.Common.{refl, ap, sym, ◌∙◌, subst, inl, inr, arith}
+use Rattle.std.proofs.Common.{◌≡◌, ℕ, ◌+◌, ◌-◌, ◌≤◌, min, max, ◌∷◌, length, map, slice_index}
+use Rattle.std.proofs.Common.{refl, ap, subst, inl, inr, arith}
 use Rattle.std.proofs.lemmas.Bool.{cases_lt}
 use Rattle.flow_shop.specs.Shop.{numbers, time}
 use Rattle.flow_shop.specs.Least.{greatest}
 use Rattle.flow_shop.specs.Ends.{back}
-use Rattle.flow_nodes.specs.Lanes.{HasLane}
 use Rattle.flow_nodes.specs.internal.Children.{back_child_at}
 use Rattle.flow_nodes.proofs.ByteSteps.{late-start, reached-back}
 use Rattle.flow_nodes.proofs.ChildSteps.{back-next, back-greatest}

@@ -1,18 +1,12 @@
-use Rattle.std.proofs.Common.{◌≡◌, ℕ, ◌+◌, ◌-◌, ◌<◌, ◌≤◌, min, max, List, [], ◌∷◌, ◌++◌, length, map, slice_index, slice_index_or}
-use Rattle.std.proofs.Common.{refl, ap, sym, ◌∙◌, subst, inl, inr, arith}
+use Rattle.std.proofs.Common.{◌≡◌, ℕ, ◌+◌, ◌-◌, ◌<◌, ◌≤◌, min, max, [], ◌∷◌, ◌++◌, length, map, slice_index}
+use Rattle.std.proofs.Common.{refl, ap, subst, inl, inr, arith}
 use Rattle.std.proofs.lemmas.Bool.{cases_lt}
-use Rattle.flow_shop.specs.Shop.{Shop, numbers, time}
+use Rattle.flow_shop.specs.Shop.{numbers, time}
 use Rattle.flow_shop.specs.Least.{greatest}
 use Rattle.flow_shop.specs.Ends.{front}
-use Rattle.flow_shop.specs.declared.end.End.TheVariants.{Front}
-use Rattle.flow_nodes.specs.Lanes.{HasLane}
-use Rattle.flow_nodes.specs.Nodes.{IsNode}
-use Rattle.flow_nodes.specs.Groups.{IsGroup}
-use Rattle.flow_nodes.specs.internal.Bytes.{HaveGaps, gap_at}
 use Rattle.flow_nodes.specs.internal.Children.{front_child_at}
-use Rattle.flow_nodes.specs.declared.node.Node.{Node}
 use Rattle.flow_nodes.proofs.ByteSteps.{byte-at, late-start, reached}
-use Rattle.flow_nodes.proofs.ChildSteps.{are-at, front-none, front-next, front-greatest}
+use Rattle.flow_nodes.proofs.ChildSteps.{front-next, front-greatest}
 use Rattle.flow_nodes.proofs.bytes.open_at_front.Goals as goal
 
 pub loop-place-init : goal.loop-place-init

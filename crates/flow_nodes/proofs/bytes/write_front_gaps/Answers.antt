@@ -1,4 +1,4 @@
-use Rattle.std.proofs.Common.{◌≡◌, ℕ, ◌+◌, ◌-◌, ◌<◌, min, List, length, slice_index, ap, sym, ◌∙◌, subst, arith}
+use Rattle.std.proofs.Common.{◌≡◌, ℕ, ◌-◌, ◌<◌, length, slice_index, ap, subst, arith}
 use Rattle.flow_nodes.specs.Lanes.{HasLane}
 use Rattle.flow_nodes.proofs.SpreadSteps.{spread-more}
 use Rattle.flow_nodes.proofs.bytes.write_front_gaps.Goals as goal
@@ -20,5 +20,5 @@ loop-place-preserved c =
 pub returns : goal.returns
 returns c = record {
   gaps = λ place lane none low within. c.loop-place.invariant.done place lane none
-    (omega (arith, low, c.loop-place-test.false, c.loop-place.auto.gaps)) within;
+      (omega (arith, low, c.loop-place-test.false, c.loop-place.auto.gaps)) within;
 }

@@ -1,5 +1,4 @@
 use Rattle.std.proofs.Common.{sym, subst, arith}
-use Rattle.flow_shop.specs.declared.end.End.TheVariants.{Front, Back}
 use Rattle.flow_nodes.specs.internal.Bytes.{HaveGaps}
 use Rattle.flow_nodes.proofs.bytes.write_gaps.Goals as goal
 

@@ -1,4 +1,4 @@
-use Rattle.std.proofs.Common.{◌≡◌, ℕ, ◌+◌, ◌-◌, ◌<◌, min, List, length, slice_index, ap, sym, ◌∙◌, subst, arith}
+use Rattle.std.proofs.Common.{◌≡◌, ℕ, ◌+◌, ◌-◌, ◌<◌, length, slice_index, subst, arith}
 use Rattle.flow_nodes.specs.Lanes.{HasLane}
 use Rattle.flow_nodes.proofs.SpreadSteps.{spread-more}
 use Rattle.flow_nodes.proofs.bytes.write_slacks.Goals as goal

@@ -1,4 +1,4 @@
-use Rattle.std.proofs.Common.{ℕ, ◌+◌, ◌-◌, ◌<◌, min, List, slice_index, slice_index_or}
+use Rattle.std.proofs.Common.{ℕ, ◌+◌, ◌-◌, ◌<◌, List, slice_index, slice_index_or}
 use Rattle.flow_nodes.specs.Lanes.{HasLane}
 use Rattle.flow_nodes.proofs.bytes.write_slacks.Given as goal
 

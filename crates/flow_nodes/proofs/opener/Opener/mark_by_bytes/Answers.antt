@@ -1,8 +1,7 @@
-use Rattle.std.proofs.Common.{◌≡◌, ◌⊎◌, ℕ, List, ◌*◌, ◌/◌, ◌%◌, ◌<◌, ◌≤◌, length, slice_index_or, take, drop, refl, ap, sym, ◌∙◌, subst, arith}
+use Rattle.std.proofs.Common.{◌≡◌, ℕ, List, ◌/◌, ◌<◌, length, slice_index_or, refl, ap, sym, ◌∙◌, subst, arith}
 use Rattle.flow_shop.specs.Rows.{AreRows}
 use Rattle.flow_shop.proofs.Lists.{some-of}
 use Rattle.flow_nodes.specs.Groups.{IsGroup}
-use Rattle.flow_nodes.specs.Packs.{AreBytes}
 use Rattle.flow_nodes.specs.internal.Bytes.{HaveSlacks}
 use Rattle.flow_nodes.proofs.LeftBelow.{kept-left-below}
 use Rattle.flow_nodes.proofs.SpreadSteps.{node-small-bound}
@@ -107,5 +106,8 @@ returns-else-union-ne0-clause-below g c shop number first last limit is is_pack 
     said.gaps (subst (λ n. HaveSlacks n c.args.node.now c.write_bytes.new.self.slacks.items) (sym said.limit) said.slacks)
     within times was fresh)
     (λ jobs place none low are stays fresh.
-    absurd (omega (arith, stays,
-    c.mark_open-union.ensures.none c.if-union-ne0.false place (omega (arith, low, long)))))
+    absurd (omega (
+      arith,
+      stays,
+      c.mark_open-union.ensures.none c.if-union-ne0.false place (omega (arith, low, long)),
+    )))

@@ -89,8 +89,12 @@ loop-group-preserved g c =
             elim c.if-word-ne0.branch [
               | then-word-ne0 w ↦
                   ap (λ m. mark m.words place) w.kept-is ∙ mark-elsewhere words group _ place apart
-                  ∙ here.none (omega (arith, le_or_l c.loop-group.union (bit_and w.open_lanes-bits.result w.from.result),
-                  w.union-is, empty)) place before
+                  ∙ here.none (omega (
+                    arith,
+                    le_or_l c.loop-group.union (bit_and w.open_lanes-bits.result w.from.result),
+                    w.union-is,
+                    empty,
+                  )) place before
               | else-word-ne0 w ↦
                   ap (λ m. mark m.words place) w.kept-is ∙ mark-elsewhere words group _ place apart
                   ∙ here.none (omega (arith, w.union-is, empty)) place before
@@ -101,8 +105,12 @@ loop-group-preserved g c =
               | then-word-ne0 w ↦
                   ap (λ m. mark m.words place) w.kept-is
                   ∙ kept-none words group (bit_and w.open_lanes-bits.result w.from.result) place few there
-                  (omega (arith, le_or_r c.loop-group.union (bit_and w.open_lanes-bits.result w.from.result),
-                  w.union-is, empty))
+                  (omega (
+                    arith,
+                    le_or_r c.loop-group.union (bit_and w.open_lanes-bits.result w.from.result),
+                    w.union-is,
+                    empty,
+                  ))
               | else-word-ne0 w ↦
                   ap (λ m. mark m.words place) w.kept-is
                   ∙ none-written left words group _ place few refl w.if-word-ne0.false there

@@ -1,7 +1,7 @@
 use Rattle.std.proofs.Common.{◌≡◌, ℕ, ◌*◌, ◌<◌, List, length, slice_index_or, take, drop}
 use Rattle.std.specs.Global.{Vec}
 use Rattle.flow_nodes.specs.Groups.{IsGroup}
-use Rattle.flow_nodes.specs.Packs.{HasByteRoom, HasRoom}
+use Rattle.flow_nodes.specs.Packs.{HasByteRoom}
 use Rattle.flow_nodes.proofs.pack.Pack.load_bytes.Given as goal
 
 -- the groups so far have their times

@@ -41,8 +41,8 @@ pack-requires-clause-count g c =
     ∙ ap length left
     ∙ count
 
-pub returns-then-pack_groups-clause-packs : goal.returns-then-pack_groups-clause-packs
-returns-then-pack_groups-clause-packs g c =
+pub returns-then-fits_fewer-clause-packs : goal.returns-then-fits_fewer-clause-packs
+returns-then-fits_fewer-clause-packs g c =
     let shop = c.args.instance.now in
     let list = g.V.Lanes.list in
     let cap = g.V.Lanes.CAP in
@@ -52,8 +52,8 @@ returns-then-pack_groups-clause-packs g c =
     packs-packed list cap width shop c.args.left c.put.new.self.packs.items c.pack.new.self.packs.items
     c.requires.some put c.pack.ensures.packs c.pack.ensures.others c.pack.ensures.pack c.pack.ensures.bytes
 
-pub returns-else-pack_groups-clause-packs : goal.returns-else-pack_groups-clause-packs
-returns-else-pack_groups-clause-packs g c =
+pub returns-else-fits_fewer-clause-packs : goal.returns-else-fits_fewer-clause-packs
+returns-else-fits_fewer-clause-packs g c =
     let shop = c.args.instance.now in
     let list = g.V.Lanes.list in
     let cap = g.V.Lanes.CAP in
@@ -61,10 +61,10 @@ returns-else-pack_groups-clause-packs g c =
     let put : ArePacks list cap width shop (c.args.left + 1) c.put.new.self.packs.items =
     subst (λ ps. ArePacks list cap width shop (c.args.left + 1) ps.items) (sym c.put.ensures.packs) c.requires.packs in
     packs-below list cap width shop c.args.left c.put.new.self.packs.items
-    (omega (arith, c.if-pack_groups.false, c.pack_groups.ensures, c.pack_groups-2.ensures)) c.requires.few put
+    (omega (arith, c.fits_fewer.ensures.same c.if-fits_fewer.false)) c.requires.few put
 
-pub returns-then-pack_groups-clause-names : goal.returns-then-pack_groups-clause-names
-returns-then-pack_groups-clause-names g c more low high =
+pub returns-then-fits_fewer-clause-names : goal.returns-then-fits_fewer-clause-names
+returns-then-fits_fewer-clause-names g c more low high =
     let old = c.args.self.now.packs.items in
     let at = pack_groups more - 1 in
     let within : at < length old = omega (arith, low, high, c.requires.packs.have.count, c.requires.some) in
@@ -76,24 +76,24 @@ returns-then-pack_groups-clause-names g c more low high =
       c.requires.packs.have.count,
       ap (λ ps. length ps.items) c.put.ensures.packs,
     ))
-    (λ none. c.pack.ensures.others at none (omega (arith, low, c.if-pack_groups.true, c.pack_groups.ensures, c.pack_groups-2.ensures, c.requires.some)))
+    (λ none. c.pack.ensures.others at none (omega (arith, low, c.fits_fewer.ensures.fewer c.if-fits_fewer.true, c.requires.some)))
     ∙ ap (λ ps. names_at ps.items at) c.put.ensures.packs)
 
-pub returns-else-pack_groups-clause-names : goal.returns-else-pack_groups-clause-names
-returns-else-pack_groups-clause-names g c more low high =
+pub returns-else-fits_fewer-clause-names : goal.returns-else-fits_fewer-clause-names
+returns-else-fits_fewer-clause-names g c more low high =
     sym (ap (λ ps. names_at ps.items (pack_groups more - 1)) c.put.ensures.packs)
 
-pub returns-then-pack_groups-clause-node : goal.returns-then-pack_groups-clause-node
-returns-then-pack_groups-clause-node g c first last next =
+pub returns-then-fits_fewer-clause-node : goal.returns-then-fits_fewer-clause-node
+returns-then-fits_fewer-clause-node g c first last next =
     let old = here c.args.self.now in
     subst (IsNode c.args.instance.now (first_with old.end first old.job) (last_with old.end last old.job))
     (sym c.pack.ensures.node) (c.put.ensures.node first last next.is_node next.fresh)
 
-pub returns-else-pack_groups-clause-node : goal.returns-else-pack_groups-clause-node
-returns-else-pack_groups-clause-node g c first last next = c.put.ensures.node first last next.is_node next.fresh
+pub returns-else-fits_fewer-clause-node : goal.returns-else-fits_fewer-clause-node
+returns-else-fits_fewer-clause-node g c first last next = c.put.ensures.node first last next.is_node next.fresh
 
-pub returns-then-pack_groups-clause-left : goal.returns-then-pack_groups-clause-left
-returns-then-pack_groups-clause-left g c first last next =
+pub returns-then-fits_fewer-clause-left : goal.returns-then-fits_fewer-clause-left
+returns-then-fits_fewer-clause-left g c first last next =
     let packs = c.args.self.now.packs.items in
     let names : List ℕ = names_at packs (pack_groups (c.args.left + 1) - 1) in
     c.pack.ensures.left
@@ -101,12 +101,12 @@ returns-then-pack_groups-clause-left g c first last next =
     c.put.ensures.packs
     ∙ c.put.ensures.left first last names next.has_left next.fresh next.within next.named next.marked
 
-pub returns-else-pack_groups-clause-left : goal.returns-else-pack_groups-clause-left
-returns-else-pack_groups-clause-left g c first last next =
+pub returns-else-fits_fewer-clause-left : goal.returns-else-fits_fewer-clause-left
+returns-else-fits_fewer-clause-left g c first last next =
     let packs = c.args.self.now.packs.items in
     let names : List ℕ = names_at packs (pack_groups (c.args.left + 1) - 1) in
     let same : pack_groups c.args.left - 1 ≡ pack_groups (c.args.left + 1) - 1 =
-    omega (arith, c.if-pack_groups.false, c.pack_groups.ensures, c.pack_groups-2.ensures) in
+    omega (arith, c.fits_fewer.ensures.same c.if-fits_fewer.false) in
     ap (λ ps. chosen (here c.put.new.self).left.words (names_at ps.items (pack_groups c.args.left - 1)))
     c.put.ensures.packs
     ∙ ap (λ n. chosen (here c.put.new.self).left.words (names_at packs n)) same
