@@ -4,7 +4,7 @@ use Rattle.std.proofs.Common.{drop, Some, ap, sym, ◌∙◌, subst, arith}
 use Rattle.flow_shop.specs.Shop.{Shop}
 use Rattle.flow_shop.specs.Directions.{first_with, last_with}
 use Rattle.flow_nodes.specs.Nodes.{IsNode}
-use Rattle.flow_nodes.specs.Groups.{group_count}
+use Rattle.flow_check.specs.internal.Frames.{pack_groups}
 use Rattle.flow_nodes.specs.Marks.{mark, chosen}
 use Rattle.flow_check.specs.declared.two_ended.walk.NodeFrame.{NodeFrame}
 use Rattle.flow_check.specs.declared.two_ended.walk.Path.{Path}
@@ -17,7 +17,7 @@ use Rattle.flow_check.proofs.WalkSteps.{stands-child}
 
 -- the names among which so many jobs left stand
 abbrev pub names_of : {V : Type 0} → Path V → ℕ → List ℕ
-names_of path left = names_at path.packs.items (group_count left - 1)
+names_of path left = names_at path.packs.items (pack_groups left - 1)
 
 -- a path whose node has so many groups of jobs left, before and after the place of the next child is taken
 pub record IsTurn {V : Type 0} (groups : ℕ) (old new : Path V) (place : ℕ) : Type 0 where
@@ -42,7 +42,7 @@ pub record IsAt {V : Type 0} (shop : Shop) (number : ℕ) (whole : Reading) (tex
   pub stands : Stands shop number whole text spot (names_of path) (above path) (here path)
 
 module _ {V : Type 0} (shop : Shop) (number : ℕ) (whole : Reading) (text : List ℕ) (spot left groups place : ℕ)
-    (old mid : Path V) (at : IsAt shop number whole text spot left old) (groups_are : groups ≡ group_count left)
+    (old mid : Path V) (at : IsAt shop number whole text spot left old) (groups_are : groups ≡ pack_groups left)
     (turn : IsTurn groups old mid place) where
   abbrev frames : List NodeFrame
   frames = above old
@@ -50,7 +50,7 @@ module _ {V : Type 0} (shop : Shop) (number : ℕ) (whole : Reading) (text : Lis
   deep : length frames ≡ old.depth
   deep = count-above old (omega (arith, at.size, at.left_is, at.some))
 
-  here-is : groups - 1 ≡ group_count (shop.jobs - length frames) - 1
+  here-is : groups - 1 ≡ pack_groups (shop.jobs - length frames) - 1
   here-is = omega (arith, groups_are, at.left_is, deep)
 
   pub turn-taken : IsTaken (names_of old (shop.jobs - length (above old))) (here old) (here mid)
@@ -85,10 +85,10 @@ module _ {V : Type 0} (shop : Shop) (number : ℕ) (whole : Reading) (text : Lis
   turn-next less less_is =
       let first : List ℕ = first_of [] (above old) in
       let last : List ℕ = last_of [] (above old) in
-      let all : List ℕ = names_at mid.packs.items (group_count (less + 1) - 1) in
-      let index : group_count (less + 1) - 1 ≡ groups - 1 = omega (arith, less_is, at.some, groups_are) in
+      let all : List ℕ = names_at mid.packs.items (pack_groups (less + 1) - 1) in
+      let index : pack_groups (less + 1) - 1 ≡ groups - 1 = omega (arith, less_is, at.some, groups_are) in
       let names : all ≡ names_at old.packs.items (groups - 1) =
-      ap (λ ps. names_at ps.items (group_count (less + 1) - 1)) turn.packs ∙ ap (names_at old.packs.items) index in
+      ap (λ ps. names_at ps.items (pack_groups (less + 1) - 1)) turn.packs ∙ ap (names_at old.packs.items) index in
       let stood : all ≡ names_of old (shop.jobs - length (above old)) = names ∙ ap (names_at old.packs.items) here-is in
       let size : length (names_at old.packs.items (groups - 1)) ≡ (groups - 1 + 1) * 16 =
       names-count shop old.packs.items (groups - 1) at.have
@@ -109,9 +109,9 @@ module _ {V : Type 0} (shop : Shop) (number : ℕ) (whole : Reading) (text : Lis
 
   -- the walk goes to the child
   pub turn-stands : (less groups2 : ℕ) (put new : Path V) → less ≡ left - 1 → 1 ≤ less →
-      groups2 ≡ group_count less → above mid ≡ above old → above put ≡ above mid ++ here mid ∷ [] →
+      groups2 ≡ pack_groups less → above mid ≡ above old → above put ≡ above mid ++ here mid ∷ [] →
       ((more : ℕ) → less < more → more ≤ shop.jobs →
-      names_at mid.packs.items (group_count more - 1) ≡ names_at put.packs.items (group_count more - 1)) →
+      names_at mid.packs.items (pack_groups more - 1) ≡ names_at put.packs.items (pack_groups more - 1)) →
       new.packs ≡ put.packs → above new ≡ above put → first_end (drop spot text) ≡ Some (here new).end →
       IsOpened shop number (first_with (here mid).end (first_of [] (above old)) (here mid).job)
       (last_with (here mid).end (last_of [] (above old)) (here mid).job)
@@ -120,7 +120,7 @@ module _ {V : Type 0} (shop : Shop) (number : ℕ) (whole : Reading) (text : Lis
   turn-stands less groups2 put new less_is more_left groups2_are above_mid above_put names packs above_new is is_opened =
       let first2 : List ℕ = first_with (here mid).end (first_of [] (above old)) (here mid).job in
       let last2 : List ℕ = last_with (here mid).end (last_of [] (above old)) (here mid).job in
-      let index : groups2 - 1 ≡ group_count (shop.jobs - length (above old) - 1) - 1 =
+      let index : groups2 - 1 ≡ pack_groups (shop.jobs - length (above old) - 1) - 1 =
       omega (arith, groups2_are, less_is, at.left_is, deep) in
       let child : IsOpened shop number first2 last2 (names_of new (shop.jobs - length (above old) - 1)) new =
       subst (λ n. IsOpened shop number first2 last2 (names_at new.packs.items n) new) index is_opened in
@@ -130,7 +130,7 @@ module _ {V : Type 0} (shop : Shop) (number : ℕ) (whole : Reading) (text : Lis
       (stands-child shop number whole text spot (names_of old) (names_of new) (above old) (here old) (here mid)
       (here new) at.stands turn-taken turn-frame
       (λ l low high.
-      ap (λ ps. names_at ps.items (group_count l - 1)) (sym turn.packs)
+      ap (λ ps. names_at ps.items (pack_groups l - 1)) (sym turn.packs)
       ∙ names l (omega (arith, low, deep, at.left_is, less_is, more_left)) high
-      ∙ ap (λ ps. names_at ps.items (group_count l - 1)) (sym packs))
+      ∙ ap (λ ps. names_at ps.items (pack_groups l - 1)) (sym packs))
       (omega (arith, deep, at.left_is, less_is, more_left)) is child.below child.frame)

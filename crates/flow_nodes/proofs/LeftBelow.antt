@@ -1,6 +1,6 @@
 -- The jobs whose marks are set once the groups of a pack are looked at.
-use Rattle.std.proofs.Common.{◌≡◌, ◌↔◌, ℕ, ◌+◌, ◌*◌, ◌/◌, ◌%◌, ◌<◌, nat_lt, false, List, ◌++◌, length, slice_index}
-use Rattle.std.proofs.Common.{slice_index_or, take, drop, ap, sym, ◌∙◌, subst, arith}
+use Rattle.std.proofs.Common.{◌≡◌, ◌↔◌, ◌⊎◌, ℕ, ◌+◌, ◌*◌, ◌/◌, ◌%◌, ◌<◌, ◌≤◌, nat_lt, false, List, ◌++◌, length, slice_index}
+use Rattle.std.proofs.Common.{slice_index_or, take, drop, refl, ap, sym, ◌∙◌, subst, inl, inr, arith}
 use Rattle.std.specs.Global.{Vec}
 use Rattle.std.specs.List.{filter}
 use Rattle.std.proofs.lemmas.Bool.Decides.{Decides-ltb}
@@ -52,5 +52,56 @@ module _ {V : Type 0} (list : V → List ℕ) (cap width : ℕ) (shop : Shop) (n
             let was = stays place within marked in
             (was, (Decides-ltb (bound (slice_index names place)) number).1 ((tells was).0 marked)),
         λ both. (tells both.0).1 ((Decides-ltb (bound (slice_index names place)) number).0 both.1),
+      ))
+      ∙ ap (filter (λ job. nat_lt (bound job) number)) has_left
+
+  -- the same, where those that are not kept of the jobs left have children at or above the number
+  pub kept-left-below : (kept : Marks) → IsPack list cap width shop pack →
+      HasLeft shop first last pack.names.items left →
+      ((place : ℕ) → place / 16 < length slices → mark kept.words place ≡ 1 → mark left.words place ≡ 1) →
+      ((place : ℕ) → place / 16 < length slices → mark below.words place ≡ 1 → mark kept.words place ≡ 1) →
+      ((jobs : List ℕ) (place : ℕ) → place / 16 < length slices →
+      jobs ≡ take 16 (drop (place / 16 * 16) pack.names.items) → mark left.words place ≡ 1 →
+      has (first ++ last) (slice_index jobs (place % 16)) ≡ false →
+      (mark kept.words place ≡ 1) ⊎ (number ≤ child_bound shop end first last (slice_index jobs (place % 16)))) →
+      ((jobs : List ℕ) (place : ℕ) (none : Vec V) → place / 16 < length slices →
+      IsGroup list cap width shop jobs (slice_index_or slices (place / 16) none).items →
+      mark kept.words place ≡ 1 → has (first ++ last) (slice_index jobs (place % 16)) ≡ false →
+      mark below.words place ≡ 1 ↔ (child_bound shop end first last (slice_index jobs (place % 16)) < number)) →
+      jobs_at pack below ≡ left_below shop number end first last
+  kept-left-below kept is_pack has_left kept_left below_kept rest exact =
+      let bound : ℕ → ℕ = child_bound shop end first last in
+      let names = pack.names.items in
+      let groups = pack.groups.items in
+      chosen-filter (λ job. nat_lt (bound job) number) left.words below.words names
+      (λ place inside.
+      let group = place / 16 in
+      let long : group < length groups = omega (arith, inside, is_pack.room.names) in
+      let within : group < length slices = omega (arith, long, ap length value) in
+      let none = some-of slices (omega (arith, within)) in
+      let jobs : List ℕ = take 16 (drop (group * 16) names) in
+      let are = subst (λ l. IsGroup list cap width shop jobs
+      (slice_index_or l group none).items) (sym value) (is_pack.each group none long) in
+      let at = group-name names group (place % 16) (omega arith) in
+      let there : group * 16 + place % 16 ≡ place = omega arith in
+      let named : slice_index jobs (place % 16) ≡ slice_index names place = at ∙ ap (slice_index names) there in
+      let fresh : mark left.words place ≡ 1 → has (first ++ last) (slice_index jobs (place % 16)) ≡ false =
+      λ was. ap (has (first ++ last)) named
+      ∙ marked-left shop.jobs (first ++ last) left.words names has_left place inside was in (
+        λ marked.
+            let stays = below_kept place within marked in
+            let was = kept_left place within stays in (
+              was,
+              (Decides-ltb (bound (slice_index names place)) number).1
+                  (subst (λ job. bound job < number) named ((exact jobs place none within are stays (fresh was)).0 marked)),
+            ),
+        λ both.
+            let under : bound (slice_index jobs (place % 16)) < number =
+            subst (λ job. bound job < number) (sym named)
+            ((Decides-ltb (bound (slice_index names place)) number).0 both.1) in
+            elim (rest jobs place within refl both.0 (fresh both.0)) [
+              | inl stays ↦ (exact jobs place none within are stays (fresh both.0)).1 under
+              | inr high ↦ absurd (omega (arith, high, under))
+            ],
       ))
       ∙ ap (filter (λ job. nat_lt (bound job) number)) has_left

@@ -1,5 +1,6 @@
 pub mod LaneSteps
 pub mod LaneSums
+pub mod ByteSteps
 pub mod NodeSteps
 pub mod KeptNodes
 pub mod ChildSteps

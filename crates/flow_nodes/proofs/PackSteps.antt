@@ -7,14 +7,14 @@ use Rattle.std.proofs.lemmas.List.{get_or-set_same, get_or-set_other, length-set
 use Rattle.flow_shop.specs.Shop.{Shop}
 use Rattle.flow_nodes.specs.Nodes.{IsJob}
 use Rattle.flow_nodes.specs.Groups.{IsGroup}
-use Rattle.flow_nodes.specs.Packs.{HasRoom}
+use Rattle.flow_nodes.specs.Packs.{HasByteRoom, HasRoom}
 use Rattle.flow_nodes.specs.declared.pack.Pack.{Pack}
 
 -- a group is written
 module _ {V : Type 0} (shop : Shop) (groups : List (Vec V)) (group : ℕ) (vector : Vec V)
     (within : group < length groups) where
   -- a fact about each group
-  group-each : (P : ℕ → Vec V → Type 0) → P group vector → (place : ℕ) (none : Vec V) →
+  pub group-each : (P : ℕ → Vec V → Type 0) → P group vector → (place : ℕ) (none : Vec V) →
       (place ≢ group → P place (slice_index_or groups place none)) →
       P place (slice_index_or (set groups group vector) place none)
   group-each P here place none other = elim (cases_eq place group) [
@@ -93,3 +93,13 @@ put-more names old new all count job within first is =
     ap (λ l. l ++ new) (take_more_set names count job within)
     ∙ append_assoc (take count names) (job ∷ []) new
     ∙ ap (λ l. take count names ++ l) (sym first) ∙ is
+
+-- the room for bytes stays
+pub byte-room-same : {V : Type 0} (shop : Shop) (pack new : Pack V) → HasByteRoom shop pack →
+    new.bytes ≡ pack.bytes → length new.groups.items ≡ length pack.groups.items → HasByteRoom shop new
+byte-room-same shop pack new room bytes_are count = record {
+  few = omega (arith, ap (λ v. length v.items) bytes_are, count, room.few);
+  machines = λ group none low.
+      ap (λ v. length (slice_index_or v.items group none).items) bytes_are
+      ∙ room.machines group none (omega (arith, low, ap (λ v. length v.items) bytes_are));
+}

@@ -28,6 +28,19 @@ pub record IsPack {V : Type 0} (list : V → List ℕ) (cap width : ℕ) (shop :
       IsGroup list cap width shop (take 16 (drop (group * 16) pack.names.items))
       (slice_index_or pack.groups.items group none).items
 
+-- memory for the times of its first groups in bytes, or of none
+pub record HasByteRoom {V : Type 0} (shop : Shop) (pack : Pack V) : Type 0 where
+  pub few : length pack.bytes.items ≤ length pack.groups.items
+  pub machines : (group : ℕ) (none : Vec (List ℕ)) → group < length pack.bytes.items →
+      length (slice_index_or pack.bytes.items group none).items ≡ shop.machines
+
+-- and their times there, those above 255 as 255
+pub record AreBytes {V : Type 0} (shop : Shop) (pack : Pack V) : Type 0 where
+  pub room : HasByteRoom shop pack
+  pub each : (group : ℕ) (none : Vec (List ℕ)) → group < length pack.bytes.items →
+      IsGroup (λ (lanes : List ℕ). lanes) 255 16 shop (take 16 (drop (group * 16) pack.names.items))
+      (slice_index_or pack.bytes.items group none).items
+
 -- the jobs that a pack has at marked places, in order
 abbrev pub jobs_at : {V : Type 0} → Pack V → Marks → List ℕ
 jobs_at pack marks = chosen marks.words pack.names.items

@@ -3,6 +3,7 @@
 #![tactic(auto)]
 
 mod bounds;
+mod bytes;
 mod few_groups;
 mod group;
 mod lanes;

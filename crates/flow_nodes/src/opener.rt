@@ -1,6 +1,6 @@
 //! The children of a node that are below a number, from vectors that the groups of the node share.
 
-ghost use Rattle.std.specs.Prelude.{◌≡◌, ◌⊎◌, ℕ, ◌+◌, ◌/◌, ◌%◌, ◌<◌, ◌≤◌, ◌↔◌, false, List, ◌++◌, length, slice_index};
+ghost use Rattle.std.specs.Prelude.{◌≡◌, ◌⊎◌, ℕ, ◌+◌, ◌/◌, ◌%◌, ◌<◌, ◌≤◌, ◌↔◌, true, false, List, ◌++◌, length, slice_index};
 ghost use Rattle.std.specs.Prelude.{slice_index_or, IsBitSet, IfOk};
 ghost use Rattle.std.specs.Global.{Vec};
 ghost use Rattle.flow_nodes.specs.declared.node.Node.{Node};
@@ -14,9 +14,11 @@ ghost use Rattle.flow_nodes.specs.Nodes.{IsNode};
 ghost use Rattle.flow_nodes.specs.Groups.{IsGroup, child_bound, most_groups};
 ghost use Rattle.flow_nodes.specs.Marks.{mark};
 ghost use Rattle.flow_nodes.specs.internal.Children.{greatest_at};
-ghost use Rattle.flow_nodes.specs.Packs.{HasLeft, HasRoomFor, IsPack, jobs_at, left_below};
+ghost use Rattle.flow_nodes.specs.Packs.{AreBytes, HasByteRoom, HasLeft, HasRoomFor, IsPack, jobs_at, left_below};
+ghost use Rattle.flow_nodes.specs.internal.Bytes.{HaveGaps, HaveSlacks};
 ghost use Rattle.flow_nodes.specs.internal.Spread.{IsSpread};
 
+use crate::bytes::{open_at_back, open_at_front, write_gaps, write_slacks};
 use crate::few_groups::mark_few;
 use crate::lanes::Lanes;
 use crate::marks::Marks;
@@ -25,9 +27,10 @@ use crate::pack::Pack;
 use flow_limits::MAX_MACHINES;
 use flow_shop::{End, Instance, Row, rows};
 use std::alloc::{AllocError, Global};
+use std::simd::prelude::*;
 
 /// So many groups or fewer are looked at with no vectors that they share.
-const FEW_GROUPS: usize = 3;
+pub(crate) const FEW_GROUPS: usize = 3;
 
 /// Opens nodes: finds their children below a number. It has memory for what the groups of a node share.
 #[derive(Drop)]
@@ -40,6 +43,10 @@ pub struct Opener<V> {
     pub(crate) near: Vec<V>,
     /// The time of the jobs left and what is at the other end, likewise.
     pub(crate) rest: Vec<V>,
+    /// By how much what is at the end exceeds what is there on the machine that comes before, in bytes: likewise.
+    pub(crate) gaps: Vec<u8x16>,
+    /// How much later than the node lets it a job may start, where its child is below the number, in bytes: likewise.
+    pub(crate) slacks: Vec<u8x16>,
     /// The times of the jobs, a row for each.
     pub rows: Vec<Row>,
 }
@@ -124,12 +131,16 @@ impl<V: Lanes> Opener<V> {
         let machines = usize::from(instance.machines());
         let near = vec![in alloc; V::each(0); machines]?;
         let rest = vec![in alloc; V::each(0); machines]?;
+        let gaps = vec![in alloc; u8x16::each(0); machines]?;
+        let slacks = vec![in alloc; u8x16::each(0); machines]?;
         let rows = rows(alloc, instance)?;
         Ok(Opener {
             limit,
             machines,
             near,
             rest,
+            gaps,
+            slacks,
             rows,
         })
     }
@@ -224,6 +235,131 @@ impl<V: Lanes> Opener<V> {
         }
     }
 
+    /// Writes what the groups of a node share at an end in bytes.
+    #[inline(always)]
+    fn write_bytes(&mut self, node: &Node, end: End)
+        requires { (shop : Shop) × (first : List ℕ) × (last : List ℕ) × IsNode shop first last node.now
+            × (length self.old.gaps.items ≡ shop.machines) × (length self.old.slacks.items ≡ shop.machines)
+            × (end_bound shop first last < self.old.limit) }
+        ensures limit { self.new.limit ≡ self.old.limit }
+        ensures near { self.new.near ≡ self.old.near }
+        ensures rest { self.new.rest ≡ self.old.rest }
+        ensures rows { self.new.rows ≡ self.old.rows }
+        ensures gap_count { length self.new.gaps.items ≡ length self.old.gaps.items }
+        ensures slack_count { length self.new.slacks.items ≡ length self.old.slacks.items }
+        ensures gaps { HaveGaps end node.now self.new.gaps.items }
+        ensures slacks { HaveSlacks self.old.limit node.now self.new.slacks.items }
+    {
+        write_gaps(node, end, self.gaps.as_mut_slice());
+        write_slacks(node, self.limit, self.slacks.as_mut_slice());
+    }
+
+    /// The children that may be below the number, of those that put the jobs of a group at an end, once what the groups
+    /// share there is written in bytes: a bit for each lane. The bit of a lane whose job is not left may be set or not.
+    #[inline(always)]
+    fn open_lanes(&self, end: End, group: &[u8x16]) -> u64
+        requires gaps { length self.now.gaps.items ≡ length group.now }
+        requires slacks { length self.now.slacks.items ≡ length group.now }
+        ensures { (shop : Shop) (first last jobs : List ℕ) (node : Node) (lane : ℕ) → IsNode shop first last node →
+            HaveGaps end node self.now.gaps.items → HaveSlacks self.now.limit node self.now.slacks.items →
+            IsGroup (λ lanes. lanes) 255 16 shop jobs group.now → lane < 16 →
+            has (first ++ last) (slice_index jobs lane) ≡ false →
+            IsBitSet result lane ⊎ (self.now.limit ≤ child_bound shop end first last (slice_index jobs lane)) }
+    {
+        let gaps = self.gaps.as_slice();
+        let slacks = self.slacks.as_slice();
+        match end {
+            End::Front => open_at_front(gaps, slacks, group),
+            End::Back => open_at_back(gaps, slacks, group),
+        }
+    }
+
+    /// Marks the jobs left whose children at an end may be below the number, among those of the groups, once what the
+    /// groups share there is written in bytes. Returns 0 where there is none.
+    #[inline(always)]
+    fn mark_open(&self, end: End, groups: &[Vec<u8x16>], left: &Marks, kept: &mut Marks) -> u16
+        requires few { length groups.now ≤ most_groups }
+        requires gaps { (group : ℕ) (none : Vec (List ℕ)) → group < length groups.now →
+            length self.now.gaps.items ≡ length (slice_index_or groups.now group none).items }
+        requires slacks { (group : ℕ) (none : Vec (List ℕ)) → group < length groups.now →
+            length self.now.slacks.items ≡ length (slice_index_or groups.now group none).items }
+        ensures within { (place : ℕ) → place / 16 < length groups.now → mark kept.new.words place ≡ 1 →
+            mark left.now.words place ≡ 1 }
+        ensures rest { (shop : Shop) (number : ℕ) (first last jobs : List ℕ) (node : Node) (place : ℕ)
+            (none : Vec (List ℕ)) → self.now.limit ≡ limit_of number → IsNode shop first last node →
+            HaveGaps end node self.now.gaps.items → HaveSlacks self.now.limit node self.now.slacks.items →
+            place / 16 < length groups.now →
+            IsGroup (λ lanes. lanes) 255 16 shop jobs (slice_index_or groups.now (place / 16) none).items →
+            mark left.now.words place ≡ 1 → has (first ++ last) (slice_index jobs (place % 16)) ≡ false →
+            (mark kept.new.words place ≡ 1)
+            ⊎ (number ≤ child_bound shop end first last (slice_index jobs (place % 16))) }
+        ensures none { result ≡ 0 → (place : ℕ) → place / 16 < length groups.now →
+            mark kept.new.words place ≡ 0 }
+    {
+        let mut union = 0;
+        for group in 0..groups.len() {
+            let word = left.words[group];
+            if word != 0 {
+                let bits = self.open_lanes(end, groups[group].as_slice());
+                let rest = (bits & u64::from(word)) as u16;
+                kept.words[group] = rest;
+                union |= rest;
+            } else {
+                kept.words[group] = 0;
+            }
+        }
+        union
+    }
+
+    /// Whether a pack has the times of all its groups in bytes, and this has memory for what they share.
+    #[inline(always)]
+    fn reads_bytes(&self, pack: &Pack<V>) -> bool
+        ensures count { result ≡ true → length pack.now.bytes.items ≡ length pack.now.groups.items }
+        ensures gaps { result ≡ true → length self.now.gaps.items ≡ length self.now.near.items }
+        ensures slacks { result ≡ true → length self.now.slacks.items ≡ length self.now.near.items }
+    {
+        let machines = self.near.len();
+        pack.bytes.len() == pack.groups.len()
+            && self.gaps.len() == machines
+            && self.slacks.len() == machines
+    }
+
+    /// Marks the jobs of a pack whose children at an end are below the number, of those left: first those of which
+    /// bytes do not tell that they are not.
+    #[inline(always)]
+    fn mark_by_bytes(
+        &mut self,
+        node: &Node,
+        end: End,
+        pack: &Pack<V>,
+        left: &Marks,
+        below: &mut Marks,
+    )
+        requires wide { V.WIDTH ≡ 16 }
+        requires limit { self.old.limit ≤ V.CAP }
+        requires count { length pack.now.bytes.items ≡ length pack.now.groups.items }
+        requires at { (shop : Shop) × (number : ℕ) × (first : List ℕ) × (last : List ℕ)
+            × IsNode shop first last node.now × IsPack V.list V.CAP V.WIDTH shop pack.now × HasRoomFor shop self.old
+            × (self.old.limit ≡ limit_of number) × (end_bound shop first last < number) × HasByteRoom shop pack.now
+            × (length self.old.gaps.items ≡ shop.machines) × (length self.old.slacks.items ≡ shop.machines) }
+        ensures limit { self.new.limit ≡ self.old.limit }
+        ensures room { (shop : Shop) → HasRoomFor shop self.old → HasRoomFor shop self.new }
+        ensures within { (place : ℕ) → place / 16 < length pack.now.groups.items → mark below.new.words place ≡ 1 →
+            mark left.now.words place ≡ 1 }
+        ensures below { (shop : Shop) (number : ℕ) (first last : List ℕ) → self.old.limit ≡ limit_of number →
+            IsNode shop first last node.now → IsPack V.list V.CAP V.WIDTH shop pack.now → AreBytes shop pack.now →
+            HasLeft shop first last pack.now.names.items left.now →
+            jobs_at pack.now below.new ≡ left_below shop number end first last }
+    {
+        self.write_bytes(node, end);
+        let union = self.mark_open(end, pack.bytes.as_slice(), left, below);
+        if union != 0 {
+            let open = *below;
+            self.write(node, end);
+            self.mark_groups(end, pack.groups.as_slice(), &open, below);
+        }
+    }
+
     /// Marks the jobs of a pack whose children at an end are below the number, of those left. The constant is the
     /// number of machines, or 0.
     #[inline(always)]
@@ -241,18 +377,21 @@ impl<V: Lanes> Opener<V> {
         requires limit { self.old.limit ≤ V.CAP }
         requires at { (shop : Shop) × (number : ℕ) × (first : List ℕ) × (last : List ℕ)
             × IsNode shop first last node.now × IsPack V.list V.CAP V.WIDTH shop pack.now × HasRoomFor shop self.old
-            × (self.old.limit ≡ limit_of number) × (end_bound shop first last < number) }
+            × (self.old.limit ≡ limit_of number) × (end_bound shop first last < number)
+            × HasByteRoom shop pack.now }
         ensures limit { self.new.limit ≡ self.old.limit }
         ensures room { (shop : Shop) → HasRoomFor shop self.old → HasRoomFor shop self.new }
         ensures within { (place : ℕ) → place / 16 < length pack.now.groups.items → mark below.new.words place ≡ 1 →
             mark left.now.words place ≡ 1 }
         ensures below { (shop : Shop) (number : ℕ) (first last : List ℕ) → self.old.limit ≡ limit_of number →
-            IsNode shop first last node.now → IsPack V.list V.CAP V.WIDTH shop pack.now →
+            IsNode shop first last node.now → IsPack V.list V.CAP V.WIDTH shop pack.now → AreBytes shop pack.now →
             HasLeft shop first last pack.now.names.items left.now →
             jobs_at pack.now below.new ≡ left_below shop number end first last }
     {
         if pack.groups.len() <= FEW_GROUPS {
             mark_few::<V, M>(node, end, pack.groups.as_slice(), left, self.limit, below);
+        } else if self.reads_bytes(pack) {
+            self.mark_by_bytes(node, end, pack, left, below);
         } else {
             self.write(node, end);
             self.mark_groups(end, pack.groups.as_slice(), left, below);

@@ -1,5 +1,5 @@
 -- What is kept of the nodes whose children are read.
-use Rattle.std.specs.Prelude.{ℕ, zero, suc, ◌≡◌, ◌+◌, ◌-◌, ◌<◌, ◌≤◌, false, List, [], ◌∷◌, ◌++◌, length, take}
+use Rattle.std.specs.Prelude.{ℕ, zero, suc, ◌≡◌, ◌+◌, ◌-◌, ◌*◌, ◌/◌, ◌<◌, ◌≤◌, min, false, List, [], ◌∷◌, ◌++◌, length, take}
 use Rattle.std.specs.Prelude.{slice_index, slice_index_or}
 use Rattle.std.specs.Global.{Vec}
 use Rattle.std.specs.List.{AllByRecursion}
@@ -11,9 +11,9 @@ use Rattle.flow_shop.specs.declared.end.End.{End}
 use Rattle.flow_shop.specs.declared.end.End.TheVariants.{Front}
 use Rattle.flow_nodes.specs.Lanes.{limit_of}
 use Rattle.flow_nodes.specs.Nodes.{IsJob, IsNode}
-use Rattle.flow_nodes.specs.Groups.{child_bound, group_count}
+use Rattle.flow_nodes.specs.Groups.{child_bound}
 use Rattle.flow_nodes.specs.Marks.{mark, chosen}
-use Rattle.flow_nodes.specs.Packs.{HasLeft, HasRoom, HasRoomFor, IsPack}
+use Rattle.flow_nodes.specs.Packs.{AreBytes, HasByteRoom, HasLeft, HasRoom, HasRoomFor, IsPack}
 use Rattle.flow_nodes.specs.declared.pack.Pack.{Pack}
 use Rattle.flow_check.specs.declared.two_ended.walk.NodeFrame.{NodeFrame}
 use Rattle.flow_check.specs.declared.two_ended.walk.Path.{Path}
@@ -74,12 +74,19 @@ names_at [] place = []
 names_at (pack ∷ packs) zero = pack.names.items
 names_at (pack ∷ packs) (suc place) = names_at packs place
 
+-- how many groups the pack has in which so many jobs left stand: as many as they need, up to 80 jobs, and beyond that
+-- as many as the next multiple of 80 jobs needs
+abbrev pub pack_groups : ℕ → ℕ
+pack_groups left = min ((left + 15) / 16) 5 + ((left + 79) / 80 - 1) * 5
+
 -- memory for packs of one group, of two, and so on, up to as many as all jobs have
 pub record HavePacks {V : Type 0} (shop : Shop) (packs : List (Pack V)) : Type 0 where
-  pub count : length packs ≡ group_count shop.jobs
+  pub count : length packs ≡ pack_groups shop.jobs
   pub rooms : (place : ℕ) (none : Pack V) → place < length packs → HasRoom shop (slice_index_or packs place none)
   pub groups : (place : ℕ) (none : Pack V) → place < length packs →
       length (slice_index_or packs place none).groups.items ≡ place + 1
+  pub byte_rooms : (place : ℕ) (none : Pack V) → place < length packs →
+      HasByteRoom shop (slice_index_or packs place none)
 
 -- so many machines are those of each group of the pack at a place
 pub record HasMachines {V : Type 0} (machines place : ℕ) (packs : List (Pack V)) : Type 0 where
@@ -91,8 +98,10 @@ pub record HasMachines {V : Type 0} (machines place : ℕ) (packs : List (Pack V
 pub record ArePacks {V : Type 0} (list : V → List ℕ) (cap width : ℕ) (shop : Shop) (left : ℕ)
     (packs : List (Pack V)) : Type 0 where
   pub have : HavePacks shop packs
-  pub packed : (place : ℕ) (none : Pack V) → group_count left ≤ place + 1 → place < length packs →
-      IsPack list cap width shop (slice_index_or packs place none)
+  pub packed : (more : ℕ) (none : Pack V) → left ≤ more → more ≤ shop.jobs →
+      IsPack list cap width shop (slice_index_or packs (pack_groups more - 1) none)
+  pub bytes : (more : ℕ) (none : Pack V) → left ≤ more → more ≤ shop.jobs →
+      AreBytes shop (slice_index_or packs (pack_groups more - 1) none)
 
 -- a path whose node can be opened: its jobs left stand in the pack of so many groups
 pub record IsReady {V : Type 0} (list : V → List ℕ) (cap width : ℕ) (shop : Shop) (number : ℕ)
@@ -102,6 +111,7 @@ pub record IsReady {V : Type 0} (list : V → List ℕ) (cap width : ℕ) (shop 
   pub limit : path.opener.limit ≡ limit_of number
   pub room : HasRoomFor shop path.opener
   pub is_pack : (none : Pack V) → IsPack list cap width shop (slice_index_or path.packs.items (groups - 1) none)
+  pub bytes : (none : Pack V) → AreBytes shop (slice_index_or path.packs.items (groups - 1) none)
   pub has_left : HasLeft shop first last (names_at path.packs.items (groups - 1)) (here path).left
 
 -- the job of a path's frame is put next, at whose child so many jobs are left: it stands at a marked place
@@ -110,7 +120,7 @@ pub record IsNext {V : Type 0} (shop : Shop) (first last : List ℕ) (left place
   pub is_job : IsJob shop (here path).job
   pub fresh : has (first ++ last) (here path).job ≡ false
   pub count : length first + length last + suc left ≡ shop.jobs
-  pub has_left : HasLeft shop first last (names_at path.packs.items (group_count (left + 1) - 1)) (here path).left
-  pub within : place < length (names_at path.packs.items (group_count (left + 1) - 1))
-  pub named : slice_index (names_at path.packs.items (group_count (left + 1) - 1)) place ≡ (here path).job
+  pub has_left : HasLeft shop first last (names_at path.packs.items (pack_groups (left + 1) - 1)) (here path).left
+  pub within : place < length (names_at path.packs.items (pack_groups (left + 1) - 1))
+  pub named : slice_index (names_at path.packs.items (pack_groups (left + 1) - 1)) place ≡ (here path).job
   pub marked : mark (here path).left.words place ≡ 1

@@ -1,6 +1,6 @@
 //! The walk through the nodes that directions open: where the directions end that prove a number.
 
-ghost use Rattle.std.specs.Prelude.{◌≡◌, ◌≢◌, ◌⊎◌, ℕ, ◌+◌, ◌-◌, ◌*◌, ◌%◌, ◌≤◌, ◌<◌, false, List, [], ◌∷◌, ◌++◌};
+ghost use Rattle.std.specs.Prelude.{◌≡◌, ◌≢◌, ◌⊎◌, ℕ, ◌+◌, ◌-◌, ◌*◌, ◌%◌, ◌≤◌, ◌<◌, true, false, List, [], ◌∷◌, ◌++◌};
 ghost use Rattle.std.specs.Prelude.{length, drop, take, slice_index, slice_index_or, Err, IfOk, IfErr, IfSome, IfNone};
 ghost use Rattle.flow_limits.specs.Limits.{most_jobs};
 ghost use Rattle.flow_shop.specs.Shop.{Shop};
@@ -8,22 +8,19 @@ ghost use Rattle.flow_shop.specs.Rows.{AreRows, IsRow};
 ghost use Rattle.flow_shop.specs.Sequences.{has};
 ghost use Rattle.flow_shop.specs.Directions.{Proves, first_with, last_with};
 ghost use Rattle.flow_nodes.specs.Nodes.{IsJob, IsNode};
-ghost use Rattle.flow_nodes.specs.Groups.{group_count};
 ghost use Rattle.flow_nodes.specs.Lanes.{limit_of};
 ghost use Rattle.flow_nodes.specs.Marks.{mark, chosen};
-ghost use Rattle.flow_nodes.specs.Packs.{HasLeft, HasRoom, HasRoomFor, IsPack, left_below};
+ghost use Rattle.flow_nodes.specs.Packs.{AreBytes, HasByteRoom, HasLeft, HasRoom, HasRoomFor, IsPack, left_below};
 ghost use Rattle.flow_nodes.specs.declared.pack.Pack.{Pack};
 ghost use Rattle.flow_check.specs.TwoEndedFaults.{HasDirectionsFault};
 ghost use Rattle.flow_check.specs.internal.Frames.{ArePacks, HasMachines, HavePacks, IsNext, IsReady};
-ghost use Rattle.flow_check.specs.internal.Frames.{frame_at, here, above, names_at};
+ghost use Rattle.flow_check.specs.internal.Frames.{frame_at, here, above, names_at, pack_groups};
 ghost use Rattle.flow_check.specs.internal.ReadDirections.{EndsAt, first_end, read_node};
 ghost use Rattle.flow_check.specs.declared.fault.CheckFault.TheVariants.{Memory};
 
 use crate::fault::CheckFault;
 use crate::two_ended::DIRECTIONS;
-use flow_nodes::{
-    LANES, Lanes, Marks, Node, Opener, Pack, fits_narrow_lanes, group_count, limit_of,
-};
+use flow_nodes::{LANES, Lanes, Marks, Node, Opener, Pack, fits_narrow_lanes, limit_of};
 use flow_shop::{End, Instance, Row, rows};
 use std::alloc::{AllocError, Global};
 use std::simd::prelude::*;
@@ -135,33 +132,98 @@ fn make_child<const M: usize>(
     deeper[0].become_child::<M>(&above[depth], instance, row, place);
 }
 
-/// Fills the pack of so many groups with the jobs at marked places of the pack that has one group more.
+/// So many groups of jobs left, or fewer, have a pack of just as many groups.
+const FINE_GROUPS: usize = 5;
+
+/// How many jobs so many groups have.
+const FINE_JOBS: usize = FINE_GROUPS * LANES;
+
+/// The greatest time of which bytes tell much.
+const MOST_TIME: u32 = 255;
+
+/// How many groups the pack has in which so many jobs left stand.
+#[inline(always)]
+fn pack_groups(left: u16) -> usize
+    ensures { result ≡ pack_groups left }
+{
+    let left = usize::from(left);
+    if left <= FINE_JOBS {
+        (left + (LANES - 1)) / LANES
+    } else {
+        (left + (FINE_JOBS - 1)) / FINE_JOBS * FINE_GROUPS
+    }
+}
+
+/// Whether a pack of fewer groups is enough for so many jobs left than for one more.
+#[inline(always)]
+fn fits_fewer(left: u16) -> bool
+    ensures fewer { result ≡ true → pack_groups left < pack_groups (left + 1) }
+    ensures same { result ≡ false → pack_groups (left + 1) ≤ pack_groups left }
+{
+    let left = usize::from(left);
+    if left <= FINE_JOBS {
+        left % LANES == 0
+    } else {
+        left % FINE_JOBS == 0
+    }
+}
+
+/// Whether all times fit into bytes.
+fn fit_bytes(rows: &[Row]) -> bool {
+    rows.iter()
+        .all(|row| row.times.iter().all(|time| *time <= MOST_TIME))
+}
+
+/// A pack with room for so many groups; and for their times in bytes, if they are wanted.
+fn new_pack<V: Lanes>(
+    alloc: Global,
+    instance: &Instance,
+    count: usize,
+    bytes: bool,
+) -> Result<Pack<V>, AllocError>
+    requires { count ≤ 50 }
+    ensures room { IfOk result (λ pack. HasRoom instance.now pack) }
+    ensures count { IfOk result (λ pack. length pack.groups.items ≡ count) }
+    ensures bytes { IfOk result (λ pack. HasByteRoom instance.now pack) }
+{
+    if bytes {
+        Pack::with_bytes(alloc, instance, count)
+    } else {
+        Pack::new(alloc, instance, count)
+    }
+}
+
+/// Fills the pack of so many groups with the jobs at marked places of a pack that has more.
 fn refill<V: Lanes>(
     packs: &mut [Pack<V>],
     instance: &Instance,
     rows: &[Row],
+    from: usize,
     groups: usize,
     left: &Marks,
 )
     requires wide { V.WIDTH ≡ 16 }
     requires rows { AreRows instance.now rows.now }
     requires some { 1 ≤ groups }
-    requires more { groups < length packs.old }
+    requires fewer { groups < from }
+    requires more { from ≤ length packs.old }
     requires rooms { (none : Pack V) → HasRoom instance.now (slice_index_or packs.old (groups - 1) none) }
-    requires from { (none : Pack V) → HasRoom instance.now (slice_index_or packs.old groups none) }
-    requires fits { length (chosen left.now.words (names_at packs.old groups))
+    requires from { (none : Pack V) → HasRoom instance.now (slice_index_or packs.old (from - 1) none) }
+    requires byte_rooms { (none : Pack V) → HasByteRoom instance.now (slice_index_or packs.old (groups - 1) none) }
+    requires fits { length (chosen left.now.words (names_at packs.old (from - 1)))
         ≤ length (names_at packs.old (groups - 1)) }
     ensures others { (place : ℕ) (none : Pack V) → place ≢ groups - 1 →
         slice_index_or packs.new place none ≡ slice_index_or packs.old place none }
     ensures pack { (none : Pack V) →
         IsPack V.list V.CAP V.WIDTH instance.now (slice_index_or packs.new (groups - 1) none) }
+    ensures bytes { (none : Pack V) → AreBytes instance.now (slice_index_or packs.new (groups - 1) none) }
     ensures count { (none : Pack V) → length (slice_index_or packs.new (groups - 1) none).groups.items
         ≡ length (slice_index_or packs.old (groups - 1) none).groups.items }
-    ensures jobs { take (length (chosen left.now.words (names_at packs.old groups))) (names_at packs.new (groups - 1))
-        ≡ chosen left.now.words (names_at packs.old groups) }
+    ensures jobs { take (length (chosen left.now.words (names_at packs.old (from - 1))))
+        (names_at packs.new (groups - 1)) ≡ chosen left.now.words (names_at packs.old (from - 1)) }
 {
     let (fewer, more) = packs.split_at_mut(groups);
-    fewer[groups - 1].fill(instance, rows, &more[0], left);
+    fewer[groups - 1].fill(instance, rows, &more[from - 1 - groups], left);
 }
 
 impl<V: Lanes> Path<V> {
@@ -183,15 +245,16 @@ impl<V: Lanes> Path<V> {
         ensures packs { IfOk result (λ path.
             ArePacks V.list V.CAP V.WIDTH instance.now instance.now.jobs path.packs.items) }
         ensures left { IfOk result (λ path. HasLeft instance.now [] []
-            (names_at path.packs.items (group_count instance.now.jobs - 1)) (here path).left) }
+            (names_at path.packs.items (pack_groups instance.now.jobs - 1)) (here path).left) }
     {
         let jobs = instance.jobs();
-        let mut packs = Vec::with_capacity(alloc, group_count(jobs))?;
-        'packs: while packs.len() < group_count(jobs) {
-            let pack = Pack::new(alloc, instance, packs.len() + 1)?;
+        let bytes = fit_bytes(rows);
+        let mut packs = Vec::with_capacity(alloc, pack_groups(jobs))?;
+        'packs: while packs.len() < pack_groups(jobs) {
+            let pack = new_pack(alloc, instance, packs.len() + 1, bytes)?;
             packs.push(pack)?;
         }
-        packs[group_count(jobs) - 1].fill_all(instance, rows);
+        packs[pack_groups(jobs) - 1].fill_all(instance, rows);
         let root = NodeFrame {
             node,
             left: Marks::first(jobs),
@@ -317,44 +380,47 @@ impl<V: Lanes> Path<V> {
         self.depth = depth + 1;
     }
 
-    /// Packs the jobs left at the node anew, so many of them, which are whole groups.
+    /// Packs the jobs left at the node anew, so many of them, for which a pack of fewer groups is enough.
     fn pack(&mut self, instance: &Instance, rows: &[Row], left: u16)
         requires wide { V.WIDTH ≡ 16 }
         requires rows { AreRows instance.now rows.now }
-        requires whole { left % 16 ≡ 0 }
+        requires fewer { pack_groups left < pack_groups (left + 1) }
         requires some { 1 ≤ left }
         requires few { left < instance.now.jobs }
         requires most { left ≤ most_jobs }
         requires within { self.old.depth < length self.old.frames.items }
         requires packs { HavePacks instance.now self.old.packs.items }
-        requires count { length (chosen (here self.old).left.words (names_at self.old.packs.items (group_count left)))
-            ≡ left }
+        requires count { length (chosen (here self.old).left.words (names_at self.old.packs.items
+            (pack_groups (left + 1) - 1))) ≡ left }
         ensures depth { self.new.depth ≡ self.old.depth }
         ensures size { length self.new.frames.items ≡ length self.old.frames.items }
         ensures above { above self.new ≡ above self.old }
         ensures opener { self.new.opener ≡ self.old.opener }
         ensures node { (here self.new).node ≡ (here self.old).node }
         ensures packs { HavePacks instance.now self.new.packs.items }
-        ensures others { (place : ℕ) (none : Pack V) → place ≢ group_count left - 1 →
+        ensures others { (place : ℕ) (none : Pack V) → place ≢ pack_groups left - 1 →
             slice_index_or self.new.packs.items place none ≡ slice_index_or self.old.packs.items place none }
         ensures pack { (none : Pack V) → IsPack V.list V.CAP V.WIDTH instance.now
-            (slice_index_or self.new.packs.items (group_count left - 1) none) }
-        ensures left { chosen (here self.new).left.words (names_at self.new.packs.items (group_count left - 1))
-            ≡ chosen (here self.old).left.words (names_at self.old.packs.items (group_count left)) }
+            (slice_index_or self.new.packs.items (pack_groups left - 1) none) }
+        ensures bytes { (none : Pack V) → AreBytes instance.now
+            (slice_index_or self.new.packs.items (pack_groups left - 1) none) }
+        ensures left { chosen (here self.new).left.words (names_at self.new.packs.items (pack_groups left - 1))
+            ≡ chosen (here self.old).left.words (names_at self.old.packs.items (pack_groups (left + 1) - 1)) }
     {
         let frame = &mut self.frames[self.depth];
         refill(
             self.packs.as_mut_slice(),
             instance,
             rows,
-            group_count(left),
+            pack_groups(left + 1),
+            pack_groups(left),
             &frame.left,
         );
         frame.left = Marks::first(left);
     }
 
     /// Goes to the child of the node that the job of a place makes, at the end of the node. So many jobs are left
-    /// there; where these are whole groups, they are packed anew.
+    /// there; where a pack of fewer groups is enough for them, they are packed anew.
     #[inline(always)]
     fn go<const M: usize>(&mut self, instance: &Instance, rows: &[Row], place: usize, left: u16)
         requires wide { V.WIDTH ≡ 16 }
@@ -372,19 +438,18 @@ impl<V: Lanes> Path<V> {
         ensures opener { self.new.opener ≡ self.old.opener }
         ensures packs { ArePacks V.list V.CAP V.WIDTH instance.now left self.new.packs.items }
         ensures names { (more : ℕ) → left < more → more ≤ instance.now.jobs →
-            names_at self.old.packs.items (group_count more - 1)
-            ≡ names_at self.new.packs.items (group_count more - 1) }
+            names_at self.old.packs.items (pack_groups more - 1)
+            ≡ names_at self.new.packs.items (pack_groups more - 1) }
         ensures node { (first last : List ℕ) → IsNext instance.now first last left place self.old →
             IsNode instance.now (first_with (here self.old).end first (here self.old).job)
             (last_with (here self.old).end last (here self.old).job) (here self.new).node }
         ensures left { (first last : List ℕ) → IsNext instance.now first last left place self.old →
             HasLeft instance.now (first_with (here self.old).end first (here self.old).job)
             (last_with (here self.old).end last (here self.old).job)
-            (names_at self.new.packs.items (group_count left - 1)) (here self.new).left }
+            (names_at self.new.packs.items (pack_groups left - 1)) (here self.new).left }
     {
         self.put::<M>(instance, rows, place);
-        let spare = left as usize % LANES;
-        if spare == 0 {
+        if fits_fewer(left) {
             self.pack(instance, rows, left);
         }
     }
@@ -414,10 +479,10 @@ fn walk<V: Lanes, const M: usize>(
         return Err(CheckFault::Tree(DIRECTIONS));
     };
     let mut left = instance.jobs();
-    path.open::<M>(end, group_count(left));
+    path.open::<M>(end, pack_groups(left));
     let mut place = 1;
     'walk: loop {
-        match path.next(group_count(left)) {
+        match path.next(pack_groups(left)) {
             None => {
                 if path.depth == 0 {
                     return Ok(place);
@@ -434,7 +499,7 @@ fn walk<V: Lanes, const M: usize>(
                 };
                 left -= 1;
                 path.go::<M>(instance, rows.as_slice(), at, left);
-                path.open::<M>(end, group_count(left));
+                path.open::<M>(end, pack_groups(left));
                 place += 1;
             }
         }

@@ -15,8 +15,8 @@ fill-requires-clause-fits g c =
       arith,
       c.requires.fits,
       ap (λ names. length (chosen c.args.left.now.words names)) (names-right packs split.result.0.now
-          split.result.1.now c.args.groups c.index-more-0.result split.ensures.value split.ensures.front_len
-          c.requires.more),
+          split.result.1.now c.args.groups (c.args.from - 1) c.index-more-from.result split.ensures.value
+          split.ensures.front_len (omega (arith, c.requires.fewer)) (omega (arith, c.requires.fewer, c.requires.more))),
       ap length (names-left packs split.result.0.now split.result.1.now (c.args.groups - 1)
           c.index-fewer-groups.result split.ensures.value
           (omega (arith, split.ensures.front_len, c.requires.some))),
@@ -53,11 +53,12 @@ returns-clause-jobs g c =
     ) in
     let names : names_at (set fewer at new ++ more) at ≡ new.names.items =
     names-is (set fewer at new ++ more) at new inside ∙ ap (λ p. p.names.items) there in
-    let from : chosen c.args.left.now.words (names_at packs c.args.groups)
-    ≡ chosen c.args.left.now.words (slice_index_or more 0 c.index-more-0.result).names.items =
-    ap (chosen c.args.left.now.words) (names-right packs fewer more c.args.groups c.index-more-0.result
-    c.split_at_mut-fewer.ensures.value c.split_at_mut-fewer.ensures.front_len c.requires.more) in
-    ap (take (length (chosen c.args.left.now.words (names_at packs c.args.groups)))) names
+    let from : chosen c.args.left.now.words (names_at packs (c.args.from - 1))
+    ≡ chosen c.args.left.now.words (slice_index_or more (c.args.from - 1 - c.args.groups) c.index-more-from.result).names.items =
+    ap (chosen c.args.left.now.words) (names-right packs fewer more c.args.groups (c.args.from - 1) c.index-more-from.result
+    c.split_at_mut-fewer.ensures.value c.split_at_mut-fewer.ensures.front_len (omega (arith, c.requires.fewer))
+    (omega (arith, c.requires.fewer, c.requires.more))) in
+    ap (take (length (chosen c.args.left.now.words (names_at packs (c.args.from - 1))))) names
     ∙ ap (λ jobs. take (length jobs) new.names.items) from
     ∙ c.fill.ensures.jobs
     ∙ sym from

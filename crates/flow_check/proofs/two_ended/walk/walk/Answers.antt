@@ -1,11 +1,11 @@
-use Rattle.std.proofs.Common.{rules, ◌≡◌, ◌≢◌, ℕ, ◌+◌, ◌-◌, ◌<◌, ◌≤◌, List, [], ◌∷◌, ◌++◌, length, take, drop}
+use Rattle.std.proofs.Common.{rules, ◌≡◌, ◌≢◌, ℕ, ◌+◌, ◌-◌, ◌<◌, ◌≤◌, List, [], ◌∷◌, ◌++◌, length, take, drop, slice_index_or}
 use Rattle.std.proofs.Common.{Some, None, refl, ap, sym, ◌∙◌, subst, arith, inl}
 use Rattle.flow_shop.specs.Ends.{end_bound}
 use Rattle.flow_shop.specs.Directions.{first_with, last_with}
 use Rattle.flow_nodes.specs.Nodes.{IsNode}
-use Rattle.flow_nodes.specs.Groups.{group_count}
+use Rattle.flow_check.specs.internal.Frames.{pack_groups}
 use Rattle.flow_nodes.specs.Marks.{chosen}
-use Rattle.flow_nodes.specs.Packs.{HasLeft, HasRoomFor}
+use Rattle.flow_nodes.specs.Packs.{AreBytes, HasLeft, HasRoomFor, IsPack}
 use Rattle.flow_check.specs.internal.Frames.{ArePacks, IsNext, IsOpen, IsReady, first_of, last_of, frame_at, here}
 use Rattle.flow_check.specs.internal.Frames.{above, names_at}
 use Rattle.flow_check.specs.internal.ReadDirections.{first_end, read_node}
@@ -38,25 +38,27 @@ walk-init g c =
     let path = c.in_ok-path.path in
     let new = c.open.new.self in
     let made = c.in_ok-path.ensures in
-    let names = λ (left : ℕ). names_at new.packs.items (group_count left - 1) in
+    let names = λ (left : ℕ). names_at new.packs.items (pack_groups left - 1) in
     let low : end_bound shop [] [] < number =
     omega (arith, c.if-from-number.false, c.from.ensures, c.bound.ensures [] [] c.root-root.ensures) in
     let some : 1 ≤ shop.jobs = c.root-root.ensures.limits.some_job in
-    let all : c.group_count.result ≡ group_count shop.jobs = omega (arith, c.group_count.ensures, c.jobs-left.ensures.value) in
-    let last : c.group_count.result - 1 ≡ group_count shop.jobs - 1 = omega (arith, all) in
+    let all : c.pack_groups.result ≡ pack_groups shop.jobs = omega (arith, c.pack_groups.ensures, c.jobs-left.ensures.value) in
+    let last : c.pack_groups.result - 1 ≡ pack_groups shop.jobs - 1 = omega (arith, all) in
     let empty : above new ≡ [] = c.open.ensures.above ∙ ap (λ d. take d path.frames.items) made.depth in
-    let ready : IsReady list cap width shop number [] [] c.group_count.result path =
+    let ready : IsReady list cap width shop number [] [] c.pack_groups.result path =
     record {
       is_node = subst (IsNode shop [] []) (sym made.node) c.root-root.ensures;
       bound = low;
       limit = made.limit ∙ c.limit_of.ensures;
       room = made.room;
-      is_pack = λ none. made.packs.packed (c.group_count.result - 1) none (omega (arith, all, some))
-          (omega (arith, all, some, made.packs.have.count));
+      is_pack = λ none. subst (λ n. IsPack list cap width shop (slice_index_or path.packs.items n none)) (sym last)
+          (made.packs.packed shop.jobs none (omega arith) (omega arith));
+      bytes = λ none. subst (λ n. AreBytes shop (slice_index_or path.packs.items n none)) (sym last)
+          (made.packs.bytes shop.jobs none (omega arith) (omega arith));
       has_left = subst (λ n. HasLeft shop [] [] (names_at path.packs.items n) (here path).left) (sym last) made.left;
     } in
-    let is_opened : IsOpened shop number [] [] (names_at new.packs.items (c.group_count.result - 1)) new =
-    path-opened list cap width shop number [] [] c.group_count.result c.in-Some.end path new ready
+    let is_opened : IsOpened shop number [] [] (names_at new.packs.items (c.pack_groups.result - 1)) new =
+    path-opened list cap width shop number [] [] c.pack_groups.result c.in-Some.end path new ready
     (omega (arith, all, some, made.packs.have.count)) c.open.ensures.packs c.open.ensures.end c.open.ensures.node
     c.open.ensures.left c.open.ensures.within (c.open.ensures.below shop number [] [] ready) in
     let opened_all : IsOpened shop number [] [] (names shop.jobs) new =
@@ -78,10 +80,10 @@ walk-init g c =
 pub open-requires-clause-constant : goal.open-requires-clause-constant
 open-requires-clause-constant g c =
     let made = c.in_ok-path.ensures in
-    pack-machines c.args.instance.now c.in_ok-path.path.packs.items g.row.M (c.group_count.result - 1) made.packs.have
+    pack-machines c.args.instance.now c.in_ok-path.path.packs.items g.row.M (c.pack_groups.result - 1) made.packs.have
     (omega (
       arith,
-      c.group_count.ensures,
+      c.pack_groups.ensures,
       c.jobs-left.ensures.value,
       c.root-root.ensures.limits.some_job,
       made.packs.have.count,
@@ -92,9 +94,9 @@ next-requires-clause-names g c =
     let here_is = c.walk.invariant in
     omega (
       arith,
-      names-count c.args.instance.now c.walk.path.packs.items (c.group_count-in-walk.result - 1) here_is.packs.have
-          (omega (arith, here_is.packs.have.count, c.group_count-in-walk.ensures, here_is.left, here_is.some)),
-      c.group_count-in-walk.ensures,
+      names-count c.args.instance.now c.walk.path.packs.items (c.pack_groups-in-walk.result - 1) here_is.packs.have
+          (omega (arith, here_is.packs.have.count, c.pack_groups-in-walk.ensures, here_is.left, here_is.some)),
+      c.pack_groups-in-walk.ensures,
       here_is.some,
     )
 
@@ -116,9 +118,9 @@ walk-preserved-in-None g c =
     omega (arith, next.size, next.depth, here_is.size, here_is.left, here_is.some) in
     let deep : length (above old) ≡ old.depth =
     count-above old (omega (arith, here_is.size, here_is.left, here_is.some)) in
-    let at : c.group_count-in-walk.result - 1 ≡ group_count (shop.jobs - length (above old)) - 1 =
-    omega (arith, c.group_count-in-walk.ensures, here_is.left, deep) in
-    let none : chosen (here old).below.words (names_at old.packs.items (group_count (shop.jobs - length (above old)) - 1))
+    let at : c.pack_groups-in-walk.result - 1 ≡ pack_groups (shop.jobs - length (above old)) - 1 =
+    omega (arith, c.pack_groups-in-walk.ensures, here_is.left, deep) in
+    let none : chosen (here old).below.words (names_at old.packs.items (pack_groups (shop.jobs - length (above old)) - 1))
     ≡ [] =
     ap (λ n. chosen (here old).below.words (names_at old.packs.items n)) (sym at) ∙ c.in-None.ensures.none in
     let split : above old ≡ take (mid.depth - 1) mid.frames.items ++ frame_at mid.frames.items (mid.depth - 1) ∷ [] =
@@ -133,10 +135,10 @@ walk-preserved-in-None g c =
       packs = subst (λ ps. ArePacks list cap width shop (c.walk.left + 1) ps.items) (sym next.packs)
           (packs-above list cap width shop c.walk.left (c.walk.left + 1) old.packs.items (omega arith) here_is.packs);
       stands = subst (λ ps. Stands shop number whole text c.walk.place
-          (λ left. names_at ps.items (group_count left - 1)) (take (mid.depth - 1) mid.frames.items)
+          (λ left. names_at ps.items (pack_groups left - 1)) (take (mid.depth - 1) mid.frames.items)
           (frame_at mid.frames.items (mid.depth - 1))) (sym next.packs)
           (stands-back shop number whole text c.walk.place
-          (λ left. names_at old.packs.items (group_count left - 1)) (above old)
+          (λ left. names_at old.packs.items (pack_groups left - 1)) (above old)
           (take (mid.depth - 1) mid.frames.items) (here old) (frame_at mid.frames.items (mid.depth - 1))
           here_is.stands none split);
     }
@@ -149,7 +151,7 @@ returns-then-left-eq1-clause-read g c =
     let whole = read_node shop number shop.jobs [] [] text in
     let old = c.walk.path in
     let mid = c.next.new.self in
-    let groups = c.group_count-in-walk.result in
+    let groups = c.pack_groups-in-walk.result in
     let here_is = c.walk.invariant in
     let next = c.next.ensures in
     let at : IsAt shop number whole text c.walk.place c.walk.left old =
@@ -178,7 +180,7 @@ returns-then-left-eq1-clause-read g c =
     inl (fails-low shop number whole text c.walk.place (names_of old) (above old) (here old) (here mid)
     (first_of [] (above old)) (last_of [] (above old)) (shop.jobs - length (above old)) here_is.stands
     (turn-taken shop number whole text c.walk.place c.walk.left groups c.in-Some-next.at old mid at
-    c.group_count-in-walk.ensures turn) one)
+    c.pack_groups-in-walk.ensures turn) one)
 
 pub returns-in_default-end_at-clause-read : goal.returns-in_default-end_at-clause-read
 returns-in_default-end_at-clause-read g c =
@@ -188,7 +190,7 @@ returns-in_default-end_at-clause-read g c =
     let whole = read_node shop number shop.jobs [] [] text in
     let old = c.walk.path in
     let mid = c.next.new.self in
-    let groups = c.group_count-in-walk.result in
+    let groups = c.pack_groups-in-walk.result in
     let here_is = c.walk.invariant in
     let next = c.next.ensures in
     let at : IsAt shop number whole text c.walk.place c.walk.left old =
@@ -219,7 +221,7 @@ returns-in_default-end_at-clause-read g c =
     inl (fails-sign shop number whole text c.walk.place (names_of old) (above old) (here old) (here mid)
     (first_of [] (above old)) (last_of [] (above old)) (shop.jobs - length (above old)) here_is.stands
     (turn-taken shop number whole text c.walk.place c.walk.left groups c.in-Some-next.at old mid at
-    c.group_count-in-walk.ensures turn) more none)
+    c.pack_groups-in-walk.ensures turn) more none)
 
 pub go-requires-clause-packs : goal.go-requires-clause-packs
 go-requires-clause-packs g c =
@@ -239,7 +241,7 @@ go-requires-clause-at g c =
     let whole = read_node shop number shop.jobs [] [] text in
     let old = c.walk.path in
     let mid = c.next.new.self in
-    let groups = c.group_count-in-walk.result in
+    let groups = c.pack_groups-in-walk.result in
     let here_is = c.walk.invariant in
     let next = c.next.ensures in
     let at : IsAt shop number whole text c.walk.place c.walk.left old =
@@ -265,16 +267,16 @@ go-requires-clause-at g c =
       first_of [] (above old),
       last_of [] (above old),
       turn-next shop number whole text c.walk.place c.walk.left groups c.in-Some-next.at old mid at
-          c.group_count-in-walk.ensures turn (c.walk.left - 1) refl,
+          c.pack_groups-in-walk.ensures turn (c.walk.left - 1) refl,
     )
 
 pub open-requires-in-Some-next-clause-constant : goal.open-requires-in-Some-next-clause-constant
 open-requires-in-Some-next-clause-constant g c =
-    pack-machines c.args.instance.now c.go.new.self.packs.items g.row.M (c.group_count-in-Some-next.result - 1)
+    pack-machines c.args.instance.now c.go.new.self.packs.items g.row.M (c.pack_groups-in-Some-next.result - 1)
     c.go.ensures.packs.have
     (omega (
       arith,
-      c.group_count-in-Some-next.ensures,
+      c.pack_groups-in-Some-next.ensures,
       c.go.ensures.packs.have.count,
       c.walk.invariant.left,
       c.walk.invariant.some,
@@ -289,7 +291,7 @@ open-requires-in-Some-next-clause-at g c =
     let whole = read_node shop number shop.jobs [] [] text in
     let old = c.walk.path in
     let mid = c.next.new.self in
-    let groups = c.group_count-in-walk.result in
+    let groups = c.pack_groups-in-walk.result in
     let here_is = c.walk.invariant in
     let next = c.next.ensures in
     let at : IsAt shop number whole text c.walk.place c.walk.left old =
@@ -318,19 +320,19 @@ open-requires-in-Some-next-clause-at g c =
     let first2 : List ℕ = first_with (here mid).end first job in
     let last2 : List ℕ = last_with (here mid).end last job in
     let put = c.go.new.self in
-    let groups2 = c.group_count-in-Some-next.result in
+    let groups2 = c.pack_groups-in-Some-next.result in
     let is_next : IsNext shop first last (c.walk.left - 1) c.in-Some-next.at mid =
     turn-next shop number whole text c.walk.place c.walk.left groups c.in-Some-next.at old mid at
-    c.group_count-in-walk.ensures turn (c.walk.left - 1) refl in
+    c.pack_groups-in-walk.ensures turn (c.walk.left - 1) refl in
     let is_open : IsOpen shop number (here mid).end first last job =
     turn-open shop number whole text c.walk.place c.walk.left groups c.in-Some-next.at old mid at
-    c.group_count-in-walk.ensures turn in
+    c.pack_groups-in-walk.ensures turn in
     let few : 1 ≤ c.walk.left - 1 = omega (arith, c.if-left-eq1.false, here_is.some) in
-    let index : group_count (c.walk.left - 1) - 1 ≡ groups2 - 1 = omega (arith, c.group_count-in-Some-next.ensures) in
+    let index : pack_groups (c.walk.left - 1) - 1 ≡ groups2 - 1 = omega (arith, c.pack_groups-in-Some-next.ensures) in
     let inside : groups2 - 1 < length put.packs.items = omega (
       arith,
       c.go.ensures.packs.have.count,
-      c.group_count-in-Some-next.ensures,
+      c.pack_groups-in-Some-next.ensures,
       here_is.left,
       few,
     ) in
@@ -340,8 +342,11 @@ open-requires-in-Some-next-clause-at g c =
       bound = is_open.below;
       limit = ap (λ o. o.limit) c.go.ensures.opener ∙ ap (λ o. o.limit) next.opener ∙ here_is.limit;
       room = subst (HasRoomFor shop) (sym (c.go.ensures.opener ∙ next.opener)) here_is.room;
-      is_pack = λ none. c.go.ensures.packs.packed (groups2 - 1) none
-          (omega (arith, c.group_count-in-Some-next.ensures, few)) inside;
+      is_pack = λ none.
+          subst (λ n. IsPack g.V.Lanes.list g.V.Lanes.CAP g.V.Lanes.WIDTH shop (slice_index_or put.packs.items n none))
+          index (c.go.ensures.packs.packed (c.walk.left - 1) none (omega arith) (omega (arith, here_is.left)));
+      bytes = λ none. subst (λ n. AreBytes shop (slice_index_or put.packs.items n none)) index
+          (c.go.ensures.packs.bytes (c.walk.left - 1) none (omega arith) (omega (arith, here_is.left)));
       has_left = subst (λ n. HasLeft shop first2 last2 (names_at put.packs.items n) (here put).left) index
           (c.go.ensures.left first last is_next);
     } in
@@ -355,7 +360,7 @@ walk-preserved g c =
     let whole = read_node shop number shop.jobs [] [] text in
     let old = c.walk.path in
     let mid = c.next.new.self in
-    let groups = c.group_count-in-walk.result in
+    let groups = c.pack_groups-in-walk.result in
     let here_is = c.walk.invariant in
     let next = c.next.ensures in
     let at : IsAt shop number whole text c.walk.place c.walk.left old =
@@ -384,19 +389,19 @@ walk-preserved g c =
     let first2 : List ℕ = first_with (here mid).end first job in
     let last2 : List ℕ = last_with (here mid).end last job in
     let put = c.go.new.self in
-    let groups2 = c.group_count-in-Some-next.result in
+    let groups2 = c.pack_groups-in-Some-next.result in
     let is_next : IsNext shop first last (c.walk.left - 1) c.in-Some-next.at mid =
     turn-next shop number whole text c.walk.place c.walk.left groups c.in-Some-next.at old mid at
-    c.group_count-in-walk.ensures turn (c.walk.left - 1) refl in
+    c.pack_groups-in-walk.ensures turn (c.walk.left - 1) refl in
     let is_open : IsOpen shop number (here mid).end first last job =
     turn-open shop number whole text c.walk.place c.walk.left groups c.in-Some-next.at old mid at
-    c.group_count-in-walk.ensures turn in
+    c.pack_groups-in-walk.ensures turn in
     let few : 1 ≤ c.walk.left - 1 = omega (arith, c.if-left-eq1.false, here_is.some) in
-    let index : group_count (c.walk.left - 1) - 1 ≡ groups2 - 1 = omega (arith, c.group_count-in-Some-next.ensures) in
+    let index : pack_groups (c.walk.left - 1) - 1 ≡ groups2 - 1 = omega (arith, c.pack_groups-in-Some-next.ensures) in
     let inside : groups2 - 1 < length put.packs.items = omega (
       arith,
       c.go.ensures.packs.have.count,
-      c.group_count-in-Some-next.ensures,
+      c.pack_groups-in-Some-next.ensures,
       here_is.left,
       few,
     ) in
@@ -406,8 +411,11 @@ walk-preserved g c =
       bound = is_open.below;
       limit = ap (λ o. o.limit) c.go.ensures.opener ∙ ap (λ o. o.limit) next.opener ∙ here_is.limit;
       room = subst (HasRoomFor shop) (sym (c.go.ensures.opener ∙ next.opener)) here_is.room;
-      is_pack = λ none. c.go.ensures.packs.packed (groups2 - 1) none
-          (omega (arith, c.group_count-in-Some-next.ensures, few)) inside;
+      is_pack = λ none.
+          subst (λ n. IsPack g.V.Lanes.list g.V.Lanes.CAP g.V.Lanes.WIDTH shop (slice_index_or put.packs.items n none))
+          index (c.go.ensures.packs.packed (c.walk.left - 1) none (omega arith) (omega (arith, here_is.left)));
+      bytes = λ none. subst (λ n. AreBytes shop (slice_index_or put.packs.items n none)) index
+          (c.go.ensures.packs.bytes (c.walk.left - 1) none (omega arith) (omega (arith, here_is.left)));
       has_left = subst (λ n. HasLeft shop first2 last2 (names_at put.packs.items n) (here put).left) index
           (c.go.ensures.left first last is_next);
     } in
@@ -426,7 +434,7 @@ walk-preserved g c =
       packs = subst (λ ps. ArePacks g.V.Lanes.list g.V.Lanes.CAP g.V.Lanes.WIDTH shop (c.walk.left - 1) ps.items)
           (sym begun.packs) c.go.ensures.packs;
       stands = turn-stands shop number whole text c.walk.place c.walk.left groups c.in-Some-next.at old mid at
-          c.group_count-in-walk.ensures turn (c.walk.left - 1) groups2 put new refl few
-          c.group_count-in-Some-next.ensures next.above c.go.ensures.above c.go.ensures.names begun.packs begun.above
+          c.pack_groups-in-walk.ensures turn (c.walk.left - 1) groups2 put new refl few
+          c.pack_groups-in-Some-next.ensures next.above c.go.ensures.above c.go.ensures.names begun.packs begun.above
           (sym c.in-Some-end_at.ensures.value ∙ ap Some (sym begun.end)) is_opened;
     }

@@ -1,6 +1,6 @@
 use Rattle.std.proofs.Common.{◌≡◌, ◌+◌, ◌-◌, ◌*◌, ◌≤◌, [], length}
 use Rattle.flow_nodes.specs.Lanes.{limit_of}
-use Rattle.flow_nodes.specs.Groups.{group_count}
+use Rattle.flow_check.specs.internal.Frames.{pack_groups}
 use Rattle.flow_nodes.specs.Packs.{HasRoomFor}
 use Rattle.flow_check.specs.internal.Frames.{ArePacks, here, above, names_at}
 use Rattle.flow_check.specs.internal.ReadDirections.{read_node}
@@ -18,7 +18,7 @@ invariant-walk g l = record {
   room : HasRoomFor l.instance l.path.opener;
   packs : ArePacks g.V.Lanes.list g.V.Lanes.CAP g.V.Lanes.WIDTH l.instance l.left l.path.packs.items;
   stands : Stands l.instance l.number (read_node l.instance l.number l.instance.jobs [] [] l.text) l.text l.place
-      (λ left. names_at l.path.packs.items (group_count left - 1)) (above l.path) (here l.path);
+      (λ left. names_at l.path.packs.items (pack_groups left - 1)) (above l.path) (here l.path);
 }
 
 abbrev pub decreases-walk : goal.decreases-walk

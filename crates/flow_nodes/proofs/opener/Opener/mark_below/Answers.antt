@@ -30,18 +30,18 @@ write-requires g c =
     )
 
 pub returns-then-len-le-FEW_GROUPS-clause-below : goal.returns-then-len-le-FEW_GROUPS-clause-below
-returns-then-len-le-FEW_GROUPS-clause-below g c shop number first last limit is is_pack has_left =
+returns-then-len-le-FEW_GROUPS-clause-below g c shop number first last limit is is_pack bytes has_left =
     jobs-left-below g.V.Lanes.list g.V.Lanes.CAP g.V.Lanes.WIDTH shop number c.args.end first last c.args.pack.now
     c.args.left.now c.mark_few.new.below c.as_slice.result.now c.as_slice.ensures.value is_pack has_left
     c.mark_few.ensures.within
     (λ jobs place none within are was fresh.
     c.mark_few.ensures.exact shop number first last jobs place none limit is within are was fresh)
 
-pub returns-else-len-le-FEW_GROUPS-clause-below : goal.returns-else-len-le-FEW_GROUPS-clause-below
-returns-else-len-le-FEW_GROUPS-clause-below g c shop number first last limit is is_pack has_left =
+pub returns-else-reads_bytes-clause-below : goal.returns-else-reads_bytes-clause-below
+returns-else-reads_bytes-clause-below g c shop number first last limit is is_pack bytes has_left =
     jobs-left-below g.V.Lanes.list g.V.Lanes.CAP g.V.Lanes.WIDTH shop number c.args.end first last c.args.pack.now
-    c.args.left.now c.mark_groups.new.below c.as_slice-else-len-le-FEW_GROUPS.result.now
-    c.as_slice-else-len-le-FEW_GROUPS.ensures.value is_pack has_left c.mark_groups.ensures.within
+    c.args.left.now c.mark_groups.new.below c.as_slice-else-reads_bytes.result.now
+    c.as_slice-else-reads_bytes.ensures.value is_pack has_left c.mark_groups.ensures.within
     (λ jobs place none within are was fresh.
     c.mark_groups.ensures.exact shop number first last jobs c.args.node.now place none (c.write.ensures.limit ∙ limit) is
     c.write.ensures.spread within are was fresh)

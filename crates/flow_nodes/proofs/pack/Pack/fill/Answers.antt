@@ -3,7 +3,7 @@ use Rattle.std.proofs.lemmas.List.{length-set, get_or_read}
 use Rattle.flow_nodes.specs.Nodes.{IsJob}
 use Rattle.flow_nodes.specs.Marks.{chosen}
 use Rattle.flow_nodes.specs.Packs.{jobs_at}
-use Rattle.flow_nodes.proofs.PackSteps.{room-named, put-more}
+use Rattle.flow_nodes.proofs.PackSteps.{byte-room-same, room-named, put-more}
 use Rattle.flow_nodes.proofs.pack.Pack.fill.Goals as goal
 
 pub places-preserved : goal.places-preserved
@@ -25,6 +25,7 @@ places-preserved g c =
     record {
       room = room-named c.args.instance.now c.places.self _ c.places.count job c.places.invariant.room refl refl within
           (subst (IsJob c.args.instance.now) (sym named) (c.requires.from.jobs place inside));
+      bytes = c.places.invariant.bytes;
       groups = c.places.invariant.groups;
       size = length-set names c.places.count job ∙ c.places.invariant.size;
       count = omega (arith, more, c.places.invariant.count);
@@ -32,3 +33,9 @@ places-preserved g c =
       jobs = put-more names (chosen c.places.rest.words from) (chosen c.pop_from.new.self.words from)
           (jobs_at c.args.from.now c.args.marks.now) c.places.count job within first c.places.invariant.jobs;
     }
+
+pub returns-clause-bytes : goal.returns-clause-bytes
+returns-clause-bytes g c room =
+    c.load.ensures.bytes
+    (byte-room-same c.args.instance.now c.args.self.now c.places.self room c.places.invariant.bytes
+    c.places.invariant.groups)

@@ -7,6 +7,7 @@ use Rattle.flow_nodes.proofs.pack.Pack.fill.Given as goal
 abbrev pub invariant-places : goal.invariant-places
 invariant-places g l = record {
   room : HasRoom l.instance l.self;
+  bytes : l.self.bytes ≡ l.fn.self.bytes;
   groups : length l.self.groups.items ≡ length l.fn.self.groups.items;
   size : length l.self.names.items ≡ length l.fn.self.names.items;
   count : l.count + length (jobs_at l.from l.rest) ≡ length (jobs_at l.from l.marks);

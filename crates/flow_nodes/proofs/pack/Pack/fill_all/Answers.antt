@@ -2,7 +2,7 @@ use Rattle.std.proofs.Common.{◌≡◌, suc, ◌+◌, ◌-◌, ◌<◌, ◌≤�
 use Rattle.std.proofs.lemmas.List.{length-set, take_more_set}
 use Rattle.flow_shop.specs.Sequences.{jobs_left}
 use Rattle.flow_shop.proofs.JobsLeft.{filter-more}
-use Rattle.flow_nodes.proofs.PackSteps.{room-named}
+use Rattle.flow_nodes.proofs.PackSteps.{byte-room-same, room-named}
 use Rattle.flow_nodes.proofs.pack.Pack.fill_all.Goals as goal
 
 pub loop-job-preserved : goal.loop-job-preserved
@@ -19,6 +19,7 @@ loop-job-preserved g c =
     let back : suc (job - 1) ≡ job + 1 - 1 = omega (arith, low) in
     record {
       room = room-named shop c.loop-job.self _ (job - 1) job here.room refl refl within (low, high);
+      bytes = here.bytes;
       groups = here.groups;
       size = length-set names (job - 1) job ∙ here.size;
       jobs = ap (λ k. take k (set names (job - 1) job)) next
@@ -28,3 +29,9 @@ loop-job-preserved g c =
           ∙ sym (filter-more (λ job. true) (job - 1))
           ∙ ap (λ k. jobs_left k []) back;
     }
+
+pub returns-clause-bytes : goal.returns-clause-bytes
+returns-clause-bytes g c room =
+    c.load.ensures.bytes
+    (byte-room-same c.args.instance.now c.args.self.now c.loop-job.self room c.loop-job.invariant.bytes
+    c.loop-job.invariant.groups)

@@ -3,7 +3,7 @@ use Rattle.std.proofs.Common.{ap, sym, ◌∙◌, subst, arith}
 use Rattle.flow_shop.specs.Sequences.{jobs_left}
 use Rattle.flow_shop.specs.Directions.{first_with, last_with}
 use Rattle.flow_nodes.specs.Nodes.{IsNode}
-use Rattle.flow_nodes.specs.Groups.{group_count}
+use Rattle.flow_check.specs.internal.Frames.{pack_groups}
 use Rattle.flow_nodes.specs.Marks.{chosen}
 use Rattle.flow_nodes.proofs.KeptNodes.{lengths}
 use Rattle.flow_check.specs.internal.Frames.{ArePacks, HavePacks, here, names_at}
@@ -29,23 +29,20 @@ pack-requires-clause-count g c =
     let first2 : List ℕ = first_with old.end first old.job in
     let last2 : List ℕ = last_with old.end last old.job in
     let packs = c.args.self.now.packs.items in
-    let same : group_count (c.args.left + 1) - 1 ≡ group_count c.args.left =
-    omega (arith, c.if-spare-eq0.true, c.requires.some) in
-    let names : List ℕ = names_at packs (group_count (c.args.left + 1) - 1) in
+    let names : List ℕ = names_at packs (pack_groups (c.args.left + 1) - 1) in
     let left : chosen (here c.put.new.self).left.words names ≡ jobs_left shop.jobs (first2 ++ last2) =
     c.put.ensures.left first last names next.has_left next.fresh next.within next.named next.marked in
     let node : IsNode shop first2 last2 (here c.put.new.self).node =
     c.put.ensures.node first last next.is_node next.fresh in
     let count : length (jobs_left shop.jobs (first2 ++ last2)) ≡ c.args.left =
     omega (arith, node.count, next.count, lengths old.end first last old.job) in
-    ap (λ ps. length (chosen (here c.put.new.self).left.words (names_at ps.items (group_count c.args.left))))
+    ap (λ ps. length (chosen (here c.put.new.self).left.words (names_at ps.items (pack_groups (c.args.left + 1) - 1))))
     c.put.ensures.packs
-    ∙ ap (λ n. length (chosen (here c.put.new.self).left.words (names_at packs n))) (sym same)
     ∙ ap length left
     ∙ count
 
-pub returns-then-spare-eq0-clause-packs : goal.returns-then-spare-eq0-clause-packs
-returns-then-spare-eq0-clause-packs g c =
+pub returns-then-fits_fewer-clause-packs : goal.returns-then-fits_fewer-clause-packs
+returns-then-fits_fewer-clause-packs g c =
     let shop = c.args.instance.now in
     let list = g.V.Lanes.list in
     let cap = g.V.Lanes.CAP in
@@ -53,23 +50,23 @@ returns-then-spare-eq0-clause-packs g c =
     let put : ArePacks list cap width shop (c.args.left + 1) c.put.new.self.packs.items =
     subst (λ ps. ArePacks list cap width shop (c.args.left + 1) ps.items) (sym c.put.ensures.packs) c.requires.packs in
     packs-packed list cap width shop c.args.left c.put.new.self.packs.items c.pack.new.self.packs.items
-    (omega (arith, c.if-spare-eq0.true)) c.requires.some put c.pack.ensures.packs c.pack.ensures.others
-    c.pack.ensures.pack
+    c.requires.some put c.pack.ensures.packs c.pack.ensures.others c.pack.ensures.pack c.pack.ensures.bytes
 
-pub returns-else-spare-eq0-clause-packs : goal.returns-else-spare-eq0-clause-packs
-returns-else-spare-eq0-clause-packs g c =
+pub returns-else-fits_fewer-clause-packs : goal.returns-else-fits_fewer-clause-packs
+returns-else-fits_fewer-clause-packs g c =
     let shop = c.args.instance.now in
     let list = g.V.Lanes.list in
     let cap = g.V.Lanes.CAP in
     let width = g.V.Lanes.WIDTH in
     let put : ArePacks list cap width shop (c.args.left + 1) c.put.new.self.packs.items =
     subst (λ ps. ArePacks list cap width shop (c.args.left + 1) ps.items) (sym c.put.ensures.packs) c.requires.packs in
-    packs-below list cap width shop c.args.left c.put.new.self.packs.items (omega (arith, c.if-spare-eq0.false)) put
+    packs-below list cap width shop c.args.left c.put.new.self.packs.items
+    (omega (arith, c.fits_fewer.ensures.same c.if-fits_fewer.false)) c.requires.few put
 
-pub returns-then-spare-eq0-clause-names : goal.returns-then-spare-eq0-clause-names
-returns-then-spare-eq0-clause-names g c more low high =
+pub returns-then-fits_fewer-clause-names : goal.returns-then-fits_fewer-clause-names
+returns-then-fits_fewer-clause-names g c more low high =
     let old = c.args.self.now.packs.items in
-    let at = group_count more - 1 in
+    let at = pack_groups more - 1 in
     let within : at < length old = omega (arith, low, high, c.requires.packs.have.count, c.requires.some) in
     sym (names-same c.put.new.self.packs.items c.pack.new.self.packs.items at
     (omega (arith, within, ap (λ ps. length ps.items) c.put.ensures.packs))
@@ -79,41 +76,38 @@ returns-then-spare-eq0-clause-names g c more low high =
       c.requires.packs.have.count,
       ap (λ ps. length ps.items) c.put.ensures.packs,
     ))
-    (λ none. c.pack.ensures.others at none (omega (arith, low, c.if-spare-eq0.true, c.requires.some)))
+    (λ none. c.pack.ensures.others at none (omega (arith, low, c.fits_fewer.ensures.fewer c.if-fits_fewer.true, c.requires.some)))
     ∙ ap (λ ps. names_at ps.items at) c.put.ensures.packs)
 
-pub returns-else-spare-eq0-clause-names : goal.returns-else-spare-eq0-clause-names
-returns-else-spare-eq0-clause-names g c more low high =
-    sym (ap (λ ps. names_at ps.items (group_count more - 1)) c.put.ensures.packs)
+pub returns-else-fits_fewer-clause-names : goal.returns-else-fits_fewer-clause-names
+returns-else-fits_fewer-clause-names g c more low high =
+    sym (ap (λ ps. names_at ps.items (pack_groups more - 1)) c.put.ensures.packs)
 
-pub returns-then-spare-eq0-clause-node : goal.returns-then-spare-eq0-clause-node
-returns-then-spare-eq0-clause-node g c first last next =
+pub returns-then-fits_fewer-clause-node : goal.returns-then-fits_fewer-clause-node
+returns-then-fits_fewer-clause-node g c first last next =
     let old = here c.args.self.now in
     subst (IsNode c.args.instance.now (first_with old.end first old.job) (last_with old.end last old.job))
     (sym c.pack.ensures.node) (c.put.ensures.node first last next.is_node next.fresh)
 
-pub returns-else-spare-eq0-clause-node : goal.returns-else-spare-eq0-clause-node
-returns-else-spare-eq0-clause-node g c first last next = c.put.ensures.node first last next.is_node next.fresh
+pub returns-else-fits_fewer-clause-node : goal.returns-else-fits_fewer-clause-node
+returns-else-fits_fewer-clause-node g c first last next = c.put.ensures.node first last next.is_node next.fresh
 
-pub returns-then-spare-eq0-clause-left : goal.returns-then-spare-eq0-clause-left
-returns-then-spare-eq0-clause-left g c first last next =
+pub returns-then-fits_fewer-clause-left : goal.returns-then-fits_fewer-clause-left
+returns-then-fits_fewer-clause-left g c first last next =
     let packs = c.args.self.now.packs.items in
-    let names : List ℕ = names_at packs (group_count (c.args.left + 1) - 1) in
-    let same : group_count c.args.left ≡ group_count (c.args.left + 1) - 1 =
-    omega (arith, c.if-spare-eq0.true, c.requires.some) in
+    let names : List ℕ = names_at packs (pack_groups (c.args.left + 1) - 1) in
     c.pack.ensures.left
-    ∙ ap (λ ps. chosen (here c.put.new.self).left.words (names_at ps.items (group_count c.args.left)))
+    ∙ ap (λ ps. chosen (here c.put.new.self).left.words (names_at ps.items (pack_groups (c.args.left + 1) - 1)))
     c.put.ensures.packs
-    ∙ ap (λ n. chosen (here c.put.new.self).left.words (names_at packs n)) same
     ∙ c.put.ensures.left first last names next.has_left next.fresh next.within next.named next.marked
 
-pub returns-else-spare-eq0-clause-left : goal.returns-else-spare-eq0-clause-left
-returns-else-spare-eq0-clause-left g c first last next =
+pub returns-else-fits_fewer-clause-left : goal.returns-else-fits_fewer-clause-left
+returns-else-fits_fewer-clause-left g c first last next =
     let packs = c.args.self.now.packs.items in
-    let names : List ℕ = names_at packs (group_count (c.args.left + 1) - 1) in
-    let same : group_count c.args.left - 1 ≡ group_count (c.args.left + 1) - 1 =
-    omega (arith, c.if-spare-eq0.false) in
-    ap (λ ps. chosen (here c.put.new.self).left.words (names_at ps.items (group_count c.args.left - 1)))
+    let names : List ℕ = names_at packs (pack_groups (c.args.left + 1) - 1) in
+    let same : pack_groups c.args.left - 1 ≡ pack_groups (c.args.left + 1) - 1 =
+    omega (arith, c.fits_fewer.ensures.same c.if-fits_fewer.false) in
+    ap (λ ps. chosen (here c.put.new.self).left.words (names_at ps.items (pack_groups c.args.left - 1)))
     c.put.ensures.packs
     ∙ ap (λ n. chosen (here c.put.new.self).left.words (names_at packs n)) same
     ∙ c.put.ensures.left first last names next.has_left next.fresh next.within next.named next.marked

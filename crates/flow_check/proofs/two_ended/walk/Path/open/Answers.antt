@@ -2,7 +2,7 @@ use Rattle.std.proofs.Common.{◌≡◌, ◌-◌, ◌<◌, length, slice_index_o
 use Rattle.std.proofs.lemmas.List.{get_or-set_same, get_or_default}
 use Rattle.flow_nodes.specs.Nodes.{IsNode}
 use Rattle.flow_nodes.specs.Marks.{chosen}
-use Rattle.flow_nodes.specs.Packs.{HasLeft, IsPack}
+use Rattle.flow_nodes.specs.Packs.{AreBytes, HasLeft, IsPack}
 use Rattle.flow_check.specs.internal.Frames.{here, names_at}
 use Rattle.flow_check.proofs.PackNames.{names-is}
 use Rattle.flow_check.proofs.two_ended.walk.Path.open.Goals as goal
@@ -47,5 +47,6 @@ returns-clause-below g c shop number first last ready =
     ∙ c.mark_below.ensures.below shop number first last ready.limit
     (subst (λ f. IsNode shop first last f.node) frame_is ready.is_node)
     (subst (IsPack g.V.Lanes.list g.V.Lanes.CAP g.V.Lanes.WIDTH shop) (sym pack_is) (ready.is_pack pack))
+    (subst (AreBytes shop) (sym pack_is) (ready.bytes pack))
     (subst (λ f. HasLeft shop first last pack.names.items f.left) frame_is
     (subst (λ ns. HasLeft shop first last ns (here path).left) names ready.has_left))

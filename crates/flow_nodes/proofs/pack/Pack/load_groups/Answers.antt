@@ -3,7 +3,7 @@ use Rattle.std.specs.Vec.{with_items}
 use Rattle.std.proofs.lemmas.List.{length-set, with_items_is}
 use Rattle.flow_nodes.specs.Groups.{IsGroup}
 use Rattle.flow_nodes.proofs.PackSteps.{room-grouped, groups-more}
-use Rattle.flow_nodes.proofs.pack.Pack.load.Goals as goal
+use Rattle.flow_nodes.proofs.pack.Pack.load_groups.Goals as goal
 
 pub loop-group-preserved : goal.loop-group-preserved
 loop-group-preserved g c =
@@ -34,6 +34,7 @@ loop-group-preserved g c =
       room = room-grouped c.args.instance.now groups group vector long c.loop-group.self _ c.loop-group.invariant.room
           refl refl refl (ap length is ∙ c.turn_group.ensures.machines);
       names = c.loop-group.invariant.names;
+      bytes = c.loop-group.invariant.bytes;
       count = length-set groups group vector ∙ c.loop-group.invariant.count;
       done = groups-more c.args.instance.now groups group vector long g.V.Lanes.list g.V.Lanes.CAP g.V.Lanes.WIDTH names
           c.loop-group.invariant.done
