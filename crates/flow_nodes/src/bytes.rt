@@ -44,6 +44,18 @@ impl Lanes for u8x16 {
         u8x16::splat(number as u8)
     }
 
+    ghost pair_of = { λ number. number };
+
+    #[inline(always)]
+    fn pairs(four: u32x4) -> u32x4 {
+        four
+    }
+
+    #[inline(always)]
+    fn from_pair(pair: u32) -> u8x16 {
+        u8x16::splat(pair.min(BYTE_CAP) as u8)
+    }
+
     #[inline(always)]
     fn at_least(self, other: u8x16) -> u8x16 {
         self.simd_max(other)
@@ -57,6 +69,16 @@ impl Lanes for u8x16 {
     #[inline(always)]
     fn below(self, number: u32) -> u64 {
         self.simd_lt(u8x16::splat(number as u8)).to_bitmask()
+    }
+
+    #[inline(always)]
+    fn sum_marked(self, word: u16) -> u64 {
+        let bytes = self.to_array();
+        let mut numbers = [0; 16];
+        for lane in 0..16 {
+            numbers[lane] = u32::from(bytes[lane]);
+        }
+        u32x16::from_array(numbers).sum_marked(word)
     }
 
     #[inline(always)]
