@@ -3,3 +3,4 @@ pub mod Spread
 pub mod Small
 pub mod Pairs
 pub mod Passes
+pub mod Scan
