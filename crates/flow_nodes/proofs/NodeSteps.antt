@@ -4,7 +4,7 @@ use Rattle.std.proofs.Common.{map, slice_index, set, refl, ap, sym, ◌∙◌, s
 use Rattle.std.proofs.lemmas.Bool.{cases_lt}
 use Rattle.std.proofs.lemmas.List.{get_or-set_same, get_or-set_other}
 use Rattle.flow_limits.specs.Limits.{most_jobs, most_machines, greatest_completion, greatest_time}
-use Rattle.flow_shop.specs.Shop.{Shop, AreOf, IsWithinLimits, numbers, time}
+use Rattle.flow_shop.specs.Shop.{Shop, IsWithinLimits, numbers}
 use Rattle.flow_shop.specs.Rows.{IsRow}
 use Rattle.flow_shop.specs.declared.row.Row.{Row}
 use Rattle.flow_shop.specs.Least.{least}
@@ -114,10 +114,7 @@ filled-up P numbers at value within here before place low = elim (cases_lt place
       subst (P place) (sym there) (subst (λ i. P i value) e here)
 ]
 
--- the times of a row are those of its job, and small
-pub row-times : (shop : Shop) (job : ℕ) (row : Row) → IsRow shop job row → AreOf shop (time shop job) row.times
-row-times shop job row is machine low high = (is machine low high).0
-
+-- the times of a row are small
 pub row-small : (shop : Shop) (job : ℕ) (row : Row) (place : ℕ) → IsWithinLimits shop → IsRow shop job row →
     place < shop.machines → slice_index row.times place ≤ greatest_time
 row-small shop job row place limits is low =

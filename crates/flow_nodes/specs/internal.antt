@@ -4,3 +4,4 @@ pub mod Small
 pub mod Pairs
 pub mod Passes
 pub mod Bytes
+pub mod Scan

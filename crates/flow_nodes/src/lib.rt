@@ -18,7 +18,6 @@ mod pairs;
 mod passes;
 mod plain_end;
 mod scan;
-mod single;
 mod starts;
 
 pub use group::{LANES, MAX_GROUPS, group_count, groups, write_group};

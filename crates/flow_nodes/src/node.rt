@@ -13,8 +13,7 @@ ghost use Rattle.flow_nodes.specs.Groups.{IsCappedBound, child_bound};
 ghost use Rattle.flow_nodes.specs.Nodes.{IsJob, IsMachine, IsNode, work};
 
 use crate::few_groups::known_or;
-use crate::scan::{FOUR, fewer_of_four};
-use crate::single::{greater, number_of, single, sum};
+use crate::scan::{back_with, front_with, work_without};
 use flow_limits::MAX_MACHINES;
 use flow_shop::{End, Instance, Row};
 
@@ -109,79 +108,6 @@ fn take_work(instance: &Instance, works: &mut [u32; MAX_MACHINES], job: u16)
     }
 }
 
-/// Writes the fronts of a first list with a job behind it, by those of the list.
-#[inline(always)]
-fn front_with(
-    fronts: &[u32; MAX_MACHINES],
-    times: &[u32; MAX_MACHINES],
-    machines: usize,
-    longer: &mut [u32; MAX_MACHINES],
-)
-    requires machines { machines ≤ most_machines }
-    requires small { (place : ℕ) → place < machines → slice_index fronts.now place ≤ greatest_completion }
-    requires times { (place : ℕ) → place < machines → slice_index times.now place ≤ greatest_time }
-    ensures { (shop : Shop) (first : List ℕ) (job : ℕ) → machines ≡ shop.machines →
-        All (λ job. IsJob shop job) first → IsJob shop job → AreOf shop (front shop first) fronts.now →
-        AreOf shop (time shop job) times.now → AreOf shop (front shop (first ++ job ∷ [])) longer.new }
-{
-    let mut free = single(0);
-    for place in 0..machines {
-        let near = single(fronts[place]);
-        let time = single(times[place]);
-        let start = greater(free, near);
-        free = sum(start, time);
-        longer[place] = number_of(free);
-    }
-}
-
-/// Writes the backs of a last list with a job before it, by those of the list.
-#[inline(always)]
-fn back_with(
-    backs: &[u32; MAX_MACHINES],
-    times: &[u32; MAX_MACHINES],
-    machines: usize,
-    longer: &mut [u32; MAX_MACHINES],
-)
-    requires machines { machines ≤ most_machines }
-    requires small { (place : ℕ) → place < machines → slice_index backs.now place ≤ greatest_completion }
-    requires times { (place : ℕ) → place < machines → slice_index times.now place ≤ greatest_time }
-    ensures { (shop : Shop) (last : List ℕ) (job : ℕ) → machines ≡ shop.machines → IsJob shop job →
-        AreOf shop (back shop last) backs.now → AreOf shop (time shop job) times.now →
-        AreOf shop (back shop (job ∷ last)) longer.new }
-{
-    let mut behind = single(0);
-    let mut machine = machines;
-    while machine > 0 {
-        let place = machine - 1;
-        let near = single(backs[place]);
-        let time = single(times[place]);
-        let start = greater(behind, near);
-        behind = sum(start, time);
-        longer[place] = number_of(behind);
-        machine = place;
-    }
-}
-
-/// Writes the times of the jobs left without one of them.
-#[inline(always)]
-fn work_without(
-    works: &[u32; MAX_MACHINES],
-    times: &[u32; MAX_MACHINES],
-    machines: usize,
-    fewer: &mut [u32; MAX_MACHINES],
-)
-    requires machines { machines ≤ most_machines }
-    requires covers { (place : ℕ) → place < machines → slice_index times.now place ≤ slice_index works.now place }
-    ensures { (place : ℕ) → place < machines →
-        slice_index fewer.new place + slice_index times.now place ≡ slice_index works.now place }
-{
-    let mut at = 0;
-    'fours: while at < machines {
-        fewer_of_four(works, times, at.min(MAX_MACHINES - FOUR), fewer);
-        at += FOUR;
-    }
-}
-
 impl Node {
     /// Becomes the child of a node that puts a job left at an end. The constant is the number of machines, or 0.
     #[inline(always)]
@@ -202,11 +128,11 @@ impl Node {
         let machines = known_or::<M>(usize::from(instance.machines()));
         match end {
             End::Front => {
-                front_with(&node.front, &row.times, machines, &mut self.front);
+                front_with(&node.front, row, machines, &mut self.front);
                 self.back = node.back;
             }
             End::Back => {
-                back_with(&node.back, &row.times, machines, &mut self.back);
+                back_with(&node.back, row, machines, &mut self.back);
                 self.front = node.front;
             }
         }

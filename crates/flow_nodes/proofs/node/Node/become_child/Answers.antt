@@ -3,7 +3,8 @@ use Rattle.flow_shop.specs.Shop.{time, AreOf}
 use Rattle.flow_shop.specs.Ends.{front, back}
 use Rattle.flow_shop.specs.Directions.{first_with, last_with}
 use Rattle.flow_nodes.proofs.KeptNodes.{fronts-within, backs-within, work-covers, child-node}
-use Rattle.flow_nodes.proofs.NodeSteps.{row-times, row-small}
+use Rattle.flow_nodes.proofs.NodeSteps.{row-small}
+use Rattle.flow_nodes.proofs.ScanSteps.{row-tail-small}
 use Rattle.flow_nodes.proofs.node.Node.become_child.Goals as goal
 use Rattle.flow_nodes.proofs.node.Node.become_child.Goals.{in-Front, in-Back}
 
@@ -17,6 +18,11 @@ front_with-requires-clause-times g c place low =
     row-small c.args.instance.now c.requires.at.2 c.args.row.now place c.requires.at.3.limits c.requires.at.6
     (omega (arith, low, c.known_or-machines.ensures, c.from.ensures, c.machines.ensures.value))
 
+pub front_with-requires-clause-tails : goal.front_with-requires-clause-tails
+front_with-requires-clause-tails g c place low =
+    row-tail-small c.args.instance.now c.requires.at.2 c.args.row.now c.requires.at.6 place c.requires.at.3.limits
+    (omega (arith, low, c.known_or-machines.ensures, c.from.ensures, c.machines.ensures.value))
+
 pub back_with-requires-clause-small : goal.back_with-requires-clause-small
 back_with-requires-clause-small g c place low =
     backs-within c.args.instance.now c.requires.at.0 c.requires.at.1 c.args.node.now c.requires.at.3 place
@@ -25,6 +31,11 @@ back_with-requires-clause-small g c place low =
 pub back_with-requires-clause-times : goal.back_with-requires-clause-times
 back_with-requires-clause-times g c place low =
     row-small c.args.instance.now c.requires.at.2 c.args.row.now place c.requires.at.3.limits c.requires.at.6
+    (omega (arith, low, c.known_or-machines.ensures, c.from.ensures, c.machines.ensures.value))
+
+pub back_with-requires-clause-tails : goal.back_with-requires-clause-tails
+back_with-requires-clause-tails g c place low =
+    row-tail-small c.args.instance.now c.requires.at.2 c.args.row.now c.requires.at.6 place c.requires.at.3.limits
     (omega (arith, low, c.known_or-machines.ensures, c.from.ensures, c.machines.ensures.value))
 
 pub work_without-requires-clause-covers : goal.work_without-requires-clause-covers
@@ -52,9 +63,6 @@ returns g c first last job is range fresh row =
     few : c.known_or-machines.result ≡ c.args.instance.now.machines
     few = omega (arith, c.known_or-machines.ensures, c.from.ensures, c.machines.ensures.value)
 
-    times : AreOf c.args.instance.now (time c.args.instance.now job) c.args.row.now.times
-    times = row-times c.args.instance.now job c.args.row.now row
-
     fronts : AreOf c.args.instance.now (front c.args.instance.now (first_with c.args.end first job))
         c.match-end.self.front
     fronts = elim c.match-end.branch [
@@ -62,7 +70,7 @@ returns g c first last job is range fresh row =
           (λ end. AreOf c.args.instance.now (front c.args.instance.now (first_with end first job))
           c.match-end.self.front) (sym w.in-Front.is)
           (λ k low high. ap (λ n. slice_index n.front (k - 1)) w.self-is
-          ∙ w.front_with.ensures c.args.instance.now first job few is.first_jobs range is.fronts times k low high)
+          ∙ w.front_with.ensures c.args.instance.now first job few is.first_jobs range is.fronts row k low high)
       | in-Back w ↦ subst
           (λ end. AreOf c.args.instance.now (front c.args.instance.now (first_with end first job))
           c.match-end.self.front) (sym w.in-Back.is)
@@ -80,7 +88,7 @@ returns g c first last job is range fresh row =
           (λ end. AreOf c.args.instance.now (back c.args.instance.now (last_with end last job))
           c.match-end.self.back) (sym w.in-Back.is)
           (λ k low high. ap (λ n. slice_index n.back (k - 1)) w.self-is
-          ∙ w.back_with.ensures c.args.instance.now last job few range is.backs times k low high)
+          ∙ w.back_with.ensures c.args.instance.now last job few range is.backs row k low high)
     ]
 
     works : (k : ℕ) → 1 ≤ k → k ≤ c.args.instance.now.machines →

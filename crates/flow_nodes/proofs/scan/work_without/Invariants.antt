@@ -1,5 +1,5 @@
 use Rattle.std.proofs.Common.{◌≡◌, ℕ, ◌+◌, ◌-◌, ◌<◌, slice_index}
-use Rattle.flow_nodes.proofs.node.work_without.Given as goal
+use Rattle.flow_nodes.proofs.scan.work_without.Given as goal
 
 -- the machines so far
 abbrev pub invariant-fours : goal.invariant-fours
