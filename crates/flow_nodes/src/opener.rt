@@ -244,6 +244,7 @@ impl<V: Lanes> Opener<V> {
         ensures limit { self.new.limit ≡ self.old.limit }
         ensures near { self.new.near ≡ self.old.near }
         ensures rest { self.new.rest ≡ self.old.rest }
+        ensures machines { self.new.machines ≡ self.old.machines }
         ensures rows { self.new.rows ≡ self.old.rows }
         ensures gap_count { length self.new.gaps.items ≡ length self.old.gaps.items }
         ensures slack_count { length self.new.slacks.items ≡ length self.old.slacks.items }

@@ -13,7 +13,7 @@ use flow_shop::Row;
 use std::simd::prelude::*;
 
 /// How many machines a vector has the numbers of.
-const FOUR: usize = 4;
+pub(crate) const FOUR: usize = 4;
 
 /// No job takes so long on all machines together.
 const LONGEST: u32 = 26_000_000;

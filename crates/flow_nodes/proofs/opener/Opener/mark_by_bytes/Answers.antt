@@ -46,6 +46,7 @@ write-requires g c =
       at.3,
       at.4,
       record {
+        machines = said.machines ∙ at.6.machines;
         near_count = ap (λ v. length v.items) said.near ∙ at.6.near_count;
         rest_count = ap (λ v. length v.items) said.rest ∙ at.6.rest_count;
         rows = subst (λ r. AreRows at.0 r.items) (sym said.rows) at.6.rows;
