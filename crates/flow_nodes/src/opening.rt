@@ -156,7 +156,8 @@ impl<V: Lanes> Opener<V> {
                 children.below.words[group] = 0;
             }
         }
-        children.count = children.below.count(count);
+        let kept = children.below.count(count);
+        children.count = kept;
     }
 
     /// Opens a node at one end. Its jobs left stand at marked places of a pack.

@@ -247,4 +247,4 @@ returns-clause-copied g c place none under =
     c.loop-group.invariant.copied place none (omega (arith, under, c.count_of-count.ensures, c.loop-group-test.false))
 
 pub returns-clause-count : goal.returns-clause-count
-returns-clause-count g c names long = c.count-children.ensures names (omega (arith, long, c.count_of-count.ensures))
+returns-clause-count g c names long = c.count-kept.ensures names (omega (arith, long, c.count_of-count.ensures))
