@@ -25,7 +25,7 @@ from importlib.util import find_spec
 from unittest import mock
 
 from counts import end, equal, refused
-from plain_search import PlainShop
+from reference import Search
 
 import flowshop
 from flowshop import Interrupted, Shop, _certify, _command_certify, _files, _library, _parts, _spread, _texts, _threads
@@ -200,10 +200,11 @@ def compare_searches():
     for _ in range(8):
         jobs, machines = draw.randint(4, 7), draw.randint(2, 5)
         rows = [[draw.randint(1, 30) for _ in range(jobs)] for _ in range(machines)]
-        shop, plain = Shop.from_machines(rows), PlainShop(rows)
+        shop, plain = Shop.from_machines(rows), Search((jobs, machines, sum(rows, [])))
         least = shop.certify(**FEW).upper
         for number in (least - 1, least, least + 1):
             text, reached = plain.search(number)
+            text = text.encode()
             for budget in sorted({1, 2, 7, max(1, len(text) - 1), len(text), len(text) + 1, 1000}):
                 wanted = (_parts.PROVED, len(text), text, ())
                 if len(text) > budget:
