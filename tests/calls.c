@@ -1,5 +1,5 @@
-/* The library from C: its version, the names of its outcomes, and all its calls by eight threads at once, each on data of
- * its own. tests/calls.py has what each call gives and refuses, and tests/edges.c the slices that are too short. */
+/* The library from C: its version, the names of its outcomes, and all its calls by eight threads at once, each on data
+ * of its own. tests/calls.py has what each call gives and refuses, and tests/edges.c the slices that are too short. */
 #include "flowshop.h"
 
 #include <pthread.h>

@@ -13,9 +13,11 @@ from ctypes import byref
 
 import reference
 import refusals
+from counts import TOP, end, equal
+from plain_pictures import plain_picture
 from plain_texts import Refused, bounds_line, check_two_ended, plain_blocks
-from records import LIBRARY, SIZE, TOP, U8, U16, U32, U64, BeamOptions, Block, Bounds, Effort, Node, Part, Plan
-from records import Reached, Room, RoundsOptions, Spans, Text, call, counts, equal, lent, shop_of
+from records import LIBRARY, SIZE, U8, U16, U32, U64, BeamOptions, Block, Bounds, Effort, Node, Part, Plan
+from records import Reached, Room, RoundsOptions, Spans, Text, call, lent, shop_of
 from reference import Search, of_rows, rows_of
 
 PROGRAM = os.environ.get("FLOWSHOP_PROGRAM", os.path.join(TOP, "crates", "flow_tool", "out", "flow_tool"))
@@ -208,72 +210,6 @@ def plain_timetable(shop, sequence):
     """When the operations start and end, job by job."""
     found = [span for of_job in reference.spans(shop, sequence) for span in of_job]
     return [start for start, _ in found], [end for _, end in found]
-
-
-def plain_path(shop, starts, ends):
-    """The bars of the heaviest path that docs/formats.md names, as places of the timetable, from its last bar."""
-    _, machines, _ = shop
-    place, path = len(starts) - 1, set()
-    while place >= 0:
-        path.add(place)
-        before = place - machines
-        place = before if place % machines == 0 or before >= 0 and ends[before] == starts[place] else place - 1
-    return path
-
-
-def plain_frame(shop, value, wide, lower):
-    """A picture up to its bars, by docs/formats.md, where the makespan is so wide."""
-    jobs, machines, _ = shop
-    bottom, right = 5_900 + 3_000 * machines, 13_500 + wide
-    heading = f"optimal {value}" if lower == value > 0 else f"makespan {value}"
-    if 0 < lower < value:
-        heading += f", lower bound {lower}"
-    heading += f", jobs {jobs}, machines {machines}"
-    steps = wide // 8_000
-    step = next(lead * 10**power for power in range(19) for lead in (1, 2, 5) if value <= steps * lead * 10**power)
-    text = (
-        f'<svg xmlns="http://www.w3.org/2000/svg" width="{right // 100}" height="{(bottom + 3_400) // 100}" '
-        f'viewBox="0 0 {right} {bottom + 3_400}" font-family="sans-serif" font-size="1200">\n<title>{heading}</title>\n'
-        f'<path d="M0 0H{right}V{bottom + 3_400}H0z" fill="#ffffff"/>\n'
-        f'<text x="9000" y="2400" font-size="1600">{heading}</text>\n<text x="9000" y="4700">'
-        f"outlined: these operations leave no room; together they take the whole time</text>\n"
-    )
-    for time in range(0, value + 1, step):
-        x = 9_000 + time * wide // max(1, value)
-        line = f'x1="{x}" y1="5900" x2="{x}" y2="{bottom + 500}" stroke="#bbbbbb" stroke-width="60"'
-        text += f'<line {line}/><text x="{x}" y="{bottom + 2_000}" text-anchor="middle">{time}</text>\n'
-    text += f'<text x="8000" y="{bottom + 2_000}" text-anchor="end">time</text>\n'
-    for machine in range(1, machines + 1):
-        text += f'<text x="8000" y="{4_850 + 3_000 * machine}" text-anchor="end">machine {machine}</text>\n'
-    return text + '<g text-anchor="middle" font-size="1000">\n'
-
-
-COLOURS = "#004C7F #F0C800 #8F2D00 #7CC4F0 #00594A #F2A65A #5B2A86 #F2B6D2".split()
-
-
-def plain_picture(shop, sequence, lower=0):
-    """The picture of a sequence with a lower bound, where that is not 0, by docs/formats.md."""
-    jobs, machines, _ = shop
-    starts, ends = plain_timetable(shop, sequence)
-    value, path = ends[-1], plain_path(shop, starts, ends)
-    wide = max(96_000, 3_600 * (jobs + machines))
-    text = plain_frame(shop, value, wide, lower)
-    for place, (start, end) in enumerate(zip(starts, ends)):
-        if start == end:
-            continue
-        job, machine = sequence[place // machines], place % machines + 1
-        left, right = [9_000 + time * wide // value for time in (start, end)]
-        width = right - left - min(80, (right - left) // 4)
-        outline = f'" stroke="#000000" stroke-width="300" stroke-dasharray="{width} 2400' if place in path else ""
-        text += (
-            f'<rect x="{left}" y="{3_200 + 3_000 * machine}" width="{width}" height="2400" '
-            f'fill="{COLOURS[place // machines % 8]}{outline}"><title>job {job}, machine {machine}, '
-            f"start {start}, end {end}</title></rect>\n"
-        )
-        if width >= 640 * len(str(job)) + 160:
-            ink = "" if place // machines % 2 else ' fill="#ffffff"'
-            text += f'<text x="{left + width // 2}" y="{4_760 + 3_000 * machine}"{ink}>{job}</text>\n'
-    return (text + "</g></svg>\n").encode()
 
 
 def plain_check(shop, text, most):
@@ -635,8 +571,7 @@ def main():
     for _ in range(SHOPS):
         compare_shop(draw)
     compare_at_once()
-    print(f"calls from Python: {counts[True]} as they should be, {counts[False]} not")
-    sys.exit(counts[False] != 0)
+    end("calls from Python")
 
 
 if __name__ == "__main__":

@@ -1,11 +1,11 @@
 """The cases of tests/program: files and runs of the program, group by group. Each group has a folder of its own for its
-names, with links to the files of examples/ and tests/expected/. What the runs should write was worked out by hand, or
-by bench/plain.rs and bench/improve.rs, which share nothing with the program.
+names, with links to the files of examples/, and the files of worked.py. What the runs should write was worked out by
+hand, or by bench/plain.rs and bench/improve.rs, which share nothing with the program.
 
-A run has its words, in which `(a|b)` stands for two runs, with a and with b; the wanted output, or a function that gives
-it; the wanted line on standard error, which says the status; the file that is its standard input, or else none; a name
-under which its output is kept; what of the output is looked at; the text of bash by which it is made, in which "$@" is
-the program with its words; and the most memory that it may hold, in KB."""
+A run has its words, in which `(a|b)` stands for two runs, with a and with b; the wanted output, or a function that
+gives it; the wanted line on standard error, which says the status, or a status without a line; the file that is its
+standard input, or else none; a name under which its output is kept; what of the output is looked at; the text of bash
+by which it is made, in which "$@" is the program with its words; and the most memory that it may hold, in KB."""
 
 import collections
 import hashlib
@@ -17,9 +17,11 @@ import subprocess
 
 from plain_texts import bounds_line, plain_block, proved
 from refusals import TREE, block_of, text_of
+from worked import FILES
 
 TOP = pathlib.Path(__file__).resolve().parent.parent
-Run = collections.namedtuple("Run", "words out line stdin keep view by most", defaults=("", "", None, None, None, None, 0))
+FIELDS = "words out line stdin keep view by most"
+Run = collections.namedtuple("Run", FIELDS, defaults=("", "", None, None, None, None, 0))
 # A file of a text, or of what a function gives in pieces; and one of what a run of the program writes.
 File = collections.namedtuple("File", "name text")
 Made = collections.namedtuple("Made", "name words")
@@ -29,8 +31,8 @@ MEGABYTES_16 = 16_777_216
 
 
 def expected(name):
-    """A file of tests/expected."""
-    return (TOP / "tests" / "expected" / name).read_text()
+    """A file of worked.py."""
+    return FILES[name].decode()
 
 
 def start(sequence, makespan):
@@ -116,6 +118,12 @@ def version():
     return f"flowshop {number}, certificates of versions 1 and 2, two-ended certificates of version 1; {kit}\n"
 
 
+def multiplied(name, factor):
+    """The text of a block whose times are so many times those of another one."""
+    return lambda: [line if number < 3 else re.sub(rb"\d+", lambda time: b"%d" % (int(time[0]) * factor), line)
+                    for number, line in enumerate(pathlib.Path(name).read_bytes().splitlines(keepends=True))]
+
+
 AWK = "awk", "-f", os.path.join(TOP, "examples", "from_csv.awk")
 WITH_NAMES = "awk", "-f", os.path.join(TOP, "examples", "with_names.awk")
 
@@ -127,7 +135,8 @@ def of_table(name):
 
 LEAST_AT_ONE = text_of("certificate 1", "3 3 1", 12, [3, 1, 2], "B", "C", "++.B").decode()
 TWO_MACHINES = "sequence 2 3 1\nmakespan 9\n"
-TIMETABLE = "job,machine,start,end\n3,1,0,0\n3,2,0,2\n3,3,2,3\n1,1,0,4\n1,2,4,4\n1,3,4,8\n2,1,4,4\n2,2,4,12\n2,3,12,12\n"
+TIMETABLE = "job,machine,start,end\n3,1,0,0\n3,2,0,2\n3,3,2,3\n1,1,0,4\n1,2,4,4\n1,3,4,8\n2,1,4,4\n2,2,4,12\n"
+TIMETABLE += "2,3,12,12\n"
 FROM_START = text_of("certificate 1", "3 3 0", 12, [3, 1, 2], "++B+.++.B++.B").decode()
 DOWN, UP = start(range(800, 0, -1), 824_999_175), start(range(1, 801), 824_999_175)
 DOWN_ORDER = range(800, 0, -1)
@@ -241,8 +250,8 @@ CASES["certify"] = [
     File("ones", ones(8)),
     File("of_ones", of_ones(8, 28, 109_601)),
     File("bounds_of_ones", of_ones(8, 19, 0)),
-    Run("certify ones 1 --width 0 --rounds 0(| --directions 1000000| --workers 1| --workers 2| --workers 3| --workers 4|"
-        " --workers 64)", of_ones(8, 28, 109_601)),
+    Run("certify ones 1 --width 0 --rounds 0(| --directions 1000000| --workers 1| --workers 2| --workers 3| --workers 4"
+        "| --workers 64)", of_ones(8, 28, 109_601)),
     Run("certify ones 1 --width 0 --rounds 0 --directions (1|109600|109600 --workers 3)", of_ones(8, 19, 0)),
     Run("certify ones 1 --work 10 --directions 1", "bounds 19 28\n", keep="certified", view=of_two_ended("ones")),
     Run("check ones 1 (certified|bounds_of_ones)", "bounds 19 28\n"),
@@ -259,23 +268,25 @@ CASES["certify"] = [
 ]
 CASES["check"] = [
     Run("check three_machines.txt 1 (certificate|certificate --optimal|two_ended)", "optimal 12\n"),
-    *[Run("check three_machines.txt 1 /dev/stdin", "optimal 12\n", stdin=name) for name in ("certificate", "two_ended")],
+    *[Run("check three_machines.txt 1 /dev/stdin", "optimal 12\n", stdin=name)
+      for name in ("certificate", "two_ended")],
     Run("check three_machines.txt 1 certificate --verbose --optimal", f"optimal 12\n{VERBOSE}trees 1\nSHA-256 of the "
         "certificate 84ba2b368fc3674a585d1b1ffdacdda358ea3559ce3b290ebaf7901b4700be30\n"),
-    Run("check several_blocks.txt 2 several_blocks_2 --verbose", "optimal 421\nblock 2 of 3\njobs 8\nmachines 4\nthe times "
-        "are those of seed 2\nSHA-256 of the text 91bb79e5f50d0c570168d5187a00caa76b3abebced86ca8592712638bd0eab0d\n"
+    Run("check several_blocks.txt 2 several_blocks_2 --verbose", "optimal 421\nblock 2 of 3\njobs 8\nmachines 4\n"
+        "the times are those of seed 2\nSHA-256 of the text "
+        "91bb79e5f50d0c570168d5187a00caa76b3abebced86ca8592712638bd0eab0d\n"
         "trees 8\nSHA-256 of the certificate 66474dcdd7e838497765e44705f3db45355e45b55a1cec8b87191a67e37ed76f\n"),
     # A forged shop keeps the seed of the published one.
     File("forged", re.sub("(?m)^54", "55", (TOP / "examples" / "taillard_20_5.txt").read_text(), count=1)),
     Made("of_forged", "certify forged 1"),
-    Run("check forged 1 of_forged --verbose", "optimal 1279\nblock 1 of 1\njobs 20\nmachines 5\nthe times are not those of "
-        "seed 873654221\ndirections 7\n", view=matches("(?m)^(?!SHA-256).+$")),
+    Run("check forged 1 of_forged --verbose", "optimal 1279\nblock 1 of 1\njobs 20\nmachines 5\n"
+        "the times are not those of seed 873654221\ndirections 7\n", view=matches("(?m)^(?!SHA-256).+$")),
     Run("check three_machines.txt 1 two_ended --optimal --sequence", expected("sequence")),
     # Bounds, read by hand in docs/formats.md.
     File("bounds", "flowshop two-ended 1\n3 3\n11 13\n2 1 3\n-\nend\n"),
     Run("check three_machines.txt 1 bounds", "bounds 11 13\n"),
-    Run("check three_machines.txt 1 bounds --verbose", f"bounds 11 13\n{VERBOSE}directions 1\nSHA-256 of the certificate "
-        "65d462f811c6499507511ac12ea40b07879ae26ac4e38d1bf31051ca9ca09dd5\n"),
+    Run("check three_machines.txt 1 bounds --verbose", f"bounds 11 13\n{VERBOSE}directions 1\n"
+        "SHA-256 of the certificate 65d462f811c6499507511ac12ea40b07879ae26ac4e38d1bf31051ca9ca09dd5\n"),
     Run("check three_machines.txt 1 bounds --sequence", "sequence 2 1 3\nmakespan 13\n"),
     Run("check three_machines.txt 1 bounds( --optimal| --sequence --optimal| --verbose --optimal)",
         line="refused bounds 11 13"),
@@ -370,8 +381,8 @@ CASES["schedule"] = [
     File("of_quarters", of_table("quarters.csv")),
     File("of_names", "sequence 2 1\nmakespan 11\n"),
     Run("schedule of_quarters 1 of_names", "job,machine,start,end\n2,1,0,2\n2,2,2,10\n1,1,2,8\n1,2,10,11\n"),
-    Run("schedule of_quarters 1 of_names", "job;machine;start;end\nShelf;Cut;0;0,5\nShelf;Weld;0,5;2,5\nDoor;Cut;0,5;2\n"
-        "Door;Weld;2,5;2,75\n", view=command(*WITH_NAMES, "of_quarters", "/dev/stdin")),
+    Run("schedule of_quarters 1 of_names", "job;machine;start;end\nShelf;Cut;0;0,5\nShelf;Weld;0,5;2,5\n"
+        "Door;Cut;0,5;2\nDoor;Weld;2,5;2,75\n", view=command(*WITH_NAMES, "of_quarters", "/dev/stdin")),
 ]
 # The greatest shops. Each job leaves a machine one time after the job before it: the makespan is 800 + 26 - 1 times. Of
 # equal jobs each is put in first. No sequence is below the bound of the two empty lists here, so the starting sequence
@@ -399,15 +410,14 @@ CASES["the greatest"] = [
         text_of("certificate 1", "316 1 2", 0, range(316, 0, -1), *"A" * 99_540).decode()),
     # Drawn times; and times of up to 999,999, all of them multiples of 10,101. The bounds of both are lawful.
     Made("drawn", "gen 800 26 1"),
-    File("long_times", lambda: [re.sub(rb"\d+", lambda time: b"%d" % (int(time[0]) * 10_101), line) if number > 2 else line
-                                for number, line in enumerate(open("drawn", "rb"))]),
+    File("long_times", multiplied("drawn", 10_101)),
     *[row for name in ("drawn", "long_times") for row in (
         Run(f"certify {name} 1 {FAR}", "flowshop two-ended 1\n", keep="certified", view=lines(1)),
         Run(f"check {name} 1 certified", said_of("certified")),
     )],
 ]
-COMMANDS = ("neh two_machines.txt 1", "span two_machines.txt 1 2 3 1", "gen 2 2 1", "solve two_machines.txt 1", "--help",
-            "improve two_machines.txt 1", "certify two_machines.txt 1", "certify ones 1 --width 0 --rounds 0",
+COMMANDS = ("neh two_machines.txt 1", "span two_machines.txt 1 2 3 1", "gen 2 2 1", "solve two_machines.txt 1",
+            "--help", "improve two_machines.txt 1", "certify two_machines.txt 1", "certify ones 1 --width 0 --rounds 0",
             "check three_machines.txt 1 certificate", "check three_machines.txt 1 certificate --sequence",
             "schedule three_machines.txt 1 sequence", "schedule three_machines.txt 1 sequence --form svg")
 PROGRESS = Run("certify ones 1 --width 0 --rounds 0 --progress", of_ones(8, 28, 109_601))
@@ -443,7 +453,8 @@ CASES["streams"] = [
     Run("check three_machines.txt 1 /dev/stdin", line="failed read TooLong", by='endless | "$@"', most=FOR_CERTIFICATE),
     # FIFOs: in two pieces, closed in the middle of line 3 and of line 5, and without an end.
     Run("span fifo 1 2 3 1", "makespan 9\n", by='mkfifo fifo; in_pieces >fifo & "$@"'),
-    Run("span fifo 1 2 3 1", line="refused text Times 4", by='{ head -n 2 two_machines.txt; printf proc; } >fifo & "$@"'),
+    Run("span fifo 1 2 3 1", line="refused text Times 4",
+        by='{ head -n 2 two_machines.txt; printf proc; } >fifo & "$@"'),
     Run("check three_machines.txt 1 fifo", line="refused certificate Tree 5", by='head -c 40 certificate >fifo & "$@"'),
     Run("span fifo 1 1", line="failed read TooLong", by='endless >fifo & "$@"'),
 ]
@@ -458,8 +469,9 @@ CASES["words"] = [
     Run("solve two_machines.txt 1 (--workers -1|--mirrored|--target 9|--start)", line="refused command line"),
     Run("check (two_machines.txt 1|three_machines.txt 1 certificate --either|three_machines.txt certificate)",
         line="refused command line"),
-    Run("certify three_machines.txt(| 1 -o certificate| 1 --output certificate| 1 --time 60| 1 --rounds 1,000| 1 --bounds"
-        "| 1 --certificate 1| 1 --mirrored| 1 --progress --progress| 1 --progress=1)", line="refused command line"),
+    Run("certify three_machines.txt(| 1 -o certificate| 1 --output certificate| 1 --time 60| 1 --rounds 1,000"
+        "| 1 --bounds| 1 --certificate 1| 1 --mirrored| 1 --progress --progress| 1 --progress=1)",
+        line="refused command line"),
     *[Run(f"certify three_machines.txt 1 --{name}(| 4294967296| -1| 1 --{name} 1)", line="refused command line")
       for name in ("directions", "workers", "rounds")],
     Run("improve three_machines.txt 1 --rounds", line="refused command line"),
@@ -468,7 +480,8 @@ CASES["words"] = [
     # A name with blanks, and files of the name stdin.
     File("stdin", SHORT),
     Run("neh ./stdin 1", TWO_MACHINES),
-    Run("neh", TWO_MACHINES, by="mkdir -p 'a folder'; cp two_machines.txt 'a folder/a file'; \"$@\" 'a folder/a file' 1"),
+    Run("neh", TWO_MACHINES,
+        by="mkdir -p 'a folder'; cp two_machines.txt 'a folder/a file'; \"$@\" 'a folder/a file' 1"),
     File("stdin", "sequence 1 2 3\n"),
     Run("solve stdin 1 --depth 0 --start stdin", FROM_START, stdin="three_machines.txt"),
 ]

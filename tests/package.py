@@ -25,7 +25,7 @@ import xml.etree.ElementTree
 from unittest import mock
 
 import refusals
-from counts import end, equal, refused
+from counts import BLOCKS, TOP, end, equal, refused
 from reference import makespan, of_rows, root_bound
 from refusals import BOUNDS, LEAST, TREE
 from refusals import THREE as ROWS
@@ -44,8 +44,6 @@ try:
 except ImportError:
     pandas = None
 
-TOP = os.path.dirname(os.path.dirname(os.path.abspath(__file__)))
-BLOCKS = os.path.join(TOP, "examples", "several_blocks.txt")
 PUBLISHED = os.path.join(TOP, "examples", "taillard_20_5.txt")
 SHOP = Shop.from_jobs(ROWS)
 FEW = {"width": 0, "rounds": 0, "seed": 1, "work": 0, "directions": 1000}
@@ -867,34 +865,12 @@ def keep_interrupts():
 def main():
     """Runs all, and ends. A warning of the package is an error."""
     warnings.filterwarnings("error", module="flowshop")
-    run_examples()
-    compare_header()
-    make_shops()
-    compare_shops()
-    use_names()
-    escape_names()
-    use_arrays()
-    use_frames()
-    use_results()
-    use_texts()
-    draw_timetables()
-    use_files()
-    use_labels()
-    refuse_labels()
-    refuse_files()
-    refuse_tables()
-    refuse_sequences()
-    check_bounds()
-    refuse_texts()
-    pass_options()
-    refuse_options()
-    compare_page()
-    keep_rooms()
-    search_parts()
-    keep_stacks()
-    keep_errors()
-    keep_interrupts()
-    compare_random_shops()
+    for part in (run_examples, compare_header, make_shops, compare_shops, use_names, escape_names, use_arrays,
+                 use_frames, use_results, use_texts, draw_timetables, use_files, use_labels, refuse_labels,
+                 refuse_files, refuse_tables, refuse_sequences, check_bounds, refuse_texts, pass_options,
+                 refuse_options, compare_page, keep_rooms, search_parts, keep_stacks, keep_errors, keep_interrupts,
+                 compare_random_shops):
+        part()
     end("the package for Python")
 
 

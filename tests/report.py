@@ -15,13 +15,12 @@ import tempfile
 import time
 
 import refusals
-from counts import end, equal, refused
+from counts import TOP, end, equal, refused
 from reference import of_rows, spans as spans_of
 from refusals import THREE as ROWS
 
 from flowshop import Certificate, Report, Shop
 
-TOP = os.path.dirname(os.path.dirname(os.path.abspath(__file__)))
 PROGRAM = os.environ.get("FLOWSHOP_PROGRAM", os.path.join(TOP, "crates", "flow_tool", "out", "flow_tool"))
 SHOP = Shop.from_jobs(ROWS)
 # Texts of the shop, of which the last states less than is so.
@@ -556,8 +555,7 @@ def name_files():
 
 def run(*words, out=subprocess.PIPE):
     """Runs the command, and gives its status, and what it wrote; nothing of what it wrote to an `out` of its own."""
-    command = [sys.executable, "-m", "flowshop", "report", *words]
-    done = subprocess.run(command, stdout=out, stderr=subprocess.PIPE, check=False)
+    done = subprocess.run([sys.executable, "-m", "flowshop", "report", *words], stdout=out, stderr=subprocess.PIPE)
     return done.returncode, (done.stdout or b"").decode(), done.stderr.decode()
 
 
@@ -772,18 +770,9 @@ def plan_tables():
 
 def main():
     """Runs all, and ends."""
-    say_what_is_proved()
-    show_times()
-    show_names()
-    draw_pictures()
-    label_bars()
-    cut_for_paper()
-    compare_drawn_shops()
-    write_the_greatest()
-    keep_reports()
-    name_files()
-    call_the_command()
-    plan_tables()
+    for part in (say_what_is_proved, show_times, show_names, draw_pictures, label_bars, cut_for_paper,
+                 compare_drawn_shops, write_the_greatest, keep_reports, name_files, call_the_command, plan_tables):
+        part()
     end("reports")
 
 
