@@ -4,7 +4,8 @@ freedom of their form, starts, and changes of any text. A shop is as in referenc
 import re
 
 from plain_texts import list_bound
-from reference import bound, least, root_bound
+from reference import bound, least, root_bound, rows_of
+from refusals import block_of, text_of
 
 # Bytes that stand in texts, or are close to those that do.
 BYTES = b"0129 \n\r+-.ACDe"
@@ -46,14 +47,10 @@ def joined(lines):
     return b"".join((line if isinstance(line, bytes) else str(line).encode()) + b"\n" for line in lines)
 
 
-def text_of(kind, sizes, values, sequence, lines):
-    """A certificate of these lines."""
-    return joined([f"flowshop {kind}", sizes, values, " ".join(map(str, sequence)), *lines, "end"])
-
-
 def two_ended_text(shop, lower, upper, sequence, signs):
     """The two-ended certificate of these bounds and signs."""
-    return text_of("two-ended 1", f"{shop[0]} {shop[1]}", f"{lower} {upper}", sequence, [signs])
+    signs = signs.decode() if isinstance(signs, bytes) else signs
+    return text_of("two-ended 1", f"{shop[0]} {shop[1]}", f"{lower} {upper}", sequence, signs)
 
 
 def drawn_directions(draw, search, lower, node=None):
@@ -89,9 +86,7 @@ def drawn_tree(draw, shop, version, value, jobs):
 
 def block_text(shop):
     """The benchmark text of a shop, in the form that the program writes."""
-    jobs, machines, times = shop
-    rows = [" ".join(map(str, times[start : start + jobs])) for start in range(0, len(times), jobs)]
-    return joined(["shop", f"{jobs} {machines} 0 0 0", "times", *rows])
+    return block_of(rows_of(shop))
 
 
 LABELS = b"times", b"number of jobs :", b"-1 2", b".5", b"\xff\xfe 1", b"\x00", b"\v1", b"+", b"\xef\xbb\xbf3"
