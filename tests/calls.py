@@ -13,11 +13,11 @@ from ctypes import byref
 
 import reference
 import refusals
-from counts import TOP, end, equal
+from counts import TOP, end
 from plain_pictures import plain_picture
 from plain_texts import Refused, bounds_line, check_two_ended, plain_blocks
 from records import LIBRARY, SIZE, U8, U16, U32, U64, BeamOptions, Block, Bounds, Effort, Node, Part, Plan
-from records import Reached, Room, RoundsOptions, Spans, Text, call, lent, shop_of
+from records import Reached, Room, RoundsOptions, Spans, Text, call, equal, lent, shop_of
 from reference import Search, of_rows, rows_of
 
 PROGRAM = os.environ.get("FLOWSHOP_PROGRAM", os.path.join(TOP, "crates", "flow_tool", "out", "flow_tool"))

@@ -3,8 +3,10 @@
 import ctypes
 import os
 import re
+import threading
 
-from counts import TOP, equal
+import counts
+from counts import TOP
 
 LIBRARY = ctypes.CDLL(os.environ.get("FLOWSHOP_LIBRARY", os.path.join(TOP, "out", "libflowshop.so")))
 with open(os.path.join(TOP, "library", "flowshop.h"), encoding="ascii") as _header:
@@ -12,6 +14,34 @@ with open(os.path.join(TOP, "library", "flowshop.h"), encoding="ascii") as _head
 STATUSES = re.findall(r"FLOWSHOP_(\w+) = (\d+)", HEADER.partition("enum flowshop_status {")[2].partition("};")[0])
 NAMES = {int(number): name for name, number in STATUSES}
 U8, U16, U32, U64, SIZE = ctypes.c_uint8, ctypes.c_uint16, ctypes.c_uint32, ctypes.c_uint64, ctypes.c_size_t
+
+
+last = threading.local()
+
+
+def equal(what, got, wanted):
+    """Counts whether what was got is what was wanted, and names the last call of this thread where it is not."""
+    counts.equal(what if got == wanted else f"{what}, by {described(last.call)}", got, wanted)
+
+
+def described(call):
+    """A call with the numbers that it was given; of long lists the first ones."""
+    name, words = call
+    return f"flowshop_{name}({', '.join(map(numbers_of, words))})"
+
+
+def numbers_of(word):
+    """What a record, a list or a number of a call has."""
+    if isinstance(word, ctypes.Structure):
+        return f"{type(word).__name__}({', '.join(f'{name} {numbers_at(word, name)}' for name, _ in word._fields_)})"
+    return str(list(word[:20])) if isinstance(word, ctypes.Array) else str(getattr(word, "value", word))
+
+
+def numbers_at(record, name):
+    """A number of a record, or the numbers of a slice."""
+    value = getattr(record, name)
+    count = getattr(record, f"{name}_count", None)
+    return value if count is None else value[: min(20, count)]
 
 
 def record(name, *fields):
@@ -75,6 +105,7 @@ class Room:
 
 def call(name, *words):
     """Makes a call: None where it is done, else the name of the status and the place. Slices stay where they are."""
+    last.call = name, words
     made = getattr(LIBRARY, f"flowshop_{name}")
     made.restype = Outcome
     records = [word for word in words if isinstance(word, ctypes.Structure)]
