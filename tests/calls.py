@@ -379,51 +379,51 @@ def compare_calls():
     # Each sequence of the long one has the makespan 34. The bound of a node is 25 until job 14 is put at an end, so
     # that a thousand directions prove no more.
     long = 14, 2, [1] * 13 + [10] + [1] * 13 + [11]
-    for got, wanted in [
-        (makespan((2, 1, [999_999, 999_999]), [2, 1]), 1_999_998),
+    for make, wanted in [
+        (lambda: makespan((2, 1, [999_999, 999_999]), [2, 1]), 1_999_998),
         # The timetable that docs/formats.md reads by hand.
-        (timetable(SHOP, START), ([0, 0, 8, 0, 8, 8, 4, 8, 12], [0, 8, 8, 4, 8, 12, 4, 10, 13])),
-        (timetable((1, 1, [999_999]), [1]), ([0], [999_999])),
-        ([times[-1] for times in timetable(great, range(1, 801))], [823_999_176, 824_999_175]),
-        (neh(SHOP), (START, 13)),
-        (improve(SHOP, [3, 1, 2])[1], 12),
+        (lambda: timetable(SHOP, START), ([0, 0, 8, 0, 8, 8, 4, 8, 12], [0, 8, 8, 4, 8, 12, 4, 10, 13])),
+        (lambda: timetable((1, 1, [999_999]), [1]), ([0], [999_999])),
+        (lambda: [times[-1] for times in timetable(great, range(1, 801))], [823_999_176, 824_999_175]),
+        (lambda: neh(SHOP), (START, 13)),
+        (lambda: improve(SHOP, [3, 1, 2])[1], 12),
         # Each sequence of one machine has the sum of its times, which is Taillard's bound.
-        (improve(one, [2, 1], 65_536, 100_000_000, 2_147_483_646, 1_000_000)[1], 7),
-        (improve((1, 1, [0]), [1], 0, 0, 1, 0), ([1], 0)),
-        (certify(one, [2, 1], (0, 0, 1, 0, 1))[1:3], (7, 7)),
-        (certify(long, list(range(1, 15)))[1:3], (25, 34)),
-        (plain_check(SHOP, certify(SHOP, START)[3], 1_000)[1:], (12, 12)),
-        (rounds(one, [2, 1], 100_000_000, steps=2**64 - 1), ([2, 1], 7, 1)),
-        (beam(one, [2, 1]), ([2, 1], 7, 1)),
-        (beam(SHOP, START, width=65_536, steps=2**64 - 1)[1], 12),
-        (beam(SHOP, START, width=0), (START, 13, 0)),
-        (beam(SHOP, START, steps=0), (START, 13, 0)),
-        (beam(SHOP, START, number=12)[:2], (START, 13)),
-        (beam(SHOP, START, number=13)[:2], ([3, 1, 2], 12)),
-        (rounds(SHOP, START, 0), (START, 13, 0)),
-        (rounds(SHOP, START, steps=0), (START, 13, 0)),
-        (rounds(SHOP, START)[1:], (12, 0)),
-        (check(SHOP, refusals.BOUNDS), (START, 11, 13)),
-        (check(SHOP, refusals.LEAST.replace(b"++", b"+-")), ([3, 1, 2], 12, 12)),
-        (check(SHOP, refusals.TREE.replace(b"C++.B", b"C+AB")), ([3, 1, 2], 12, 12)),
-        (prove(SHOP, 12, [4], [4], room=0), ("JOB", 1)),
-        (prove(SHOP, 12, [0], [], room=0), ("JOB", 1)),
-        (prove(SHOP, 12, [3, 2], [1, 65_535], room=0), ("JOB", 4)),
-        (prove(SHOP, 12, [3, 2], [2, 4], room=0), ("TWICE", 3)),
-        (prove(SHOP, 12, [3, 2, 3], [2, 4], room=0), ("TWICE", 3)),
-        (prove(SHOP, 12, [3, 2, 1], [1], room=0), ("TWICE", 4)),
-        (prove(SHOP, 12, rest_room=0)[0], "PROVED"),
-        (prove(SHOP, 13, rest_room=0)[2:], ([3, 1, 2], 12)),
-        (prove(SHOP, 2**64 - 1, START), ("BELOW", "", START, 13)),
-        (prove(SHOP, 13, [2, 1], [3]), ("PROVED", "")),
-        (prove(SHOP, 0), ("PROVED", "")),
+        (lambda: improve(one, [2, 1], 65_536, 100_000_000, 2_147_483_646, 1_000_000)[1], 7),
+        (lambda: improve((1, 1, [0]), [1], 0, 0, 1, 0), ([1], 0)),
+        (lambda: certify(one, [2, 1], (0, 0, 1, 0, 1))[1:3], (7, 7)),
+        (lambda: certify(long, list(range(1, 15)))[1:3], (25, 34)),
+        (lambda: plain_check(SHOP, certify(SHOP, START)[3], 1_000)[1:], (12, 12)),
+        (lambda: rounds(one, [2, 1], 100_000_000, steps=2**64 - 1), ([2, 1], 7, 1)),
+        (lambda: beam(one, [2, 1]), ([2, 1], 7, 1)),
+        (lambda: beam(SHOP, START, width=65_536, steps=2**64 - 1)[1], 12),
+        (lambda: beam(SHOP, START, width=0), (START, 13, 0)),
+        (lambda: beam(SHOP, START, steps=0), (START, 13, 0)),
+        (lambda: beam(SHOP, START, number=12)[:2], (START, 13)),
+        (lambda: beam(SHOP, START, number=13)[:2], ([3, 1, 2], 12)),
+        (lambda: rounds(SHOP, START, 0), (START, 13, 0)),
+        (lambda: rounds(SHOP, START, steps=0), (START, 13, 0)),
+        (lambda: rounds(SHOP, START)[1:], (12, 0)),
+        (lambda: check(SHOP, refusals.BOUNDS), (START, 11, 13)),
+        (lambda: check(SHOP, refusals.LEAST.replace(b"++", b"+-")), ([3, 1, 2], 12, 12)),
+        (lambda: check(SHOP, refusals.TREE.replace(b"C++.B", b"C+AB")), ([3, 1, 2], 12, 12)),
+        (lambda: prove(SHOP, 12, [4], [4], room=0), ("JOB", 1)),
+        (lambda: prove(SHOP, 12, [0], [], room=0), ("JOB", 1)),
+        (lambda: prove(SHOP, 12, [3, 2], [1, 65_535], room=0), ("JOB", 4)),
+        (lambda: prove(SHOP, 12, [3, 2], [2, 4], room=0), ("TWICE", 3)),
+        (lambda: prove(SHOP, 12, [3, 2, 3], [2, 4], room=0), ("TWICE", 3)),
+        (lambda: prove(SHOP, 12, [3, 2, 1], [1], room=0), ("TWICE", 4)),
+        (lambda: prove(SHOP, 12, rest_room=0)[0], "PROVED"),
+        (lambda: prove(SHOP, 13, rest_room=0)[2:], ([3, 1, 2], 12)),
+        (lambda: prove(SHOP, 2**64 - 1, START), ("BELOW", "", START, 13)),
+        (lambda: prove(SHOP, 13, [2, 1], [3]), ("PROVED", "")),
+        (lambda: prove(SHOP, 0), ("PROVED", "")),
         # The states of the seed 1 are 16807, 282475249, 1622650073 and 984943658. The last seed is the modulus less 1,
         # so its state is the modulus less the multiplier.
-        (generate(2, 2, 1, room=9), [1, 14, 75, 46]),
-        (generate(1, 1, 2_147_483_646), [99]),
-        (generate(800, 26, 5), reference.generated(800, 26, 5)[2]),
+        (lambda: generate(2, 2, 1, room=9), [1, 14, 75, 46]),
+        (lambda: generate(1, 1, 2_147_483_646), [99]),
+        (lambda: generate(800, 26, 5), reference.generated(800, 26, 5)[2]),
     ]:
-        equal("a call", got, wanted)
+        equal("what a call gives", make(), wanted)
 
 
 # --- Drawn shops ---
@@ -486,13 +486,13 @@ def compare_reached(draw):
     shop = drawn(draw, 6, 5, (3, 9, 99, 9_999, 999_999))
     start = draw.sample(range(1, shop[0] + 1), shop[0])
     value, best = reference.makespan(shop, start), reference.least(shop)
-    for found, aim in [
-        (beam(shop, start, width=draw.choice((1, 3, 4_096))), 0),
-        (beam(shop, start, best + 1), best + 1),
-        (beam(shop, start, best), best),
-        (rounds(shop, start, draw.randint(0, 30), draw.randint(1, 2_147_483_646)), 0),
+    for make, aim in [
+        (lambda: beam(shop, start, width=draw.choice((1, 3, 4_096))), 0),
+        (lambda: beam(shop, start, best + 1), best + 1),
+        (lambda: beam(shop, start, best), best),
+        (lambda: rounds(shop, start, draw.randint(0, 30), draw.randint(1, 2_147_483_646)), 0),
     ]:
-        sequence, reached, _ = found
+        sequence, reached, _ = make()
         equal("a sequence", (sorted(sequence), reference.makespan(shop, sequence)), (sorted(start), reached))
         equal("whether it is no worse", best <= reached <= value, True)
         if aim:
