@@ -1,6 +1,7 @@
 //! The improvement of sequences in plain safe Rust, with no proofs and no other crates: a program to measure beside.
 //!
-//! It is written apart from the proved crates. It improves the starting sequence of a generated instance: by a
+//! It is written apart from the proved crates, and shares instances, bounds and the starting sequence with
+//! `plain.rs`. It improves the starting sequence of a generated instance: by a
 //! two-ended beam search (`beam.rs`), by rounds from the start, and by rounds from the best of the beam. It prints the
 //! sequence and its makespan; and on standard error what each of the three came to, in how many steps, and how long it
 //! took.
@@ -10,20 +11,18 @@
 //! behind these it makes the beam alone, and looks for a sequence below the number.
 
 mod beam;
+#[allow(dead_code)]
+#[path = "plain/shop.rs"]
+mod shop;
 
 use beam::Beam;
-use std::cmp::Reverse;
+use shop::{Instance, MAX_MACHINES, Row, generated};
 use std::env;
 use std::process::ExitCode;
 use std::time::Instant;
 
-const MAX_MACHINES: usize = 26;
-
 /// How many jobs a round takes out, where there are so many.
 const TAKEN_OUT: usize = 4;
-
-/// A time for each machine.
-type Row = [u32; MAX_MACHINES];
 
 /// A sequence and its makespan.
 #[derive(Clone, PartialEq)]
@@ -51,45 +50,10 @@ impl Generator {
     }
 }
 
-/// An instance; jobs are counted from 0.
-struct Instance {
-    machines: usize,
-    times: Vec<Row>,
-}
-
 impl Instance {
-    fn generate(jobs: usize, machines: usize, seed: u64) -> Instance {
-        let mut generator = Generator { state: seed };
-        let mut times = vec![[0; MAX_MACHINES]; jobs];
-        for machine in 0..machines {
-            for row in &mut times {
-                row[machine] = generator.next(1, 99) as u32;
-            }
-        }
-        Instance { machines, times }
-    }
-
-    fn total(&self, job: usize) -> u32 {
-        self.times[job].iter().sum()
-    }
-
-    /// Taillard's lower bound.
-    fn lower_bound(&self) -> u32 {
-        let load = |machine| {
-            let head = self.times.iter().map(|row| row[..machine].iter().sum());
-            let tail = self.times.iter().map(|row| row[machine + 1..].iter().sum());
-            let work: u32 = self.times.iter().map(|row| row[machine]).sum();
-            let (head, tail): (Option<u32>, Option<u32>) = (head.min(), tail.min());
-            head.unwrap_or(0) + work + tail.unwrap_or(0)
-        };
-        let loads = (0..self.machines).map(load);
-        let totals = (0..self.times.len()).map(|job| self.total(job));
-        loads.chain(totals).max().unwrap_or(0)
-    }
-
     /// The tails of a list with a job before it.
     fn push_tails(&self, job: usize, tails: &Row, longer: &mut Row) {
-        let times = &self.times[job][..self.machines];
+        let times = &self.jobs[job].times[..self.machines];
         let mut behind = 0;
         for ((at, &tail), &time) in longer.iter_mut().zip(tails).zip(times).rev() {
             behind = tail.max(behind) + time;
@@ -97,21 +61,10 @@ impl Instance {
         }
     }
 
-    /// The makespan with a job put in between the heads of the jobs before it and the tails of those behind it.
-    fn span_between(&self, heads: &Row, job: usize, tails: &Row) -> u32 {
-        let times = &self.times[job][..self.machines];
-        let (mut head, mut most) = (0, 0);
-        for ((&free, &time), &tail) in heads.iter().zip(times).zip(tails) {
-            head = free.max(head) + time;
-            most = most.max(head + tail);
-        }
-        most
-    }
-
-    /// The same; and the heads become those with the next job behind them.
+    /// The makespan with a job put in between heads and tails; and the heads become those with the next job behind.
     fn span_and_push(&self, heads: &mut Row, job: usize, tails: &Row, next: usize) -> u32 {
-        let times = &self.times[job][..self.machines];
-        let next_times = &self.times[next][..self.machines];
+        let times = &self.jobs[job].times[..self.machines];
+        let next_times = &self.jobs[next].times[..self.machines];
         let (mut head, mut most, mut free) = (0, 0, 0);
         let times = times.iter().zip(next_times);
         for ((at, &tail), (&time, &next_time)) in heads.iter_mut().zip(tails).zip(times) {
@@ -147,23 +100,10 @@ impl Instance {
         best.1
     }
 
-    /// The starting sequence of Nawaz, Enscore and Ham.
-    fn start(&self) -> Known {
-        let mut order: Vec<usize> = (0..self.times.len()).collect();
-        order.sort_by_key(|&job| Reverse(self.total(job)));
-        let mut tails = vec![[0; MAX_MACHINES]; order.len() + 1];
-        let mut jobs = Vec::with_capacity(order.len());
-        let mut makespan = 0;
-        for job in order {
-            makespan = self.place(&mut jobs, job, &mut tails);
-        }
-        Known { jobs, makespan }
-    }
-
     /// The best sequence of rounds from a start, how many rounds there were, and their steps.
     fn rounds(&self, start: &Known, limits: &Limits) -> (Known, u32, u64) {
-        let jobs = self.times.len();
-        let least = self.lower_bound();
+        let jobs = self.jobs.len();
+        let least = self.lower_bound() as u32;
         let mut generator = Generator { state: limits.seed };
         let (mut best, mut current) = (start.clone(), start.clone());
         let mut list = Vec::with_capacity(jobs);
@@ -247,7 +187,7 @@ fn better(one: Known, other: Known) -> Known {
 struct Asked {
     jobs: usize,
     machines: usize,
-    instance_seed: u64,
+    instance_seed: u32,
     width: u64,
     rounds: u32,
     seed: u64,
@@ -276,7 +216,7 @@ impl Asked {
         Some(Asked {
             jobs: jobs as usize,
             machines: machines as usize,
-            instance_seed,
+            instance_seed: instance_seed as u32,
             width,
             rounds: rounds as u32,
             seed,
@@ -292,7 +232,7 @@ impl Asked {
     /// The best of the beam and of the rounds from both.
     fn improve(&self, instance: &Instance, start: Known) -> Known {
         let steps = self.millions * 1_000_000;
-        let least = instance.lower_bound();
+        let least = instance.lower_bound() as u32;
         let (beamed, is_whole) = instance.beam_told(&start, self.width, steps * 12 / 17, self.number);
         if is_whole || self.number.is_some() || beamed.makespan <= least {
             return beamed;
@@ -317,8 +257,10 @@ fn main() -> ExitCode {
         eprintln!("improve JOBS MACHINES INSTANCE_SEED WIDTH ROUNDS SEED MILLIONS [NUMBER]");
         return ExitCode::from(2);
     };
-    let instance = Instance::generate(asked.jobs, asked.machines, asked.instance_seed);
-    let start = instance.start();
+    let times = generated(asked.jobs, asked.machines, asked.instance_seed);
+    let instance = Instance::new(asked.jobs, asked.machines, &times);
+    let (jobs, makespan) = instance.start();
+    let start = Known { jobs, makespan: makespan as u32 };
     eprintln!("start: {}, bound {}", start.makespan, instance.lower_bound());
     let best = asked.improve(&instance, start);
     let words: Vec<String> = best.jobs.iter().map(|job| (job + 1).to_string()).collect();

@@ -1,7 +1,8 @@
 //! A second checker of certificates and two-ended certificates of permutation flow shops.
 //!
 //! It is a program of its own, in plain safe Rust. It was written apart from the proved checker of `flowshop`, by the
-//! same authors, from the rules of the texts alone. It is not proved, and shares no source file with a solver.
+//! same authors, from the rules of the texts alone. It is not proved, and shares no source file with a solver, nor with
+//! the plain Rust of bench/ and the plain Python of tests/: its recurrences are its own on purpose.
 //!
 //! Build it with any rustc from 1.63 on: `rustc --edition 2021 -O second_checker/main.rs -o second`.
 //!

@@ -1,5 +1,6 @@
-"""Calls of the library from Python, by ctypes, compared with plain code: random small shops are solved by trying each
-sequence, each status is met, and slices that are too short are refused and left as they were."""
+"""Calls of the library by ctypes, compared with plain code: random small shops are solved by trying each sequence,
+directions are those of the search of reference.py, each status of refusals.py is met, and slices that are too short are
+refused and left as they were."""
 
 import os
 import random
@@ -10,15 +11,22 @@ import tempfile
 import threading
 from ctypes import byref
 
-from plain_shop import plain_least, plain_makespan
-from records import LIBRARY, SIZE, TOP, U8, U16, U32, U64, Block, Bounds, Effort, Plan, Reached, Room, Spans, Text
-from records import call, counts, equal, lent, shop_of
-
-sys.path.insert(0, os.path.join(TOP, "examples", "python"))
-import check_two_ended  # noqa: E402
+import reference
+import refusals
+from counts import TOP, end
+from plain_pictures import plain_picture
+from plain_texts import Refused, bounds_line, check_two_ended, plain_blocks
+from records import LIBRARY, SIZE, U8, U16, U32, U64, BeamOptions, Block, Bounds, Effort, Node, Part, Plan
+from records import Reached, Room, RoundsOptions, Spans, Text, call, equal, lent, shop_of
+from reference import Search, of_rows, rows_of
 
 PROGRAM = os.environ.get("FLOWSHOP_PROGRAM", os.path.join(TOP, "crates", "flow_tool", "out", "flow_tool"))
 SHOPS = int(sys.argv[1]) if len(sys.argv) > 1 else 2_000
+SHOP = of_rows(refusals.THREE)
+MANY = 100_000
+
+
+# --- The calls ---
 
 
 def given(kind, numbers):
@@ -77,8 +85,8 @@ def picture(shop, sequence, room=20_000, lower=0):
     return bytes(data.taken(text.length))
 
 
-def reached(name, shop, words, room):
-    """A sequence and its makespan."""
+def reached(name, shop, words, room, is_part=False):
+    """A sequence and its makespan; of a part of a search also whether that was whole."""
     sequence = Room(U16, shop[0] if room is None else room)
     found = Reached(*sequence.words(), 7, 7)
     refused = call(name, shop_of(shop), *words, found)
@@ -86,7 +94,7 @@ def reached(name, shop, words, room):
         equal("what is kept", (found.makespan, found.whole, sequence.untouched()), (7, 7, True))
         return refused
     equal("how the search ended", found.whole in ((0,) if name == "neh" else (0, 1)), True)
-    return sequence.taken(shop[0]), found.makespan
+    return (sequence.taken(shop[0]), found.makespan) + (found.whole,) * is_part
 
 
 def neh(shop, room=None):
@@ -95,6 +103,14 @@ def neh(shop, room=None):
 
 def improve(shop, start, width=16, rounds=10, seed=1, work=1, room=None):
     return reached("improve", shop, [*given(U16, start), Effort(width, rounds, seed, work)], room)
+
+
+def beam(shop, start, number=0, width=64, steps=10**9, room=None):
+    return reached("beam", shop, [*given(U16, start), BeamOptions(number, width, steps)], room, True)
+
+
+def rounds(shop, start, most=20, seed=1, steps=10**9, room=None):
+    return reached("rounds", shop, [*given(U16, start), RoundsOptions(most, seed, steps)], room, True)
 
 
 def proved(name, shop, words, room, text_room):
@@ -129,395 +145,370 @@ def certify(shop, start, numbers=(0, 0, 1, 0, 1_000), room=None, text_room=4_300
     return proved("certify", shop, [*given(U16, start), Effort(*numbers[:4]), U32(numbers[4])], room, text_room)
 
 
-def plain_times(jobs, machines, seed):
-    times = []
-    for _ in range(jobs * machines):
-        seed = seed * 16_807 % 2_147_483_647
-        times.append(1 + seed * 99 // 2_147_483_647)
-    return times
+def prove(shop, number, first=(), last=(), budget=MANY, room=None, rest_room=None):
+    """What the call gives: that the directions prove the number; a sequence, its makespan and the directions before it;
+    or the first directions, and the parts that are left."""
+    jobs = shop[0]
+    sequence = Room(U16, jobs if room is None else room)
+    directions, rest = Room(U8, budget), Room(U16, jobs * (jobs + 4) if rest_room is None else rest_room)
+    part = Part(*sequence.words(), *directions.words(), *rest.words(), 7, 7, 7, 7)
+    node = Node(*lent(U16, first), *lent(U16, last))
+    refused = call("prove", shop_of(shop), node, U64(number), part)
+    numbers = part.found, part.makespan, part.directions_length, part.rest_length
+    if refused:
+        kept = numbers, sequence.untouched(), directions.untouched(), rest.untouched()
+        equal("what is kept", kept, ((7, 7, 7, 7), True, True, True))
+        return refused
+    text = bytes(directions.taken(part.directions_length)).decode("ascii")
+    left = rest.taken(part.rest_length)
+    jobs = sequence.taken(jobs if part.found == 2 else 0)
+    equal("no makespan where there is no sequence", part.found == 2 or part.makespan == 0, True)
+    equal("no parts where the search has ended", part.found == 3 or left == [], True)
+    return [("PROVED", text), ("BELOW", text, jobs, part.makespan), ("OVER", text, parts_of(left))][part.found - 1]
+
+
+def parts_of(numbers):
+    """The parts that stand in a list of numbers: two lists, an end, and jobs."""
+    parts = []
+    while numbers:
+        first, last, jobs, end = numbers[:4]
+        lists, numbers = numbers[4 : 4 + first + last + jobs], numbers[4 + first + last + jobs :]
+        parts.append((lists[:first], lists[first : first + last], end, lists[first + last :]))
+    return parts
+
+
+def nodes_of(parts):
+    """The nodes of parts, in their order."""
+    for first, last, end, jobs in parts:
+        if end == 0:
+            equal("the jobs of a node", jobs, [])
+            yield first, last
+        for job in jobs:
+            yield ([*first, job], last) if end == 1 else (first, [job, *last])
+
+
+def by_parts(shop, number, first, last, budget):
+    """The directions that parts have with a few directions at a time, and a sequence where one is reached."""
+    text, nodes = "", [(list(first), list(last))]
+    while nodes:
+        node = nodes.pop(0)
+        kind, more, *found = prove(shop, number, *node, budget)
+        text += more
+        if kind == "BELOW":
+            equal("the makespan of a sequence", found[1], reference.makespan(shop, found[0]))
+            return text, found[0]
+        if kind == "OVER":
+            equal("how many directions there are", len(more), budget)
+            nodes[:0] = nodes_of(found[0])
+    return text, None
+
+
+# --- Plain code ---
 
 
 def plain_timetable(shop, sequence):
-    jobs, machines, times = shop
-    front, starts, ends = [0] * machines, [], []
-    for job in sequence:
-        before = 0
-        for machine in range(machines):
-            starts.append(max(before, front[machine]))
-            before = front[machine] = starts[-1] + times[machine * jobs + job - 1]
-            ends.append(before)
-    return starts, ends
-
-
-def plain_path(shop, starts, ends):
-    """The bars of the heaviest path that docs/formats.md names, as places of the timetable, from its last bar."""
-    _, machines, _ = shop
-    place, path = len(starts) - 1, set()
-    while place >= 0:
-        path.add(place)
-        before = place - machines
-        place = before if place % machines == 0 or before >= 0 and ends[before] == starts[place] else place - 1
-    return path
-
-
-def plain_frame(shop, value, wide, lower):
-    """A picture up to its bars, by docs/formats.md, where the makespan is so wide."""
-    jobs, machines, _ = shop
-    bottom, right = 5_900 + 3_000 * machines, 13_500 + wide
-    heading = f"optimal {value}" if lower == value > 0 else f"makespan {value}"
-    if 0 < lower < value:
-        heading += f", lower bound {lower}"
-    heading += f", jobs {jobs}, machines {machines}"
-    steps = wide // 8_000
-    step = next(lead * 10**power for power in range(19) for lead in (1, 2, 5) if value <= steps * lead * 10**power)
-    text = (
-        f'<svg xmlns="http://www.w3.org/2000/svg" width="{right // 100}" height="{(bottom + 3_400) // 100}" '
-        f'viewBox="0 0 {right} {bottom + 3_400}" font-family="sans-serif" font-size="1200">\n<title>{heading}</title>\n'
-        f'<path d="M0 0H{right}V{bottom + 3_400}H0z" fill="#ffffff"/>\n'
-        f'<text x="9000" y="2400" font-size="1600">{heading}</text>\n<text x="9000" y="4700">'
-        f"outlined: these operations leave no room; together they take the whole time</text>\n"
-    )
-    for time in range(0, value + 1, step):
-        x = 9_000 + time * wide // max(1, value)
-        line = f'x1="{x}" y1="5900" x2="{x}" y2="{bottom + 500}" stroke="#bbbbbb" stroke-width="60"'
-        text += f'<line {line}/><text x="{x}" y="{bottom + 2_000}" text-anchor="middle">{time}</text>\n'
-    text += f'<text x="8000" y="{bottom + 2_000}" text-anchor="end">time</text>\n'
-    for machine in range(1, machines + 1):
-        text += f'<text x="8000" y="{4_850 + 3_000 * machine}" text-anchor="end">machine {machine}</text>\n'
-    return text + '<g text-anchor="middle" font-size="1000">\n'
-
-
-COLOURS = "#004C7F #F0C800 #8F2D00 #7CC4F0 #00594A #F2A65A #5B2A86 #F2B6D2".split()
-
-
-def plain_picture(shop, sequence, lower=0):
-    """The picture of a sequence with a lower bound, where that is not 0, by docs/formats.md."""
-    jobs, machines, _ = shop
-    starts, ends = plain_timetable(shop, sequence)
-    value, path = ends[-1], plain_path(shop, starts, ends)
-    wide = max(96_000, 3_600 * (jobs + machines))
-    text = plain_frame(shop, value, wide, lower)
-    for place, (start, end) in enumerate(zip(starts, ends)):
-        if start == end:
-            continue
-        job, machine = sequence[place // machines], place % machines + 1
-        left, right = [9_000 + time * wide // value for time in (start, end)]
-        width = right - left - min(80, (right - left) // 4)
-        outline = f'" stroke="#000000" stroke-width="300" stroke-dasharray="{width} 2400' if place in path else ""
-        text += (
-            f'<rect x="{left}" y="{3_200 + 3_000 * machine}" width="{width}" height="2400" '
-            f'fill="{COLOURS[place // machines % 8]}{outline}"><title>job {job}, machine {machine}, '
-            f"start {start}, end {end}</title></rect>\n"
-        )
-        if width >= 640 * len(str(job)) + 160:
-            ink = "" if place // machines % 2 else ' fill="#ffffff"'
-            text += f'<text x="{left + width // 2}" y="{4_760 + 3_000 * machine}"{ink}>{job}</text>\n'
-    return (text + "</g></svg>\n").encode()
-
-
-def plain_neh(shop):
-    jobs, machines, times = shop
-    total = {job: sum(times[machine * jobs + job - 1] for machine in range(machines)) for job in range(1, jobs + 1)}
-    sequence = []
-    for job in sorted(total, key=lambda job: (-total[job], job)):
-        lists = [sequence[:place] + [job] + sequence[place:] for place in range(len(sequence) + 1)]
-        sequence = min(lists, key=lambda jobs: plain_makespan(shop, jobs))
-    return sequence
+    """When the operations start and end, job by job."""
+    found = [span for of_job in reference.spans(shop, sequence) for span in of_job]
+    return [start for start, _ in found], [end for _, end in found]
 
 
 def plain_check(shop, text, most):
     """What a two-ended certificate proves, by the checker of examples/python; and that it has few directions."""
-    jobs, _, times = shop
-    lower, upper, sequence = check_two_ended.check([times[job::jobs] for job in range(jobs)], text)
+    lower, upper, sequence = check_two_ended.check(rows_of(shop), text)
     equal("how many directions", len(text.split(b"\n")[4]) <= most, True)
     return sequence, lower, upper
 
 
-def drawn(draw):
-    jobs, machines = draw.randint(1, 5), draw.randint(1, 4)
-    return jobs, machines, [draw.randint(0, draw.choice((3, 9, 99))) for _ in range(jobs * machines)]
+def plain_found(shop, number, first, last):
+    """The directions of a node before the first sequence below the number, and that sequence where there is one."""
+    search = Search(shop)
+    text, found = search.search(number, search.node(first, last))
+    return text, found and list(found)
+
+
+def drawn(draw, most_jobs=5, most_machines=4, times=(3, 9, 99)):
+    """A random shop."""
+    jobs, machines = draw.randint(1, most_jobs), draw.randint(1, most_machines)
+    return jobs, machines, [draw.randint(0, draw.choice(times)) for _ in range(jobs * machines)]
+
+
+# --- What is refused ---
+
+
+# The calls on a shop and a sequence. All that they take besides is wrong.
+CALLS = {
+    "makespan": makespan,
+    "timetable": lambda shop, jobs: timetable(shop, jobs, (0, 0)),
+    "picture": lambda shop, jobs: picture(shop, jobs, 0),
+    "improve": lambda shop, jobs: improve(shop, jobs, 65_537, 100_000_001, 0, 1_000_001, 0),
+    "solve": lambda shop, jobs: solve(shop, jobs, 9, 0, 0, 0, 0),
+    "certify": lambda shop, jobs: certify(shop, jobs, (65_537, 100_000_001, 0, 1_000_001, 0), 0, 0),
+    "beam": lambda shop, jobs: beam(shop, jobs, 0, 65_537, room=0),
+    "rounds": lambda shop, jobs: rounds(shop, jobs, 100_000_001, 0, room=0),
+}
+# Those on a shop alone, or with lists that are none.
+OTHER_CALLS = {
+    "neh": lambda shop: neh(shop, 0),
+    "check": lambda shop: check(shop, b"", 0),
+    "prove": lambda shop: prove(shop, 12, [4], [4], room=0),
+    **{name: lambda shop, make=make: make(shop, [4]) for name, make in CALLS.items()},
+}
+# Shops that are none, with the fault and its place.
+WRONG_SHOPS = [
+    ((0, 27, [1]), "JOBS", 0),
+    ((801, 27, [1]), "JOBS", 0),
+    ((3, 0, [1]), "MACHINES", 0),
+    ((3, 27, [1]), "MACHINES", 0),
+    ((3, 3, [1]), "COUNT", 0),
+    ((3, 3, [1] * 10), "COUNT", 0),
+    ((2, 1, [1, 1_000_000]), "TIME", 2),
+    ((2, 1, [1_000_000, 4_294_967_295]), "TIME", 1),
+]
+# The options of calls, and the calls with these on the shop above, with too little room for their results.
+START = [2, 1, 3]
+NUMBERS = [
+    (("width", "rounds", "seed", "work"), lambda *numbers: improve(SHOP, START, *numbers, room=2)),
+    (("width", "rounds", "seed", "work", "directions"), lambda *numbers: certify(SHOP, START, numbers, 2, 0)),
+    (("depth", "budget", "version"), lambda *numbers: solve(SHOP, START, *numbers, room=2)),
+    (("width",), lambda width: beam(SHOP, START, 0, width, 2**64 - 1, 2)),
+    (("rounds", "seed"), lambda most, seed: rounds(SHOP, START, most, seed, 2**64 - 1, 2)),
+    (("jobs", "machines", "seed"), lambda *numbers: generate(*numbers, room=0)),
+]
+
+
+def refuse_arguments():
+    """Each status that a shop, a sequence or a number can bring about, with its place; the first fault decides."""
+    for shop, *wanted in WRONG_SHOPS:
+        for name, make in OTHER_CALLS.items():
+            equal(f"{name} of {shop}", make(shop), tuple(wanted))
+    for jobs, *wanted, _ in refusals.SEQUENCES:
+        for name, make in CALLS.items():
+            equal(f"{name} of {jobs}", make(SHOP, jobs), tuple(wanted))
+    for names, make in NUMBERS:
+        for wanted, numbers in refusals.wrong_numbers(names):
+            equal(f"the numbers {numbers}", make(*numbers.values()), (wanted.upper(), 0))
+        for end in (0, 1):
+            numbers = [refusals.LIMITS[name][end] for name in names]
+            wanted = numbers[0] * numbers[1] if names[0] == "jobs" else 3
+            equal(f"{names} of {numbers}", make(*numbers), ("ROOM", wanted))
+    for shop, depth, wanted in [
+        ((1, 1, [5]), 2, ("PLAN_DEPTH", 0)),
+        ((100, 1, [5] * 100), 3, ("PLAN_PREFIXES", 0)),
+        ((3, 3, SHOP[2]), 0, ("OVER_BUDGET", 0)),
+    ]:
+        equal(f"a plan of the depth {depth}, {wanted}", solve(shop, list(range(1, shop[0] + 1)), depth, 1), wanted)
+
+
+def refuse_rooms():
+    """Slices for results that are too short, each length of them; and those that are long enough."""
+    sequence, value, text = solve(SHOP, START)
+    *found, certified = certify(SHOP, START)
+    drawing = plain_picture(SHOP, START)
+    for name, make, wanted in [
+        ("solve", lambda room: solve(SHOP, START, text_room=room), (sequence, value, text)),
+        ("certify", lambda room: certify(SHOP, START, text_room=room), (*found, certified)),
+        ("picture", lambda room: picture(SHOP, START, room), drawing),
+    ]:
+        needed = len(drawing if name == "picture" else wanted[-1])
+        for room in range(needed + 2):
+            equal(f"{name} with room for {room} bytes", make(room), wanted if room >= needed else ("ROOM", needed))
+    table = plain_timetable(SHOP, START)
+    for room in range(11):
+        wanted = table if room >= 9 else ("ROOM", 9)
+        equal(f"room for {room} starts", timetable(SHOP, START, (room, 9)), wanted)
+        equal(f"room for {room} ends", timetable(SHOP, START, (9, room)), wanted)
+    for name, make in [
+        ("neh", lambda room: neh(SHOP, room)[0]),
+        ("improve", lambda room: improve(SHOP, START, room=room)[0]),
+        ("beam", lambda room: beam(SHOP, START, room=room)[0]),
+        ("rounds", lambda room: rounds(SHOP, START, room=room)[0]),
+        ("prove", lambda room: prove(SHOP, 13, room=room, rest_room=0)[0]),
+        ("solve", lambda room: solve(SHOP, START, room=room)[0]),
+        ("certify", lambda room: certify(SHOP, START, room=room)[0]),
+        ("check", lambda room: check(SHOP, text, room)[0]),
+    ]:
+        for room in range(6):
+            equal(f"{name} with room for {room} jobs", make(room) == "ROOM", room < 3)
+    kind, text, parts = prove(SHOP, 12, budget=1)
+    entries = sum(4 + len(first) + len(last) + len(jobs) for first, last, _, jobs in parts)
+    equal("a part of a search", (kind, len(text), len(parts) > 0), ("OVER", 1, True))
+    equal("no room for it", prove(SHOP, 12, budget=1, rest_room=entries - 1), ("ROOM", entries))
+    equal("just room for it", prove(SHOP, 12, budget=1, rest_room=entries), (kind, text, parts))
+
+
+def refuse_texts():
+    """Benchmark texts and certificates, with their first faults, and such texts cut off after each byte."""
+    for text, fault, *_ in refusals.TEXTS:
+        equal(f"the block of {text}", block(text, 1, room=0), refusals.name_of(fault))
+    for rows, text, line, _ in refusals.checks():
+        got = check(of_rows(rows), text)
+        got, wanted = (got, refusals.name_of(line)) if len(got) == 2 else (bounds_line(*got[1:]), line)
+        equal(f"a check of {text[:200]}", got, wanted)
+    for text in (refusals.BOUNDS, refusals.TREE):
+        for count in range(len(text)):
+            equal(f"{count} bytes of a certificate", check(SHOP, text[:count])[0] in LIBRARY_FAULTS, True)
+    text = b"one\n2 2 5 9 8\ntimes\n1 14\n75 46\n\nnext\n1 1 0 4294967295 0\ntimes\n999999\n"
+    first, second = ((2, 2, [1, 14, 75, 46]), 5, 9, 8), ((1, 1, [999_999]), 0, 4_294_967_295, 0)
+    for index, room, wanted in [
+        (1, 20_800, first),
+        (2, 20_800, second),
+        (1, 4, first),
+        (1, 3, ("ROOM", 4)),
+        (2, 0, ("ROOM", 1)),
+        *[(index, 0, ("INDEX", 2)) for index in (0, 3, 4_294_967_295)],
+    ]:
+        equal(f"block {index} with room for {room}", block(text, index, room), wanted)
+    for count in range(len(text)):
+        try:
+            wanted = plain_blocks(text[:count])[0]
+        except Refused as refused:
+            wanted = refusals.name_of(str(refused))
+        equal(f"{count} bytes of a text", block(text[:count], 1), wanted)
+    greatest = b"one\n800 26 4294967295 4294967295 4294967295\ntimes\n" + b" ".join([b"999999"] * 20_800)
+    equal("the greatest block", block(greatest, 1), ((800, 26, [999_999] * 20_800), *[4_294_967_295] * 3))
+    equal("the greatest without room", block(greatest, 1, room=20_799), ("ROOM", 20_800))
+
+
+LIBRARY_FAULTS = "HEADER SIZE VALUE SEQUENCE NOT_ATTAINED TREE WEAK LOW END".split()
+
+
+def compare_calls():
+    """What calls give that was worked out by hand."""
+    one = (2, 1, [3, 4])
+    great = of_rows(refusals.GREAT)
+    # Each sequence of the long one has the makespan 34. The bound of a node is 25 until job 14 is put at an end, so
+    # that a thousand directions prove no more.
+    long = 14, 2, [1] * 13 + [10] + [1] * 13 + [11]
+    for make, wanted in [
+        (lambda: makespan((2, 1, [999_999, 999_999]), [2, 1]), 1_999_998),
+        # The timetable that docs/formats.md reads by hand.
+        (lambda: timetable(SHOP, START), ([0, 0, 8, 0, 8, 8, 4, 8, 12], [0, 8, 8, 4, 8, 12, 4, 10, 13])),
+        (lambda: timetable((1, 1, [999_999]), [1]), ([0], [999_999])),
+        (lambda: [times[-1] for times in timetable(great, range(1, 801))], [823_999_176, 824_999_175]),
+        (lambda: neh(SHOP), (START, 13)),
+        (lambda: improve(SHOP, [3, 1, 2])[1], 12),
+        # Each sequence of one machine has the sum of its times, which is Taillard's bound.
+        (lambda: improve(one, [2, 1], 65_536, 100_000_000, 2_147_483_646, 1_000_000)[1], 7),
+        (lambda: improve((1, 1, [0]), [1], 0, 0, 1, 0), ([1], 0)),
+        (lambda: certify(one, [2, 1], (0, 0, 1, 0, 1))[1:3], (7, 7)),
+        (lambda: certify(long, list(range(1, 15)))[1:3], (25, 34)),
+        (lambda: plain_check(SHOP, certify(SHOP, START)[3], 1_000)[1:], (12, 12)),
+        (lambda: rounds(one, [2, 1], 100_000_000, steps=2**64 - 1), ([2, 1], 7, 1)),
+        (lambda: beam(one, [2, 1]), ([2, 1], 7, 1)),
+        (lambda: beam(SHOP, START, width=65_536, steps=2**64 - 1)[1], 12),
+        (lambda: beam(SHOP, START, width=0), (START, 13, 0)),
+        (lambda: beam(SHOP, START, steps=0), (START, 13, 0)),
+        (lambda: beam(SHOP, START, number=12)[:2], (START, 13)),
+        (lambda: beam(SHOP, START, number=13)[:2], ([3, 1, 2], 12)),
+        (lambda: rounds(SHOP, START, 0), (START, 13, 0)),
+        (lambda: rounds(SHOP, START, steps=0), (START, 13, 0)),
+        (lambda: rounds(SHOP, START)[1:], (12, 0)),
+        (lambda: check(SHOP, refusals.BOUNDS), (START, 11, 13)),
+        (lambda: check(SHOP, refusals.LEAST.replace(b"++", b"+-")), ([3, 1, 2], 12, 12)),
+        (lambda: check(SHOP, refusals.TREE.replace(b"C++.B", b"C+AB")), ([3, 1, 2], 12, 12)),
+        (lambda: prove(SHOP, 12, [4], [4], room=0), ("JOB", 1)),
+        (lambda: prove(SHOP, 12, [0], [], room=0), ("JOB", 1)),
+        (lambda: prove(SHOP, 12, [3, 2], [1, 65_535], room=0), ("JOB", 4)),
+        (lambda: prove(SHOP, 12, [3, 2], [2, 4], room=0), ("TWICE", 3)),
+        (lambda: prove(SHOP, 12, [3, 2, 3], [2, 4], room=0), ("TWICE", 3)),
+        (lambda: prove(SHOP, 12, [3, 2, 1], [1], room=0), ("TWICE", 4)),
+        (lambda: prove(SHOP, 12, rest_room=0)[0], "PROVED"),
+        (lambda: prove(SHOP, 13, rest_room=0)[2:], ([3, 1, 2], 12)),
+        (lambda: prove(SHOP, 2**64 - 1, START), ("BELOW", "", START, 13)),
+        (lambda: prove(SHOP, 13, [2, 1], [3]), ("PROVED", "")),
+        (lambda: prove(SHOP, 0), ("PROVED", "")),
+        # The states of the seed 1 are 16807, 282475249, 1622650073 and 984943658. The last seed is the modulus less 1,
+        # so its state is the modulus less the multiplier.
+        (lambda: generate(2, 2, 1, room=9), [1, 14, 75, 46]),
+        (lambda: generate(1, 1, 2_147_483_646), [99]),
+        (lambda: generate(800, 26, 5), reference.generated(800, 26, 5)[2]),
+    ]:
+        equal("what a call gives", make(), wanted)
+
+
+# --- Drawn shops ---
 
 
 def compare_shop(draw):
     """One random shop: its start, its least makespan, and its certificates."""
     shop = drawn(draw)
-    start, start_value = neh(shop)
-    equal("a start", (start, start_value), (plain_neh(shop), plain_makespan(shop, plain_neh(shop))))
+    first, (start, start_value) = reference.start(shop), neh(shop)
+    equal("a start", (start, start_value), (first, reference.makespan(shop, first)))
     draw.shuffle(start)
-    equal("a makespan", makespan(shop, start), plain_makespan(shop, start))
+    equal("a makespan", makespan(shop, start), reference.makespan(shop, start))
     equal("a timetable", timetable(shop, start), plain_timetable(shop, start))
-    least = plain_least(shop)
+    least = reference.least(shop)
     lower = max(0, draw.choice((0, least, least - 1, least + 1)))
     equal("a picture", picture(shop, start, lower=lower), plain_picture(shop, start, lower))
     better, value = improve(shop, start, draw.choice((0, 1, 16)), draw.choice((0, 9)), draw.randint(1, 2_147_483_646))
-    equal("a better sequence", (sorted(better), plain_makespan(shop, better)), (sorted(start), value))
-    equal("whether it is no worse", least <= value <= plain_makespan(shop, start), True)
+    equal("a better sequence", (sorted(better), reference.makespan(shop, better)), (sorted(start), value))
+    equal("whether it is no worse", least <= value <= reference.makespan(shop, start), True)
     depth = draw.randint(0, min(2, shop[0]))
     sequence, value, text = solve(shop, start, depth, version=draw.randint(1, 2))
-    equal("a least makespan", (value, plain_makespan(shop, sequence)), (least, least))
+    equal("a least makespan", (value, reference.makespan(shop, sequence)), (least, least))
     equal("a check", check(shop, text), (sequence, least, least))
     effort = draw.choice((0, 1, 20)), draw.choice((0, 9)), draw.randint(1, 2_147_483_646), 1
     sequence, *bounds, text = certify(shop, start, (*effort, 1_000))
-    equal("bounds that are certified", (bounds, plain_makespan(shop, sequence)), ([least, least], least))
+    equal("bounds that are certified", (bounds, reference.makespan(shop, sequence)), ([least, least], least))
     equal("a check of its text", check(shop, text), (sequence, least, least))
     equal("a plain check of it", plain_check(shop, text, 1_000), (sequence, least, least))
     most = draw.randint(1, 9)
     sequence, lower, upper, text = certify(shop, start, (*effort, most))
-    equal("whether they are bounds", lower <= least <= upper <= plain_makespan(shop, start), True)
+    equal("whether they are bounds", lower <= least <= upper <= reference.makespan(shop, start), True)
     equal("a check of few directions", check(shop, text), (sequence, lower, upper))
     equal("a plain check of them", plain_check(shop, text, most), (sequence, lower, upper))
 
 
-SHOP = (3, 3, [4, 0, 0, 0, 8, 2, 4, 0, 1])
+def compare_parts(draw):
+    """Searches of small shops and of their nodes, in parts of several budgets."""
+    sizes = [(1, 3, 0), (5, 2, 1), (5, 4, 0), (6, 3, 2), (7, 5, 1), (8, 3, 0), (9, 4, 1), (12, 2, 0)]
+    for jobs, machines, more in sizes:
+        greatest = draw.choice((3, 9, 99, 9_999, 999_999))
+        shop = jobs, machines, [draw.randint(0, greatest) for _ in range(jobs * machines)]
+        start = draw.sample(range(1, jobs + 1), jobs)
+        number = reference.makespan(shop, start) - 2 if jobs > 8 else reference.least(shop)
+        number += draw.choice((0, 1))
+        first, last = start[: min(more, 1)], start[len(start) - max(0, more - 1) :]
+        wanted = plain_found(shop, number, first, last)
+        kind, text, *found = prove(shop, number, first, last)
+        equal(f"directions of {shop}", (kind, text), ("PROVED" if wanted[1] is None else "BELOW", wanted[0]))
+        if found:
+            equal("a sequence", found, [wanted[1], reference.makespan(shop, wanted[1])])
+        for budget in (1, 2, 7, 1_000, len(text), max(0, len(text) - 1)):
+            if budget or not text:
+                equal(f"parts with {budget} of {shop}", by_parts(shop, number, first, last, budget), wanted)
+        if text:
+            equal("no directions at all", prove(shop, number, first, last, 0), ("OVER", "", [(first, last, 0, [])]))
 
 
-def compare_statuses():
-    """Each status that the arguments can bring about, with its place; the first fault decides."""
-    cases = [
-        (makespan((0, 1, []), []), ("JOBS", 0)),
-        (makespan((801, 27, []), []), ("JOBS", 0)),
-        (makespan((2, 0, []), [1, 2]), ("MACHINES", 0)),
-        (makespan((2, 27, []), [1, 2]), ("MACHINES", 0)),
-        (makespan((2, 1, [1]), [1, 2]), ("COUNT", 0)),
-        (makespan((2, 1, [1_000_000, 4_294_967_295]), [1, 1]), ("TIME", 1)),
-        (makespan((2, 1, [999_999, 999_999]), [2, 1]), 1_999_998),
-        (makespan(SHOP, [1, 2]), ("LENGTH", 0)),
-        (makespan(SHOP, [1, 0, 1]), ("JOB", 2)),
-        (makespan(SHOP, [1, 2, 2]), ("TWICE", 3)),
-        # The timetable that docs/formats.md reads by hand.
-        (timetable(SHOP, [2, 1, 3]), ([0, 0, 8, 0, 8, 8, 4, 8, 12], [0, 8, 8, 4, 8, 12, 4, 10, 13])),
-        (timetable(SHOP, [2, 1, 3], (9, 10))[1], [0, 8, 8, 4, 8, 12, 4, 10, 13]),
-        (timetable(SHOP, [2, 1, 3], (8, 0)), ("ROOM", 9)),
-        (timetable(SHOP, [2, 1, 3], (9, 8)), ("ROOM", 9)),
-        (timetable(SHOP, [2, 1], (0, 0)), ("LENGTH", 0)),
-        (timetable(SHOP, [4, 1, 3], (0, 0)), ("JOB", 1)),
-        (timetable(SHOP, [2, 2, 3], (0, 0)), ("TWICE", 2)),
-        (timetable((3, 27, [1]), [2, 1, 3], (0, 0)), ("MACHINES", 0)),
-        (timetable((3, 3, [1]), [2, 1], (0, 0)), ("COUNT", 0)),
-        (timetable((1, 1, [999_999]), [1]), ([0], [999_999])),
-        (neh((2, 1, [1]), 0), ("COUNT", 0)),
-        (neh(SHOP, 2), ("ROOM", 3)),
-        (neh(SHOP, 5), ([2, 1, 3], 13)),
-        (improve((3, 3, [1]), [1, 2], 65_537), ("COUNT", 0)),
-        (improve(SHOP, [1, 2], 65_537), ("LENGTH", 0)),
-        (improve(SHOP, [1, 4, 2], 65_537), ("JOB", 2)),
-        (improve(SHOP, [1, 2, 2], 65_537), ("TWICE", 3)),
-        (improve(SHOP, [1, 2, 3], 65_537, 100_000_001, 0, 1_000_001, room=0), ("WIDTH", 0)),
-        (improve(SHOP, [1, 2, 3], 65_536, 100_000_001, 0, 1_000_001, room=0), ("ROUNDS", 0)),
-        (improve(SHOP, [1, 2, 3], 65_536, 100_000_000, 0, 1_000_001, room=0), ("SEED", 0)),
-        (improve(SHOP, [1, 2, 3], 65_536, 100_000_000, 2_147_483_647, 1_000_001, room=0), ("SEED", 0)),
-        (improve(SHOP, [1, 2, 3], 65_536, 100_000_000, 2_147_483_646, 1_000_001, room=0), ("WORK", 0)),
-        (improve(SHOP, [1, 2, 3], 65_536, 100_000_000, 2_147_483_646, 1_000_000, room=2), ("ROOM", 3)),
-        (improve(SHOP, [3, 1, 2])[1], 12),
-        (improve(SHOP, [3, 1, 2], room=5)[1], 12),
-        # Each sequence of one machine has the sum of its times.
-        (improve((2, 1, [3, 4]), [2, 1], 65_536, 100_000_000, 2_147_483_646, 1_000_000)[1], 7),
-        (improve((1, 1, [0]), [1], 0, 0, 1, 0), ([1], 0)),
-        (solve(SHOP, [1, 1, 1], 9, 0, 0), ("TWICE", 2)),
-        (solve(SHOP, [1, 2, 3], 4, 0, 0), ("DEPTH", 0)),
-        (solve(SHOP, [1, 2, 3], 3, 0, 0), ("BUDGET", 0)),
-        (solve(SHOP, [1, 2, 3], 3, 100_000_001, 3), ("BUDGET", 0)),
-        (solve(SHOP, [1, 2, 3], 3, 1, 3), ("VERSION", 0)),
-        (solve((1, 1, [5]), [1], 2), ("PLAN_DEPTH", 0)),
-        (solve((100, 1, [5] * 100), list(range(1, 101)), 3), ("PLAN_PREFIXES", 0)),
-        (solve(SHOP, [1, 2, 3], room=2), ("ROOM", 3)),
-        (check((3, 3, [1]), b"", room=2), ("COUNT", 0)),
-        (check(SHOP, b"", room=2), ("ROOM", 3)),
-        (check(SHOP, b""), ("HEADER", 0)),
-    ]
-    for got, wanted in cases:
-        equal("a status", got, wanted)
-    sequence, value, text = solve(SHOP, [2, 1, 3])
-    equal("a value", value, 12)
-    equal("a budget", solve(SHOP, [2, 1, 3], budget=1), ("OVER_BUDGET", 0))
-    equal("no room for a text", solve(SHOP, [2, 1, 3], text_room=len(text) - 1), ("ROOM", len(text)))
-    equal("just room for it", solve(SHOP, [2, 1, 3], text_room=len(text)), (sequence, value, text))
-    lines = text.split(b"\n")
-    for number, line, wanted in [
-        (0, b"flowshop certificate 3", ("HEADER", 0)),
-        (1, b"3 2 0", ("SIZE", 0)),
-        (2, b"012", ("VALUE", 0)),
-        (2, b"11", ("NOT_ATTAINED", 0)),
-        (3, b"1 1 3", ("SEQUENCE", 0)),
-        (4, b"+", ("TREE", 5)),
-        (4, b"A", ("WEAK", 5)),
-        (5, b"END", ("END", 0)),
+def compare_reached(draw):
+    """What beams and rounds reach beside all sequences of a small shop."""
+    shop = drawn(draw, 6, 5, (3, 9, 99, 9_999, 999_999))
+    start = draw.sample(range(1, shop[0] + 1), shop[0])
+    value, best = reference.makespan(shop, start), reference.least(shop)
+    for make, aim in [
+        (lambda: beam(shop, start, width=draw.choice((1, 3, 4_096))), 0),
+        (lambda: beam(shop, start, best + 1), best + 1),
+        (lambda: beam(shop, start, best), best),
+        (lambda: rounds(shop, start, draw.randint(0, 30), draw.randint(1, 2_147_483_646)), 0),
     ]:
-        changed = b"\n".join(lines[:number] + [line] + lines[number + 1 :])
-        equal(f"line {number + 1} as {line!r}", check(SHOP, changed), wanted)
-    two = (2, 1, [1, 1])
-    point = b"flowshop certificate 1\n2 1 2\n2\n1 2\n.\n.\nend\n"
-    equal("points", check(two, point), ([1, 2], 2, 2))
-    # The first sequence has 5 and the second 4, so that the second is low.
-    low = b"flowshop certificate 1\n2 2 2\n5\n1 2\n.\n.\nend\n"
-    equal("a low point", check((2, 2, [2, 1, 1, 2]), low), ("LOW", 6))
-
-
-def compare_generator(draw):
-    """Generated shops, each status, and slices that are too short. The states of the seed 1 are 16807, 282475249,
-    1622650073 and 984943658."""
-    for got, wanted in [
-        (generate(2, 2, 1), [1, 14, 75, 46]),
-        (generate(2, 2, 1, room=9), [1, 14, 75, 46]),
-        (generate(2, 2, 1, room=3), ("ROOM", 4)),
-        (generate(800, 26, 1, room=0), ("ROOM", 20_800)),
-        (generate(0, 27, 0, room=9), ("JOBS", 0)),
-        (generate(801, 1, 1, room=9), ("JOBS", 0)),
-        (generate(1, 0, 0, room=9), ("MACHINES", 0)),
-        (generate(1, 27, 0, room=9), ("MACHINES", 0)),
-        (generate(1, 1, 0, room=0), ("SEED", 0)),
-        (generate(1, 1, 2_147_483_647, room=0), ("SEED", 0)),
-        # The seed is the modulus less 1, so the state is the modulus less the multiplier.
-        (generate(1, 1, 2_147_483_646), [99]),
-        (generate(800, 26, 5), plain_times(800, 26, 5)),
-    ]:
-        equal("generated times", got, wanted)
-    for _ in range(200):
-        words = draw.randint(1, 20), draw.randint(1, 5), draw.randint(1, 2_147_483_646)
-        equal(f"times of {words}", generate(*words), plain_times(*words))
-
-
-def compare_blocks():
-    """Blocks of a text, and the first fault of changed ones, by the rules of docs/formats.md."""
-    text = b"one\n2 2 5 9 8\ntimes\n1 14\n75 46\n\nnext\n1 1 0 4294967295 0\ntimes\n999999\n"
-    first = (2, 2, [1, 14, 75, 46]), 5, 9, 8
-    for got, wanted in [
-        (block(text, 1), first),
-        (block(text, 2), ((1, 1, [999_999]), 0, 4_294_967_295, 0)),
-        (block(text, 1, room=4), first),
-        (block(text, 1, room=3), ("ROOM", 4)),
-        (block(text, 2, room=0), ("ROOM", 1)),
-        (block(text, 0), ("INDEX", 2)),
-        (block(text, 3, room=0), ("INDEX", 2)),
-        (block(text, 4_294_967_295), ("INDEX", 2)),
-        (block(b"", 0, room=0), ("NO_BLOCK", 0)),
-        (block(b" \n\t\n", 1), ("NO_BLOCK", 0)),
-        (block(b"1\n", 1), ("LABEL", 1)),
-        (block(b"one\n", 1), ("HEAD", 2)),
-        (block(b"one\n2 2 5 9 8", 1), ("LABEL", 3)),
-        (block(b"one\n2 2 5 9 8\ntimes\n1 14\n", 1), ("TIMES", 5)),
-    ]:
-        equal("a block", got, wanted)
-    words = b" ".join([b"999999"] * 20_800)
-    greatest = b"one\n800 26 4294967295 4294967295 4294967295\ntimes\n" + words
-    wanted = (800, 26, [999_999] * 20_800), *[4_294_967_295] * 3
-    equal("the greatest block", block(greatest, 1), wanted)
-    equal("the greatest without room", block(greatest, 1, room=20_799), ("ROOM", 20_800))
-    for old, new, wanted in [
-        (b"one", b"1", ("LABEL", 1)),
-        (b"2 2 5", b"2 2x5", ("BYTE", 2)),
-        (b"9 8", b"9 4294967296", ("NUMBER", 2)),
-        (b"9 8", b"9 8 7", ("HEAD", 2)),
-        (b"9 8", b"9", ("HEAD", 3)),
-        (b"2 2 5", b"801 2 5", ("LIMITS", 2)),
-        (b"2 2 5", b"2 27 5", ("LIMITS", 2)),
-        (b"999999", b"1000000", ("LIMITS", 10)),
-        (b"75 46", b"75", ("TIMES", 7)),
-        (b"75 46", b"75 46 1", ("TIMES", 5)),
-        (b"next", b"3", ("LABEL", 7)),
-    ]:
-        equal(f"{old!r} as {new!r}", block(text.replace(old, new, 1), 1), wanted)
-
-
-def compare_directions():
-    """Two-ended certificates, each read by hand, and the first fault of changed ones."""
-    text = b"flowshop two-ended 1\n3 3\n11 13\n2 1 3\n-\nend\n"
-    least = b"flowshop two-ended 1\n3 3\n12 12\n3 1 2\n+-\nend\n"
-    for got, wanted in [
-        (check(SHOP, text), ([2, 1, 3], 11, 13)),
-        (check(SHOP, text, room=5), ([2, 1, 3], 11, 13)),
-        (check(SHOP, text, room=2), ("ROOM", 3)),
-        (check((3, 3, [1]), text, room=2), ("COUNT", 0)),
-        (check(SHOP, least), ([3, 1, 2], 12, 12)),
-        (check(SHOP, least.replace(b"3 1 2", b"2 1 3")), ("NOT_ATTAINED", 0)),
-        (check((1, 1, [7]), b"flowshop two-ended 1\n1 1\n7 7\n1\n\nend\n"), ([1], 7, 7)),
-        (check((1, 1, [7]), b"flowshop two-ended 1\n1 1\n8 7\n1\n+\nend\n"), ("LOW", 5)),
-        # No directions are needed to prove 0.
-        (check((1, 1, [999_999]), b"flowshop two-ended 1\n1 1\n0 999999\n1\n\nend\n"), ([1], 0, 999_999)),
-        # Texts of bounds by trees are of no kind.
-        (check(SHOP, b"flowshop bounds 1\n3 3 0\n11 13\n2 1 3\n+BB+AB\nend\n"), ("HEADER", 0)),
-        (check(SHOP, b"flowshop certificate 1\n3 3 0\n12\n3 1 2\n+BC+AB\nend\n"), ([3, 1, 2], 12, 12)),
-    ]:
-        equal("directions", got, wanted)
-    for old, new, wanted in [
-        (b"two-ended 1", b"two-ended 2", ("HEADER", 0)),
-        (b"3 3", b"3 2", ("SIZE", 0)),
-        (b"3 3", b"3 3 0", ("SIZE", 0)),
-        (b"11 13", b"11", ("VALUE", 0)),
-        (b"11 13", b"11 18446744073709551616", ("VALUE", 0)),
-        (b"2 1 3", b"2 1 2", ("SEQUENCE", 0)),
-        (b"11 13", b"11 14", ("NOT_ATTAINED", 0)),
-        (b"11 13", b"10 13", ("TREE", 5)),
-        (b"11 13", b"12 13", ("TREE", 5)),
-        (b"-\n", b"\n", ("TREE", 5)),
-        (b"-\n", b"-+\n", ("TREE", 5)),
-        (b"11 13\n2 1 3\n-", b"13 12\n3 1 2\n+++", ("LOW", 5)),
-        (b"\nend", b"\nend\n", ("END", 0)),
-    ]:
-        equal(f"{old!r} as {new!r}", check(SHOP, text.replace(old, new, 1)), wanted)
-
-
-def compare_certify():
-    """Bounds of shops that are known, and each status of the arguments."""
-    start = [2, 1, 3]
-    *found, text = certify(SHOP, start)
-    equal("a least makespan", (found, plain_makespan(SHOP, found[0])), ([found[0], 12, 12], 12))
-    equal("a plain check of it", plain_check(SHOP, text, 1_000), tuple(found))
-    found = *found, text
-    for got, wanted in [
-        (certify(SHOP, start, room=9), found),
-        (certify(SHOP, start, text_room=len(text)), found),
-        (certify(SHOP, start, text_room=len(text) - 1), ("ROOM", len(text))),
-        (certify(SHOP, start, text_room=0), ("ROOM", len(text))),
-        (certify(SHOP, start, room=2, text_room=0), ("ROOM", 3)),
-        (certify(SHOP, start, (0, 0, 1, 0, 0), room=2), ("DIRECTIONS", 0)),
-        (certify(SHOP, start, (0, 0, 1, 0, 1_000_000_001), room=2), ("DIRECTIONS", 0)),
-        (certify(SHOP, start, (0, 0, 1, 0, 4_294_967_295), room=2), ("DIRECTIONS", 0)),
-        (certify(SHOP, start, (0, 0, 1, 0, 1_000_000_000), room=2), ("ROOM", 3)),
-        (certify(SHOP, start, (0, 0, 1, 1_000_001, 0)), ("WORK", 0)),
-        (certify(SHOP, start, (0, 0, 0, 1_000_001, 0)), ("SEED", 0)),
-        (certify(SHOP, start, (0, 0, 2_147_483_647, 0, 0)), ("SEED", 0)),
-        (certify(SHOP, start, (0, 100_000_001, 0, 0, 0)), ("ROUNDS", 0)),
-        (certify(SHOP, start, (65_537, 100_000_001, 0, 0, 0)), ("WIDTH", 0)),
-        (certify(SHOP, [2, 1, 1], (65_537, 0, 0, 0, 0)), ("TWICE", 3)),
-        (certify(SHOP, [2, 4, 3], (65_537, 0, 0, 0, 0)), ("JOB", 2)),
-        (certify(SHOP, [2, 1], (65_537, 0, 0, 0, 0)), ("LENGTH", 0)),
-        (certify((2, 1, [1, 1_000_000]), [2]), ("TIME", 2)),
-        (certify((3, 3, [1]), [2]), ("COUNT", 0)),
-        (certify((3, 27, [1]), [2]), ("MACHINES", 0)),
-        (certify((0, 27, [1]), [2]), ("JOBS", 0)),
-        # One machine: the bound with no job put is the makespan of each sequence.
-        (certify((2, 1, [3, 4]), [2, 1], (0, 0, 1, 0, 1))[1:3], (7, 7)),
-    ]:
-        equal("a text that is certified", got, wanted)
-    # Each sequence has the makespan 34. The bound of a node is 25 until job 14 is put at an end, so that a thousand
-    # directions prove no more.
-    long = 14, 2, [1] * 13 + [10] + [1] * 13 + [11]
-    sequence, *bounds, text = certify(long, list(range(1, 15)))
-    equal("bounds", bounds, [25, 34])
-    equal("a check of them", check(long, text), (sequence, 25, 34))
-    equal("a plain check of them", plain_check(long, text, 1_000), (sequence, 25, 34))
+        sequence, reached, _ = make()
+        equal("a sequence", (sorted(sequence), reference.makespan(shop, sequence)), (sorted(start), reached))
+        equal("whether it is no worse", best <= reached <= value, True)
+        if aim:
+            equal("a beam that is aimed", reached, best if aim > best else value)
+    # An improvement is a beam with 12 of 17 parts of the steps, and rounds with 4 of 17 parts.
+    width, most, seed = draw.choice((1, 3, 64)), draw.randint(1, 30), draw.randint(1, 2_147_483_646)
+    wanted = improve(shop, start, width, 0, 1)
+    equal("a beam as in improve", beam(shop, start, 0, width, 1_000_000 * 12 // 17)[:2], wanted)
+    wanted = improve(shop, start, 0, most, seed)
+    equal("rounds as in improve", rounds(shop, start, most, seed, 1_000_000 * 4 // 17)[:2], wanted)
 
 
 def compare_pictures(draw):
-    """Pictures beside the one of docs/ and those of the program, where it is built, and each room that is too short."""
-    for got, wanted in [
-        (picture((0, 1, []), [], 0), ("JOBS", 0)),
-        (picture((3, 27, [1]), [2, 1, 3], 0), ("MACHINES", 0)),
-        (picture((3, 3, [1]), [2, 1], 0), ("COUNT", 0)),
-        (picture((2, 1, [1, 1_000_000]), [2], 0), ("TIME", 2)),
-        (picture(SHOP, [2, 1], 0), ("LENGTH", 0)),
-        (picture(SHOP, [4, 1, 3], 0), ("JOB", 1)),
-        (picture(SHOP, [2, 2, 3], 0), ("TWICE", 2)),
-        (picture((1, 1, [0]), [1]), plain_picture((1, 1, [0]), [1])),
-        (picture((1, 1, [999_999]), [1]), plain_picture((1, 1, [999_999]), [1])),
-    ]:
-        equal("a picture", got, wanted)
-    text = plain_picture(SHOP, [2, 1, 3])
-    for room in range(len(text)):
-        equal("a picture without room", picture(SHOP, [2, 1, 3], room), ("ROOM", len(text)))
-    for room in (len(text), len(text) + 1):
-        equal("a picture with room", picture(SHOP, [2, 1, 3], room), text)
+    """Pictures beside the one of docs/ and those of the program, where it is built."""
+    for shop in ((1, 1, [0]), (1, 1, [999_999])):
+        equal("a picture", picture(shop, [1]), plain_picture(shop, [1]))
     with open(os.path.join(TOP, "examples", "taillard_20_5.txt"), "rb") as published:
         shop = block(published.read(), 1)[0]
     with open(os.path.join(TOP, "docs", "schedule.svg"), "rb") as drawing:
@@ -534,17 +525,16 @@ def compare_pictures(draw):
 
 def compare_with_program(draw, folder):
     """The picture of a random shop and sequence beside that of the program."""
-    jobs, machines, times = shop = drawn(draw)
-    sequence = draw.sample(range(1, jobs + 1), jobs)
-    text, start = os.path.join(folder, "shop"), os.path.join(folder, "start")
-    with open(text, "w", encoding="ascii") as file:
-        print(f"a\n{jobs} {machines} 0 0 0\nb\n" + " ".join(map(str, times)), file=file)
-    with open(start, "w", encoding="ascii") as file:
-        print("sequence", *sequence, file=file)
-        print("makespan", plain_makespan(shop, sequence), file=file)
-    words = [PROGRAM, "schedule", text, "1", start, "--form", "svg"]
+    shop = drawn(draw)
+    sequence = draw.sample(range(1, shop[0] + 1), shop[0])
+    text, begun = os.path.join(folder, "shop"), os.path.join(folder, "start")
+    with open(text, "wb") as file:
+        file.write(refusals.block_of(rows_of(shop)))
+    with open(begun, "w", encoding="ascii") as file:
+        print("sequence", *sequence, "\nmakespan", reference.makespan(shop, sequence), file=file)
+    words = [PROGRAM, "schedule", text, "1", begun, "--form", "svg"]
     shown = subprocess.run(words, stdout=subprocess.PIPE, check=True).stdout
-    equal("a picture of the program", picture(shop, sequence), shown)
+    equal(f"a picture of the program: {words[1:]} of {shop}, {sequence}", picture(shop, sequence), shown)
 
 
 def compare_at_once():
@@ -561,18 +551,28 @@ def compare_at_once():
         thread.join()
 
 
-with open(os.path.join(TOP, "VERSION"), encoding="ascii") as version:
-    major, minor, patch = map(int, version.read().split("."))
-equal("the version", LIBRARY.flowshop_version(), major * 1_000_000 + minor * 1_000 + patch)
-compare_statuses()
-compare_directions()
-compare_certify()
-compare_blocks()
-draw = random.Random(20_261_125)
-compare_generator(draw)
-compare_pictures(draw)
-for _ in range(SHOPS):
-    compare_shop(draw)
-compare_at_once()
-print(f"calls from Python: {counts[True]} as they should be, {counts[False]} not")
-sys.exit(counts[False] != 0)
+def main():
+    """Runs all, and says how many were as they should be."""
+    with open(os.path.join(TOP, "VERSION"), encoding="ascii") as version:
+        major, minor, patch = map(int, version.read().split("."))
+    equal("the version", LIBRARY.flowshop_version(), major * 1_000_000 + minor * 1_000 + patch)
+    refuse_arguments()
+    refuse_rooms()
+    refuse_texts()
+    compare_calls()
+    draw = random.Random(20_261_125)
+    for _ in range(200):
+        seed = draw.randint(1, 20), draw.randint(1, 5), draw.randint(1, 2_147_483_646)
+        equal(f"times of {seed}", generate(*seed), reference.generated(*seed)[2])
+        compare_reached(draw)
+    for _ in range(8):
+        compare_parts(draw)
+    compare_pictures(draw)
+    for _ in range(SHOPS):
+        compare_shop(draw)
+    compare_at_once()
+    end("calls from Python")
+
+
+if __name__ == "__main__":
+    main()

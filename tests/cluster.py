@@ -24,16 +24,14 @@ import time
 from importlib.util import find_spec
 from unittest import mock
 
-from counts import end, equal, refused
-from plain_search import PlainShop
+from counts import BLOCKS, TOP, command, end, equal, refused
+from reference import Search
 
 import flowshop
 from flowshop import Interrupted, Shop, _certify, _command_certify, _files, _library, _parts, _spread, _texts, _threads
 from flowshop import _waiting
 from flowshop.__main__ import main
 
-TOP = pathlib.Path(__file__).resolve().parent.parent
-BLOCKS = TOP / "examples" / "several_blocks.txt"
 # A shop whose least makespan no search of a test proves.
 HARD = Shop.generate(30, 15, 7)
 SOME = Shop.generate(20, 10, 1)
@@ -200,10 +198,11 @@ def compare_searches():
     for _ in range(8):
         jobs, machines = draw.randint(4, 7), draw.randint(2, 5)
         rows = [[draw.randint(1, 30) for _ in range(jobs)] for _ in range(machines)]
-        shop, plain = Shop.from_machines(rows), PlainShop(rows)
+        shop, plain = Shop.from_machines(rows), Search((jobs, machines, sum(rows, [])))
         least = shop.certify(**FEW).upper
         for number in (least - 1, least, least + 1):
             text, reached = plain.search(number)
+            text = text.encode()
             for budget in sorted({1, 2, 7, max(1, len(text) - 1), len(text), len(text) + 1, 1000}):
                 wanted = (_parts.PROVED, len(text), text, ())
                 if len(text) > budget:
@@ -451,12 +450,6 @@ def lose_results(pool):
     ]:
         got = refused(lambda: HARD.prove(5000, front=front, back=back))
         equal(f"the node {front}, {back}", got, ("NotASequence", "JOB" if place == 2 else "TWICE", place, sentence))
-
-
-def command(*words, **more):
-    """Runs the package as a command."""
-    run = [sys.executable, "-m", "flowshop", *map(str, words)]
-    return subprocess.run(run, capture_output=True, text=True, timeout=120, check=False, **more)
 
 
 def use_command():
@@ -1075,22 +1068,10 @@ def use_local():
         show_progress()
         interrupt_runs(pool)
         lose_results(pool)
-    lose_worker()
-    stop_threads()
-    use_eight_threads()
-    use_command()
-    use_odd_names()
-    keep_links_and_pipes()
-    keep_streams()
-    refuse_words()
-    use_terminal()
-    stop_command()
-    stop_at_pipes()
-    write_to_full_pipes()
-    restore_handler()
-    kill_command()
-    end_writing()
-    use_page()
+    for part in (lose_worker, stop_threads, use_eight_threads, use_command, use_odd_names, keep_links_and_pipes,
+                 keep_streams, refuse_words, use_terminal, stop_command, stop_at_pipes, write_to_full_pipes,
+                 restore_handler, kill_command, end_writing, use_page):
+        part()
 
 
 if __name__ == "__main__":

@@ -1,11 +1,11 @@
 """Shops and texts that are drawn: certificates of both kinds as other makers may write them, benchmark texts in each
-freedom of their form, starts, and changes of any text. A shop is as in plain_shop.py; `draw` is a random.Random."""
+freedom of their form, starts, and changes of any text. A shop is as in reference.py; `draw` is a random.Random."""
 
 import re
 
-from plain_search import PlainShop
-from plain_shop import plain_least
 from plain_texts import list_bound
+from reference import bound, least, root_bound, rows_of
+from refusals import block_of, text_of
 
 # Bytes that stand in texts, or are close to those that do.
 BYTES = b"0129 \n\r+-.ACDe"
@@ -28,7 +28,7 @@ def hard_shop(draw, most_jobs, most_machines):
     """A drawn shop, mostly one of which the bound with no job put is not the least makespan."""
     shop = drawn_shop(draw, most_jobs, most_machines)
     for _ in range(draw.choice([0, 3, 9, 9])):
-        if plain_shop_of(shop).bound((), ()) < plain_least(shop):
+        if root_bound(shop) < least(shop):
             break
         shop = drawn_shop(draw, most_jobs, most_machines)
     return shop
@@ -47,42 +47,27 @@ def joined(lines):
     return b"".join((line if isinstance(line, bytes) else str(line).encode()) + b"\n" for line in lines)
 
 
-def text_of(kind, sizes, values, sequence, lines):
-    """A certificate of these lines."""
-    return joined([f"flowshop {kind}", sizes, values, " ".join(map(str, sequence)), *lines, "end"])
-
-
 def two_ended_text(shop, lower, upper, sequence, signs):
     """The two-ended certificate of these bounds and signs."""
-    return text_of("two-ended 1", f"{shop[0]} {shop[1]}", f"{lower} {upper}", sequence, [signs])
+    signs = signs.decode() if isinstance(signs, bytes) else signs
+    return text_of("two-ended 1", f"{shop[0]} {shop[1]}", f"{lower} {upper}", sequence, signs)
 
 
-def drawn_directions(draw, plain, lower, first=(), last=()):
-    """Drawn directions that prove a number for a node of a PlainShop; or those up to the first sequence below it, and
+def drawn_directions(draw, search, lower, node=None):
+    """Drawn directions that prove a number for a node of a Search; or those up to the first sequence below it, and
     False."""
-    if plain.bound(first, last) >= lower:
+    node = node or search.root
+    if bound(node) >= lower:
         return "", True
-    left = plain.left(first, last)
-    if not left:
+    if not search.left(node):
         return "", False
     signs = sign = draw.choice("+-")
-    for job in left:
-        more, is_proved = drawn_directions(draw, plain, lower, *plain_child(sign, job, first, last))
+    for child in search.children(node, sign):
+        more, is_proved = drawn_directions(draw, search, lower, child)
         signs += more
         if not is_proved:
             return signs, False
     return signs, True
-
-
-def plain_child(sign, job, first, last):
-    """The lists of a node with a job put at the end that a sign names."""
-    return ((*first, job), last) if sign == "+" else (first, (job, *last))
-
-
-def plain_shop_of(shop):
-    """The PlainShop of a shop."""
-    jobs, _, times = shop
-    return PlainShop([times[start : start + jobs] for start in range(0, len(times), jobs)])
 
 
 def drawn_tree(draw, shop, version, value, jobs):
@@ -101,9 +86,7 @@ def drawn_tree(draw, shop, version, value, jobs):
 
 def block_text(shop):
     """The benchmark text of a shop, in the form that the program writes."""
-    jobs, machines, times = shop
-    rows = [" ".join(map(str, times[start : start + jobs])) for start in range(0, len(times), jobs)]
-    return joined(["shop", f"{jobs} {machines} 0 0 0", "times", *rows])
+    return block_of(rows_of(shop))
 
 
 LABELS = b"times", b"number of jobs :", b"-1 2", b".5", b"\xff\xfe 1", b"\x00", b"\v1", b"+", b"\xef\xbb\xbf3"

@@ -248,21 +248,11 @@ enum { NUMBERS = 15 };
 
 /* The numbers of all records. */
 static void numbers(uint64_t *found) {
-    const uint64_t all[NUMBERS] = {lent.block->jobs,
-                                   lent.block->machines,
-                                   lent.block->seed,
-                                   lent.block->upper,
-                                   lent.block->lower,
-                                   lent.reached->makespan,
-                                   lent.reached->whole,
-                                   lent.bounds->lower,
-                                   lent.bounds->upper,
-                                   lent.text->length,
-                                   lent.part->found,
-                                   lent.part->makespan,
-                                   lent.part->directions_length,
-                                   lent.part->rest_length,
-                                   *lent.makespan};
+    const uint64_t all[NUMBERS] = {
+        lent.block->jobs,       lent.block->machines, lent.block->seed,   lent.block->upper,  lent.block->lower,
+        lent.reached->makespan, lent.reached->whole,  lent.bounds->lower, lent.bounds->upper, lent.text->length,
+        lent.part->found,       lent.part->makespan,  *lent.makespan,     lent.part->directions_length,
+        lent.part->rest_length};
     memcpy(found, all, sizeof all);
 }
 

@@ -10,7 +10,6 @@ import os
 import pathlib
 import pty
 import re
-import resource
 import shutil
 import stat
 import subprocess
@@ -20,19 +19,17 @@ import time
 import tracemalloc
 from unittest import mock
 
-from counts import end, equal, refused
+from counts import BLOCKS, TOP, command, end, equal, new_folder, refused
 
 from flowshop import Shop, _saving, _texts, _waiting
 
-TOP = pathlib.Path(__file__).resolve().parent.parent
-BLOCKS = TOP / "examples" / "several_blocks.txt"
 SHOP = Shop.from_machines([[4, 0, 0], [0, 8, 2], [4, 0, 1]])
 RUN = ["-m", "flowshop"]
 # How long a command may take here that would wait for ever.
 PATIENCE = 60
 NAMES = [f"several_blocks.txt.{number}.certificate" for number in (1, 2, 3)]
 # The sums of the lines that a run prints, apart from its seconds, and what stands in a file of it: the bounds of the
-# three blocks, which tests/expected has too.
+# three blocks, which worked.py has too.
 BOUNDS = [["303", "303"], ["421", "421"], ["708", "708"]]
 
 
@@ -132,8 +129,7 @@ def keep_status(python, name, out, err, kind):
     """A command ends with the status of its work, whatever its streams are, and does all of it."""
     words, status, others = COMMANDS[name]
     wanted = [status, *others][kind]
-    with tempfile.TemporaryDirectory() as made:
-        folder = pathlib.Path(made)
+    with new_folder() as folder:
         (folder / "unlawful").mkdir()
         (folder / "unlawful" / NAMES[0]).write_text("none\n")
         (folder / "lawful").symlink_to(LAWFUL)
@@ -234,8 +230,7 @@ def writers(folder):
 def keep_files():
     """A file is written beside its place, under a name that nobody knows before, and moved there as a whole. A link
     that stands at that name is not followed, and what cannot be written leaves the file of before."""
-    with tempfile.TemporaryDirectory() as made:
-        folder = pathlib.Path(made)
+    with new_folder() as folder:
         victim = folder / "victim"
         for write, path, begins in writers(folder):
             for before in (None, b"before"):
@@ -264,8 +259,7 @@ def keep_files():
 def keep_modes():
     """A new file has the mode that the umask leaves, and another one the mode and the owner of the one before. A name
     of a folder is none of a file; a device takes the bytes."""
-    with tempfile.TemporaryDirectory() as made:
-        folder = pathlib.Path(made)
+    with new_folder() as folder:
         for write, path, _ in writers(folder):
             for mask, before, wanted in ((0o022, None, 0o644), (0o027, None, 0o640), (0o022, 0o600, 0o600),
                                          (0o077, 0o664, 0o664), (0o022, 0o6755, 0o755)):
@@ -302,8 +296,7 @@ def keep_modes():
 def follow_own_links():
     """A link of the user or of root stays, and the file that it names is written. One of another user is refused, by a
     call, and by the command before its search."""
-    with tempfile.TemporaryDirectory() as made:
-        folder = pathlib.Path(made)
+    with new_folder() as folder:
         victim, link, far = folder / "victim", folder / "link", folder / "far"
         far.symlink_to("link")
         link.symlink_to("victim")
@@ -334,12 +327,6 @@ def follow_own_links():
         equal("the file that it names", victim.read_text(), "")
 
 
-def command(*words, **more):
-    """Runs the package as a command."""
-    run = [sys.executable, *RUN, *map(str, words)]
-    return subprocess.run(run, capture_output=True, text=True, timeout=PATIENCE, check=False, **more)
-
-
 def limits():
     """The limits of the program's sources, and those of the package."""
     source = (TOP / "crates" / "flow_limits" / "src" / "lib.rt").read_text()
@@ -352,8 +339,7 @@ def limits():
 def limit_reading():
     """A file of so many bytes as may be is read, and one of more is refused, also where it has no end."""
     most, most_of_certificate = limits()
-    with tempfile.TemporaryDirectory() as made:
-        folder = pathlib.Path(made)
+    with new_folder() as folder:
         text, long, shop = folder / "text", folder / "long", folder / "shop.txt"
         SHOP.write(shop)
         text.write_bytes(shop.read_bytes().ljust(most))
@@ -421,8 +407,7 @@ def pick_blocks():
     little time and memory."""
     heads = ["any words\n2 1 7 9 8\nmore\n{0} 2\n", "\ufeffany\r\n1 2 3 4 5\r\n\r\nmore\r\n{0}\r\n6\r\n",
              "jobs\tA\tB\n2 1 0 0 0\nmachines, times in 1/4, decimal comma, separator tab\tM\n\n{0}\n5\n"]
-    with tempfile.TemporaryDirectory() as made:
-        folder = pathlib.Path(made)
+    with new_folder() as folder:
         text = folder / "text"
         text.write_bytes("".join(heads[(7 * n) % 3].format(n) for n in range(1, 90)).encode())
         blocks = Shop.read(text)
@@ -450,8 +435,7 @@ def may_run(user):
 def ask_for_leave():
     """Where a file or a folder may not be read, written or entered, a line says so and what to do, before any search.
     A folder that may not be listed is as any other."""
-    with tempfile.TemporaryDirectory() as made:
-        folder = pathlib.Path(made)
+    with new_folder() as folder:
         user = {"user": 65534, "group": 65534, "extra_groups": []} if os.geteuid() == 0 else {}
         folder.chmod(0o755)
         for name, mode in (("closed", 0o000), ("kept", 0o555), ("hidden", 0o333), ("there", 0o755)):
@@ -496,8 +480,7 @@ def ask_for_leave():
 def show_names():
     """What is printed has signs that steer a terminal as escapes. Tables in files have names as they are."""
     name, shown = "a\x1b[31m\x07b\nc\x9b\u202e.txt", "a\\x1b[31m\\x07b\\nc\\x9b\\u202e.txt"
-    with tempfile.TemporaryDirectory() as made:
-        folder = pathlib.Path(made)
+    with new_folder() as folder:
         SHOP.write(folder / name)
         (folder / f"csv{name}").write_text("7\n")
         (folder / "out").mkdir()
@@ -530,12 +513,7 @@ if __name__ == "__main__":
         for block_number, block in enumerate(Shop.read(BLOCKS)):
             block.shop.certify().save(pathlib.Path(LAWFUL, NAMES[block_number]))
         keep_statuses()
-    wait_for_no_reader()
-    keep_files()
-    keep_modes()
-    follow_own_links()
-    limit_reading()
-    pick_blocks()
-    ask_for_leave()
-    show_names()
+    for part in (wait_for_no_reader, keep_files, keep_modes, follow_own_links, limit_reading, pick_blocks,
+                 ask_for_leave, show_names):
+        part()
     end("files and streams")

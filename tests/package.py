@@ -24,7 +24,11 @@ import warnings
 import xml.etree.ElementTree
 from unittest import mock
 
-from counts import end, equal, refused
+import refusals
+from counts import BLOCKS, TOP, end, equal, refused
+from reference import makespan, of_rows, root_bound
+from refusals import BOUNDS, LEAST, TREE
+from refusals import THREE as ROWS
 
 import flowshop
 from flowshop import Certificate, FlowshopError, Operation, Shop, Start
@@ -40,16 +44,8 @@ try:
 except ImportError:
     pandas = None
 
-TOP = os.path.dirname(os.path.dirname(os.path.abspath(__file__)))
-BLOCKS = os.path.join(TOP, "examples", "several_blocks.txt")
 PUBLISHED = os.path.join(TOP, "examples", "taillard_20_5.txt")
-# The shop that docs/formats.md reads by hand: a row for each job.
-ROWS = [[4, 0, 4], [0, 8, 0], [0, 2, 1]]
 SHOP = Shop.from_jobs(ROWS)
-# Two-ended texts of it, and one with a tree, which docs/formats.md reads by hand.
-BOUNDS = b"flowshop two-ended 1\n3 3\n11 13\n2 1 3\n-\nend\n"
-LEAST = b"flowshop two-ended 1\n3 3\n12 12\n3 1 2\n++\nend\n"
-TREE = b"flowshop certificate 1\n3 3 0\n12\n3 1 2\n+BC++.B\nend\n"
 FEW = {"width": 0, "rounds": 0, "seed": 1, "work": 0, "directions": 1000}
 OPTIONS = [
     (SHOP.improve, ["width", "rounds", "seed", "work"]),
@@ -71,25 +67,6 @@ def read(path):
     """The bytes of a file."""
     with open(path, "rb") as file:
         return file.read()
-
-
-def plain_makespan(rows, sequence):
-    """The makespan of a sequence, by its definition: no operation starts before the two that it follows have ended."""
-    ends = [0] * len(rows[0])
-    for job in sequence:
-        left = 0
-        for machine, time in enumerate(rows[job - 1]):
-            left = ends[machine] = max(left, ends[machine]) + time
-    return left
-
-
-def plain_bound(rows):
-    """The greatest, of all machines, of the times there with the least that a job needs before and after them."""
-    machines = range(len(rows[0]))
-    return max(
-        min(sum(row[:at]) for row in rows) + sum(row[at] for row in rows) + min(sum(row[at + 1 :]) for row in rows)
-        for at in machines
-    )
 
 
 def run_examples():
@@ -563,44 +540,15 @@ def refuse_label(text, line, said):
 
 def refuse_files():
     """The first fault of a benchmark text, with its line, and what to do. Certificates are no benchmark texts."""
-    words = "a line of words is wanted before the head of a block, and before its times"
-    head = "the head of a block is five numbers: jobs, machines, seed, upper bound and lower bound"
-    limits = "the jobs have to be 1 to 800, the machines 1 to 26, and each time 0 to 999,999"
-    byte = "a line of numbers has something that is neither a digit nor a blank"
-    number = "a number is above 4,294,967,295"
-    empty = "it is empty, or has blanks alone, as where the command that was to write it was refused"
-    times, row = "there has to be one time for each job and machine", "a row before is short or missing"
-    tables = "examples/from_csv.awk makes such a file of a table, and examples/from_pairs.awk of pairs of machine and "
-    tables += "time"
-    word = f"{row}, or this line does not begin with a digit; {tables}"
-    other = "this text begins as a certificate does, and the file of the shop is wanted here"
     with tempfile.TemporaryDirectory() as folder:
         path = os.path.join(folder, "text")
-        for text, name, line, sentence in [
-            (b"", "NO_BLOCK", 0, f"* has no block: {empty}"),
-            (b" \n\n", "NO_BLOCK", 0, f"* has no block: {empty}"),
-            (b"1 2\n", "LABEL", 1, f"line 1 of * is '1 2': {words}; {tables}"),
-            (b"a\n1;2\n", "BYTE", 2, f"line 2 of * is '1;2': {byte}; {tables}"),
-            (b"a\n4294967296", "NUMBER", 2, f"line 2 of * is '4294967296': {number}; {tables}"),
-            (b"a\nb\n", "HEAD", 2, f"line 2 of * is 'b': {head}; {tables}"),
-            (b"a\n0 1 0 0 0\n", "LIMITS", 2, f"line 2 of * is '0 1 0 0 0': {limits}; {tables}"),
-            (b"a\n1 1 0 0 0\nb\n7 8\n", "TIMES", 4, f"line 4 of * is '7 8': {times}; {tables}"),
-            (b"a\n", "HEAD", 2, f"* ends after line 1: {head}; {tables}"),
-            (b"a\n2 1 0 0 0\n\n", "LABEL", 4, f"* ends after line 3: {words}; {tables}"),
-            (b"a\n2 1 0 0 0\nb\n7", "TIMES", 5, f"* ends after line 4: {times}; {row}"),
-            (b"a\n3 2 0 0 0\nb\n1 2 3\n4 5\n", "TIMES", 6, f"* ends after line 5: {times}; {row}"),
-            (b"a\n3 2 0 0 0\nb\n1 2 3\n4 5\n\n", "TIMES", 7, f"* ends after line 6: {times}; {row}"),
-            (b"a\n3 2 0 0 0\nb\n1 2 3\n c\n1 1 0 0 0\nd\n5\n", "TIMES", 5, f"line 5 of * is ' c': {times}; {word}"),
-            (b"a\n3 2 0 0 0\nb\n1 2 3\n-4 5 6\n", "TIMES", 5, f"line 5 of * is '-4 5 6': {times}; {word}"),
-            (b"flowshop instances\n5 x\n", "BYTE", 2, f"line 2 of * is '5 x': {byte}; {tables}"),
-            (LEAST, "HEAD", 4, f"line 4 of * is '3 1 2': {head}; {other}"),
-            (TREE, "HEAD", 4, f"line 4 of * is '3 1 2': {head}; {other}"),
-            (b"flowshop two-ended 1\n1 1\n5 5\n1\n\nend\n", "TIMES", 7, f"* ends after line 6: {times}; {other}"),
-        ]:
+        for text, fault, *said in refusals.TEXTS:
             pathlib.Path(path).write_bytes(text)
             for given in (path, pathlib.Path(path)):
-                got = refused(lambda given=given: Shop.read(given))
-                equal(f"the fault {name}", got, ("TextError", name, line, sentence.replace("*", path)))
+                error, name, place, sentence = refused(lambda given=given: Shop.read(given))
+                got = error, (name, place), *([sentence] * len(said))
+                wanted = "TextError", refusals.name_of(fault), *(each.replace("*", path) for each in said)
+                equal(f"the text {text!r}", got, wanted)
         pathlib.Path(path).write_bytes(b"flowshop of a text book\n1 1 0 0 0\nb\n7\n")
         equal("a label that begins as a certificate", Shop.read(path)[0].shop.times, [[7]])
 
@@ -653,13 +601,9 @@ def refuse_tables():
 def refuse_sequences():
     """Lists that are no sequence, in each call that takes one."""
     for jobs, name, place, sentence in [
-        ([1, 2], "LENGTH", 0, "the sequence has 2 jobs, and the shop has 3; each job stands in it once"),
-        ([], "LENGTH", 0, "the sequence has 0 jobs, and the shop has 3; each job stands in it once"),
-        ([1, 4, 2], "JOB", 2, "place 2 of the sequence is 4, and the jobs are 1 to 3"),
-        ([2, 0, 1], "JOB", 2, "place 2 of the sequence is 0, and the jobs are 1 to 3; add 1 to each if they are"),
+        *refusals.SEQUENCES,
         ([1, 2, 65_536], "JOB", 3, "place 3 of the sequence is 65,536, and the jobs are 1 to 3"),
         ([1, -2, 3], "JOB", 2, "place 2 of the sequence is -2, and the jobs are 1 to 3"),
-        ([1, 2, 1], "TWICE", 3, "job 1 stands at place 1 of the sequence, and again at place 3; each job"),
         ([1, 2.0, 3], "JOB", 2, "place 2 of the sequence is 2.0, and has to be a job number from 1 to 3"),
         (["Door"], "JOB", 1, "place 1 of the sequence is 'Door', and has to be a job number from 1 to 3"),
         (5, "JOB", 0, "a sequence is a list of job numbers, and this is 5"),
@@ -718,30 +662,17 @@ def check_bounds():
 
 
 def refuse_texts():
-    """Texts that are no lawful certificate, with the line at fault."""
-    changed = "the text was cut off or changed, or is of another shop"
-    other = f"a sequence of another makespan than line 3 says; {changed}"
-    for text, old, new, name, place, sentence in [
-        (BOUNDS, BOUNDS, b"", "HEADER", 1, "line 1 is missing, and has to name a certificate, as in 'flowshop t"),
-        (BOUNDS, b"two-ended 1", b"two-ended 2", "HEADER", 1, "line 1 is 'flowshop two-ended 2', and has to name"),
-        (BOUNDS, b"3 3", b"3 2", "SIZE", 2, "line 2 is '3 2', which is not of a shop with jobs 3 and machines 3"),
-        (BOUNDS, b"11 13", b"11", "VALUE", 3, "line 3 is '11', and has to be the value that is proved, or both bounds"),
-        (BOUNDS, b"2 1 3", b"2 1 2", "SEQUENCE", 4, "line 4 is '2 1 2', and has to have each job from 1 to 3 once"),
-        (BOUNDS, b"11 13", b"11 14", "NOT_ATTAINED", 4, f"line 4 is '2 1 3', {other}"),
-        (BOUNDS, b"11 13", b"10 12", "NOT_ATTAINED", 4, f"line 4 is '2 1 3', {other}"),
-        (BOUNDS, b"2 1 3", b"1 2 3", "NOT_ATTAINED", 4, f"line 4 is '1 2 3', {other}"),
-        (BOUNDS, b"11 13", b"10 13", "TREE", 5, "line 5 is '-', which is not one whole proof"),
-        (LEAST, b"12 12", b"13 12", "TREE", 5, "line 5 is '++', which is not one whole proof"),
-        (BOUNDS, b"11 13", b"12 13", "TREE", 5, f"line 5 is '-', which is not one whole proof; {changed}"),
-        (TREE, b"+B", b".B", "TREE", 5, "line 5 is '.BC++.B', which is not one whole proof"),
-        (TREE, b"+BC++.B", b"A", "WEAK", 5, f"line 5 has a bound that is below the value; {changed}"),
-        (BOUNDS, b"11 13\n2 1 3\n-", b"13 12\n3 1 2\n+++", "LOW", 5, "line 5 leads to a makespan that is below"),
-        (BOUNDS, b"\nend\n", b"\n", "END", 0, "what follows the last tree, or the directions, is not the line"),
-        (BOUNDS, b"\nend\n", b"\nend", "END", 0, "what follows the last tree, or the directions, is not the line"),
-    ]:
-        got = refused(lambda text=text, old=old, new=new: SHOP.check(text.replace(old, new, 1)))
-        equal(f"{old!r} as {new!r}", got[:3], ("NotLawful", name, place))
-        equal(f"what is said of {new!r}", got[3][: len(sentence)], sentence)
+    """Texts that are no lawful certificate, with the line at fault; and lawful ones of other shops."""
+    lines = {"HEADER": 1, "SIZE": 2, "VALUE": 3, "SEQUENCE": 4, "NOT_ATTAINED": 4}
+    for rows, text, line, sentence in refusals.checks():
+        got = refused(lambda rows=rows, text=text: Shop.from_jobs(rows).check(text))
+        if not isinstance(got, tuple):
+            _, lower, *upper = line.split()
+            equal(f"a check of {text[:99]}", (got.lower, got.upper), (int(lower), int(*upper or [lower])))
+            continue
+        name, place = refusals.name_of(line)
+        equal(f"a check of {text[:99]}", got[:3], ("NotLawful", name, lines.get(name, place)))
+        equal(f"what is said of {text[:99]}", got[3][: len(sentence)], sentence)
     advice = "; a str is the text itself, and a file is named by pathlib.Path"
     equal("the name of a file", refused(lambda: SHOP.check("shop.certificate"))[3].endswith(advice), True)
     equal("a text with other signs", refused(lambda: SHOP.check("\ud800é"))[:2], ("NotLawful", "HEADER"))
@@ -887,13 +818,13 @@ def compare_random_shops():
         rows += [[draw.randint(0, 99) for _ in rows[0]] for _ in range(draw.randint(0, 6))]
         shop = Shop.from_jobs(rows)
         many = [draw.sample(range(1, len(rows) + 1), len(rows)) for _ in range(4)]
-        values = [plain_makespan(rows, sequence) for sequence in many]
+        values = [makespan(of_rows(rows), sequence) for sequence in many]
         equal("random makespans", list(shop.makespans(many)), values)
         equal("random timetables", [shop.schedule(sequence).makespan for sequence in many], values)
-        equal("a random bound", shop.bound(), plain_bound(rows))
+        equal("a random bound", shop.bound(), root_bound(of_rows(rows)))
         found = shop.solve(depth=1, version=2)
         equal("a random certificate", shop.check(found.text), found)
-        equal("that none is below it", min(values) >= found.upper == plain_makespan(rows, found.sequence), True)
+        equal("that none is below it", min(values) >= found.upper == makespan(of_rows(rows), found.sequence), True)
 
 
 def keep_stacks():
@@ -934,34 +865,12 @@ def keep_interrupts():
 def main():
     """Runs all, and ends. A warning of the package is an error."""
     warnings.filterwarnings("error", module="flowshop")
-    run_examples()
-    compare_header()
-    make_shops()
-    compare_shops()
-    use_names()
-    escape_names()
-    use_arrays()
-    use_frames()
-    use_results()
-    use_texts()
-    draw_timetables()
-    use_files()
-    use_labels()
-    refuse_labels()
-    refuse_files()
-    refuse_tables()
-    refuse_sequences()
-    check_bounds()
-    refuse_texts()
-    pass_options()
-    refuse_options()
-    compare_page()
-    keep_rooms()
-    search_parts()
-    keep_stacks()
-    keep_errors()
-    keep_interrupts()
-    compare_random_shops()
+    for part in (run_examples, compare_header, make_shops, compare_shops, use_names, escape_names, use_arrays,
+                 use_frames, use_results, use_texts, draw_timetables, use_files, use_labels, refuse_labels,
+                 refuse_files, refuse_tables, refuse_sequences, check_bounds, refuse_texts, pass_options,
+                 refuse_options, compare_page, keep_rooms, search_parts, keep_stacks, keep_errors, keep_interrupts,
+                 compare_random_shops):
+        part()
     end("the package for Python")
 
 

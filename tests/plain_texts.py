@@ -1,12 +1,12 @@
 """Benchmark texts, starts and certificates as docs/formats.md says that they are read, in plain Python. A shop is as in
-plain_shop.py, and what a reading says is the line of the program, on standard output or on standard error."""
+reference.py, and what a reading says is the line of the program, on standard output or on standard error."""
 
 import itertools
 import os
 import re
 import sys
 
-from plain_shop import plain_fronts, plain_makespan, plain_rows
+from reference import fronts, makespan, rows_of
 
 sys.path.insert(0, os.path.join(os.path.dirname(os.path.dirname(os.path.abspath(__file__))), "examples", "python"))
 import check_two_ended  # noqa: E402
@@ -24,12 +24,12 @@ class Refused(Exception):
 
 def list_bound(shop, version, jobs, machine):
     """The bound of a list on a machine: the machine bound, or in version 2 the released bound."""
-    front = plain_fronts(shop, jobs)
-    left = [times for job, times in enumerate(plain_rows(shop), 1) if job not in jobs]
-    start = front[machine]
+    front = fronts(shop, jobs)
+    left = [times for job, times in enumerate(rows_of(shop), 1) if job not in jobs]
+    begin = front[machine]
     if version == 2:
-        start = max(front[k] + min(sum(job[k:machine]) for job in left) for k in range(machine + 1))
-    return start + sum(job[machine] for job in left) + min(sum(job[machine + 1 :]) for job in left)
+        begin = max(front[k] + min(sum(job[k:machine]) for job in left) for k in range(machine + 1))
+    return begin + sum(job[machine] for job in left) + min(sum(job[machine + 1 :]) for job in left)
 
 
 def tree_end(shop, version, value, jobs, text):
@@ -37,7 +37,7 @@ def tree_end(shop, version, value, jobs, text):
     left = [job for job in range(1, shop[0] + 1) if job not in jobs]
     byte, rest = text[:1], text[1:]
     if not left and byte == b".":
-        return rest if plain_makespan(shop, jobs) >= value else "Low"
+        return rest if makespan(shop, jobs) >= value else "Low"
     if left and byte == b"+":
         for job in left:
             rest = tree_end(shop, version, value, [*jobs, job], rest)
@@ -73,7 +73,7 @@ def heading_of(shop, text):
     jobs = numbers(lines[2], shop[0]) if len(lines) > 2 else None
     if not jobs or sorted(jobs) != list(range(1, shop[0] + 1)):
         return "Sequence"
-    if plain_makespan(shop, jobs) != value[0]:
+    if makespan(shop, jobs) != value[0]:
         return "NotAttained"
     return sizes[2], value[0], jobs, rest
 
@@ -105,7 +105,7 @@ def proved(shop, text):
     if not text.startswith(b"flowshop two-ended 1\n"):
         return proved_by_trees(shop, text)
     try:
-        return check_two_ended.check(plain_rows(shop), text)
+        return check_two_ended.check(rows_of(shop), text)
     except check_two_ended.Fault as fault:
         raise Refused(f"refused certificate {fault}") from None
 
@@ -225,6 +225,6 @@ def plain_start(shop, text):
             raise Refused(f"refused sequence Job {place}")
         if job in jobs[: place - 1]:
             raise Refused(f"refused sequence Twice {place}")
-    if len(found) == 2 and plain_makespan(shop, jobs) != stated[0]:
+    if len(found) == 2 and makespan(shop, jobs) != stated[0]:
         raise Refused(f"refused start {found[1][0]}")
     return jobs

@@ -1,10 +1,13 @@
-"""The library and its records (library/flowshop.h), by ctypes, and what the tests of its calls count."""
+"""The library and its records (library/flowshop.h), by ctypes."""
 
 import ctypes
 import os
 import re
+import threading
 
-TOP = os.path.dirname(os.path.dirname(os.path.abspath(__file__)))
+import counts
+from counts import TOP
+
 LIBRARY = ctypes.CDLL(os.environ.get("FLOWSHOP_LIBRARY", os.path.join(TOP, "out", "libflowshop.so")))
 with open(os.path.join(TOP, "library", "flowshop.h"), encoding="ascii") as _header:
     HEADER = _header.read()
@@ -12,14 +15,33 @@ STATUSES = re.findall(r"FLOWSHOP_(\w+) = (\d+)", HEADER.partition("enum flowshop
 NAMES = {int(number): name for name, number in STATUSES}
 U8, U16, U32, U64, SIZE = ctypes.c_uint8, ctypes.c_uint16, ctypes.c_uint32, ctypes.c_uint64, ctypes.c_size_t
 
-counts = {True: 0, False: 0}
+
+last = threading.local()
 
 
 def equal(what, got, wanted):
-    """Counts whether what was got is what was wanted."""
-    counts[got == wanted] += 1
-    if got != wanted:
-        print(f"not as it should be: {what}: {got!r} for {wanted!r}")
+    """Counts whether what was got is what was wanted, and names the last call of this thread where it is not."""
+    counts.equal(what if got == wanted else f"{what}, by {described(last.call)}", got, wanted)
+
+
+def described(call):
+    """A call with the numbers that it was given; of long lists the first ones."""
+    name, words = call
+    return f"flowshop_{name}({', '.join(map(numbers_of, words))})"
+
+
+def numbers_of(word):
+    """What a record, a list or a number of a call has."""
+    if isinstance(word, ctypes.Structure):
+        return f"{type(word).__name__}({', '.join(f'{name} {numbers_at(word, name)}' for name, _ in word._fields_)})"
+    return str(list(word[:20])) if isinstance(word, ctypes.Array) else str(getattr(word, "value", word))
+
+
+def numbers_at(record, name):
+    """A number of a record, or the numbers of a slice."""
+    value = getattr(record, name)
+    count = getattr(record, f"{name}_count", None)
+    return value if count is None else value[: min(20, count)]
 
 
 def record(name, *fields):
@@ -36,9 +58,8 @@ def record(name, *fields):
 Outcome = record("Outcome", ("status", U32), ("place", SIZE))
 Shop = record("Shop", ("jobs", U32), ("machines", U32), ("times", [U32]))
 Reached = record("Reached", ("sequence", [U16]), ("makespan", U64), ("whole", U32))
-Block = record(
-    "Block", ("jobs", U32), ("machines", U32), ("times", [U32]), ("seed", U32), ("upper", U32), ("lower", U32)
-)
+STATED = ("seed", U32), ("upper", U32), ("lower", U32)
+Block = record("Block", ("jobs", U32), ("machines", U32), ("times", [U32]), *STATED)
 Spans = record("Spans", ("starts", [U64]), ("ends", [U64]))
 Text = record("Text", ("bytes", [U8]), ("length", SIZE))
 Bounds = record("Bounds", ("sequence", [U16]), ("lower", U64), ("upper", U64))
@@ -47,16 +68,9 @@ Plan = record("Plan", ("depth", U32), ("budget", U32), ("version", U32))
 BeamOptions = record("BeamOptions", ("number", U64), ("width", U32), ("steps", U64))
 RoundsOptions = record("RoundsOptions", ("rounds", U32), ("seed", U32), ("steps", U64))
 Node = record("Node", ("first", [U16]), ("last", [U16]))
-Part = record(
-    "Part",
-    ("sequence", [U16]),
-    ("directions", [U8]),
-    ("rest", [U16]),
-    ("found", U32),
-    ("makespan", U64),
-    ("directions_length", SIZE),
-    ("rest_length", SIZE),
-)
+ROOMS = ("sequence", [U16]), ("directions", [U8]), ("rest", [U16])
+LENGTHS = ("directions_length", SIZE), ("rest_length", SIZE)
+Part = record("Part", *ROOMS, ("found", U32), ("makespan", U64), *LENGTHS)
 
 
 def lent(kind, numbers):
@@ -91,6 +105,7 @@ class Room:
 
 def call(name, *words):
     """Makes a call: None where it is done, else the name of the status and the place. Slices stay where they are."""
+    last.call = name, words
     made = getattr(LIBRARY, f"flowshop_{name}")
     made.restype = Outcome
     records = [word for word in words if isinstance(word, ctypes.Structure)]

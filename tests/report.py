@@ -14,17 +14,17 @@ import sys
 import tempfile
 import time
 
-from counts import end, equal, refused
+import refusals
+from counts import TOP, end, equal, refused
+from reference import of_rows, spans as spans_of
+from refusals import THREE as ROWS
 
 from flowshop import Certificate, Report, Shop
 
-TOP = os.path.dirname(os.path.dirname(os.path.abspath(__file__)))
 PROGRAM = os.environ.get("FLOWSHOP_PROGRAM", os.path.join(TOP, "crates", "flow_tool", "out", "flow_tool"))
-# The shop that docs/formats.md reads by hand: a row for each job; and texts of it, of which one states less than is so.
-ROWS = [[4, 0, 4], [0, 8, 0], [0, 2, 1]]
 SHOP = Shop.from_jobs(ROWS)
-LEAST = "flowshop two-ended 1\n3 3\n12 12\n3 1 2\n++\nend\n"
-BOUNDS = "flowshop two-ended 1\n3 3\n11 13\n2 1 3\n-\nend\n"
+# Texts of the shop, of which the last states less than is so.
+LEAST, BOUNDS = refusals.LEAST.decode(), refusals.BOUNDS.decode()
 NOTHING = "flowshop two-ended 1\n3 3\n0 13\n2 1 3\n\nend\n"
 STRANGE = '<b>&"x\'</b>'
 
@@ -131,19 +131,6 @@ def shop_of(rows, scale=1, sign="point", job_names=None, machine_names=None):
         return Shop.read(path)[0].shop
 
 
-def plain_spans(rows, sequence):
-    """When each job of a sequence starts and ends on each machine, by the definition."""
-    ends, spans = [0] * len(rows[0]), []
-    for job in sequence:
-        left, spans_of_job = 0, []
-        for machine, length in enumerate(rows[job - 1]):
-            start = max(ends[machine], left)
-            left = ends[machine] = start + length
-            spans_of_job.append((start, left))
-        spans.append(spans_of_job)
-    return spans
-
-
 def in_unit(scale, sign="."):
     """How a time is shown in the unit of a table: the decimal number, without zeros behind it."""
 
@@ -181,7 +168,7 @@ def compare(what, report, rows, sequence, shown, names):
     """Compares the order, the table of the machines, the sheets and the picture of a report with plain code."""
     (at, lasting), (job_names, machine_names) = shown, names
     root = read(report)
-    spans = plain_spans(rows, sequence)
+    spans = spans_of(of_rows(rows), sequence)
     makespan = spans[-1][-1][1]
     jobs = [job_names[job - 1] for job in sequence]
     equal(f"{what}: the order", [item.text() for item in root.all("li")], jobs)
@@ -522,7 +509,7 @@ def write_the_greatest():
     wanted = "The picture is left out: it has too many bars for a page. In Python "
     wanted += 'shop.gantt(order).save("shop.svg") draws it anyway, and so does flowshop schedule with --form svg.'
     equal("what is said of them", line_of(root, "The picture"), wanted)
-    spans = plain_spans(rows, range(800, 0, -1))
+    spans = spans_of(of_rows(rows), range(800, 0, -1))
     last = [[str(place), names[0][800 - place], *map(str, each[25])] for place, each in enumerate(spans, 1)]
     equal("its last sheet", sheets_of(root)[25][2], [row for row in last if row[2] != row[3]])
 
@@ -568,8 +555,7 @@ def name_files():
 
 def run(*words, out=subprocess.PIPE):
     """Runs the command, and gives its status, and what it wrote; nothing of what it wrote to an `out` of its own."""
-    command = [sys.executable, "-m", "flowshop", "report", *words]
-    done = subprocess.run(command, stdout=out, stderr=subprocess.PIPE, check=False)
+    done = subprocess.run([sys.executable, "-m", "flowshop", "report", *words], stdout=out, stderr=subprocess.PIPE)
     return done.returncode, (done.stdout or b"").decode(), done.stderr.decode()
 
 
@@ -744,7 +730,7 @@ def three_commands(what, planned, table, words=(), clock=False):
     proved = f"No order can finish before {at(lower)}; this one finishes at {at(upper)}."
     if lower == upper:
         proved = f"No order finishes earlier than {at(upper)}: this one is optimal."
-    listed = plain_spans(rows, range(1, len(rows) + 1))[-1][-1][1]
+    listed = spans_of(of_rows(rows), range(1, len(rows) + 1))[-1][-1][1]
     equal(f"{what}: what is proved", line_of(root, "No order"), proved)
     beside = next(each.text() for each in root.all("p") if "the table it would" in each.text())
     wanted = f"In the order of the table it would {how} {at(listed)}."
@@ -784,18 +770,9 @@ def plan_tables():
 
 def main():
     """Runs all, and ends."""
-    say_what_is_proved()
-    show_times()
-    show_names()
-    draw_pictures()
-    label_bars()
-    cut_for_paper()
-    compare_drawn_shops()
-    write_the_greatest()
-    keep_reports()
-    name_files()
-    call_the_command()
-    plan_tables()
+    for part in (say_what_is_proved, show_times, show_names, draw_pictures, label_bars, cut_for_paper,
+                 compare_drawn_shops, write_the_greatest, keep_reports, name_files, call_the_command, plan_tables):
+        part()
     end("reports")
 
 

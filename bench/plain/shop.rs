@@ -220,7 +220,7 @@ impl Instance {
     }
 
     /// The makespan with a job put in between the heads of the jobs before it and the tails of those behind it.
-    fn span_between(&self, heads: &Row, job: usize, tails: &Row) -> u32 {
+    pub fn span_between(&self, heads: &Row, job: usize, tails: &Row) -> u32 {
         let times = &self.jobs[job].times[..self.machines];
         let mut head = 0;
         let mut most = 0;
