@@ -1,15 +1,16 @@
 -- What a run of any command comes to, by what the reading of its files and its command come to.
-use Rattle.std.proofs.Common.{◌≡◌, ◌⊎◌, ◌↔◌, sym, subst, inl, inr, ℕ, List, Option, Some, None}
+use Rattle.std.proofs.Common.{◌≡◌, ◌⊎◌, ◌↔◌, refl, sym, subst, inl, inr, ℕ, List, Option, Some, None}
 use Rattle.std.proofs.Common.{Result, Ok, Err, true}
 use Rattle.std.specs.Prelude.{IfSome, IsErrOf, OnOk, IfErr}
+use Rattle.flow_core.specs.declared.bytes.fault.ReadFault.{ReadFault}
 use Rattle.flow_core.specs.declared.bytes.fault.ReadFault.TheVariants as read
 use Rattle.flow_core.specs.declared.bytes.fault.WriteFault.TheVariants as write
 use Rattle.flow_commands.specs.Output.{Output}
 use Rattle.flow_commands.specs.Block.{IsPicked, Origin, Picks}
-use Rattle.flow_commands.specs.Runs.{Came, CameBoth, CameSecond, Ends, EndsAlone, IsUnread}
+use Rattle.flow_commands.specs.Runs.{Came, CameBoth, CameSecond, Ends, EndsAlone, GaveBeyond, GaveWithin, IsUnread}
 use Rattle.flow_commands.specs.Runs.{IsUnwritten, Ran, Responds}
 use Rattle.flow_commands.specs.Runs.{SecondFailed, SinkRun, SourceRun, Stands, StopsAt, StopsAtSecond}
-use Rattle.flow_commands.specs.Runs.{Wrote, WrotePart, run_alone, run_of}
+use Rattle.flow_commands.specs.Runs.{Wrote, WrotePart, run_of}
 use Rattle.flow_commands.specs.declared.refusals.CommandFault.{CommandFault}
 use Rattle.flow_commands.specs.declared.refusals.CommandFault.TheVariants as command
 use Rattle.flow_commands.specs.declared.files.FileKind.{FileKind}
@@ -21,15 +22,45 @@ use Rattle.std.specs.declared.vec.Vec.{Vec}
 abbrev pub Relation : Type 1
 Relation = Origin → Option (List ℕ) → Output → Type 0
 
+-- a file that could not be read, by the fault of its reading
+pub stops-by : {S : Type 0} (kind : FileKind) (file : SourceRun S) (fault : ReadFault) (given : CommandFault) →
+    (fault ≡ read.Memory → GaveWithin kind file) → (fault ≡ read.TooLong → GaveBeyond kind file) →
+    given ≡ (elim fault [ read.Memory ↦ command.Memory | other ↦ command.Read other ]) →
+    StopsAt kind (λ _ _. ⊥) file given
+stops-by kind file read.Memory given memory long is = inl (is, memory refl)
+stops-by kind file read.Device given memory long is = inr (inl is)
+stops-by kind file read.TooLong given memory long is = inr (inr (inl (is, long refl)))
+
+-- a run that stopped at a file, before its bytes were judged
+pub stops-for : {S : Type 0} (kind : FileKind) (Refuses : List ℕ → CommandFault → Type 0) (file : SourceRun S)
+    (fault : CommandFault) → StopsAt kind (λ _ _. ⊥) file fault → StopsAt kind Refuses file fault
+stops-for kind Refuses file fault (inl memory) = inl memory
+stops-for kind Refuses file fault (inr (inl device)) = inr (inl device)
+stops-for kind Refuses file fault (inr (inr (inl long))) = inr (inr (inl long))
+stops-for kind Refuses file fault (inr (inr (inr came))) = absurd came.4
+
+-- a run that stopped where its text came, and no block was picked
+pub stops-at-pick : {S : Type 0} (Refuses : List ℕ → CommandFault → Type 0) (file : SourceRun S) (text : List ℕ)
+    (fault : CommandFault) → Came Text (λ bytes. bytes ≡ text) file →
+    (fault ≡ command.Memory) ⊎ Refuses text fault → StopsAt Text Refuses file fault
+stops-at-pick Refuses file text fault (bytes, within, gave, whole, same) (inl memory) =
+    inl (memory, (bytes, within, gave))
+stops-at-pick Refuses file text fault (bytes, within, gave, whole, same) (inr refuses) =
+    inr (inr (inr (bytes, within, gave, whole, subst (λ (b : List ℕ). Refuses b fault) (sym same) refuses)))
+
+-- what holds of the bytes of a file that came
+pub came-with : {S : Type 0} (kind : FileKind) (Holds : List ℕ → Type 0) (file : SourceRun S) (text : List ℕ) →
+    Came kind (λ bytes. bytes ≡ text) file → Holds text → Came kind Holds file
+came-with kind Holds file text (bytes, within, gave, whole, same) holds =
+    (bytes, within, gave, whole, subst Holds (sym same) holds)
+
 -- a run that stopped at its second file
 stops-second : {T : Type 0} (kind : FileKind) (Refuses : Option (List ℕ) → CommandFault → Type 0)
     (second : Option (SourceRun T)) (fault : CommandFault) → SecondStops kind second fault →
     StopsAtSecond kind Refuses second fault
 stops-second kind Refuses None fault stops = absurd stops
-stops-second kind Refuses (Some file) fault (inl memory) = inl memory
-stops-second kind Refuses (Some file) fault (inr (inl device)) = inr (inl device)
-stops-second kind Refuses (Some file) fault (inr (inr (inl long))) = inr (inr (inl long))
-stops-second kind Refuses (Some file) fault (inr (inr (inr came))) = absurd came.4
+stops-second kind Refuses (Some file) fault stops =
+    stops-for kind (λ bytes. Refuses (Some bytes)) file fault stops
 
 -- a second file that came gave its bytes
 came-second : {T A : Type 0} (kind : FileKind) (Holds : Option (List ℕ) → Type 0) (second : Option (SourceRun T))
@@ -170,16 +201,3 @@ responded kind Answers index origin bytes text second sink result (own, within, 
         (origin, picked, came-second kind (λ given. WrotePart (Answers origin given) sink) second bytes came part),
       ),
     ))
-
--- a run over a text alone
-pub alone : {S T K : Type 0} (kind : FileKind) (Answers : Relation) (index : ℕ) (text : SourceRun S) (sink : SinkRun K)
-    (result : Result (Unit {0}) CommandFault) → Ran {T = T} kind Answers index (run_of text None sink) result →
-    Ran kind Answers index (run_alone text sink) result
-alone kind Answers index text sink result ran = record {
-  written = ran.written;
-  ended = ran.ended;
-  read_device = ran.read_device;
-  write_device = ran.write_device;
-  stands = ran.stands;
-  second_stands = tt;
-}

@@ -1,10 +1,11 @@
 -- What is printed of a certificate is true, and where its bounds are one number, it is the least makespan.
-use Rattle.std.proofs.Common.{◌≡◌, ◌∙◌, ◌++◌, sym, ap, subst, ℕ, List, true, false, cond, Ok}
+use Rattle.std.proofs.Common.{◌≡◌, ◌∙◌, ◌++◌, ◌⊎◌, inl, inr, sym, ap, subst, ℕ, List, true, cond, Ok, Err}
 use Rattle.std.proofs.lemmas.Bool.{eq-eqb}
 use Rattle.flow_core.specs.Paths.{span}
 use Rattle.flow_core.specs.Sequences.{IsLeastMakespan, IsSequence}
 use Rattle.flow_core.specs.Shop.{Shop}
 use Rattle.flow_check.specs.Bounds.{AreProved}
+use Rattle.flow_check.specs.Kinds.{IsReadAs}
 use Rattle.flow_check.specs.Stated.{GivesAs}
 use Rattle.flow_check.specs.declared.bounds.Bounds.{Bounds}
 use Rattle.flow_check.specs.declared.kind.TextKind.{TextKind}
@@ -13,11 +14,28 @@ use Rattle.flow_check.proofs.TextGiven.{given-bounds, given-sequence, given-uppe
 use Rattle.flow_requests.specs.declared.CheckOutput.{CheckOutput}
 use Rattle.flow_requests.specs.declared.CheckOutput.TheVariants.{Proved, Report, Sequence}
 use Rattle.flow_requests.specs.declared.CheckRequest.{CheckRequest}
+use Rattle.flow_commands.specs.Output.{Output}
 use Rattle.flow_commands.specs.Block.{Origin}
-use Rattle.flow_commands.specs.Check.{AnswersCheck, SaysProved, WroteLeast, WroteOptimum, printed_text, proved_line}
+use Rattle.flow_commands.specs.Check.{AnswersAs, AnswersCheck, AnswersTrees, SaysProved, WroteLeast, WroteOptimum}
+use Rattle.flow_commands.specs.Check.{printed_text, proved_line}
 use Rattle.flow_commands.specs.Printed.{bounds_line, optimal_line}
 use Rattle.flow_commands.specs.Report.{report_lines}
 use Rattle.flow_commands.specs.Runs.{SinkRun, Took}
+use Rattle.flow_commands.specs.declared.refusals.CommandFault.{CommandFault}
+use Rattle.flow_commands.specs.declared.refusals.CommandFault.TheVariants.{Memory}
+
+-- what is answered for bytes that are read as a text of a kind is answered by `check`
+pub of-kind : (kind : TextKind) (request : CheckRequest) (origin : Origin) (bytes : List ℕ) (answer : Output) →
+    IsReadAs bytes kind → AnswersAs kind request origin bytes answer → AnswersCheck request origin bytes answer
+of-kind kind request origin bytes answer read answers = (kind, read, answers)
+
+pub refused-of-kind : (kind : TextKind) (request : CheckRequest) (origin : Origin) (bytes : List ℕ)
+    (fault : CommandFault) → IsReadAs bytes kind →
+    (fault ≡ Memory) ⊎ AnswersAs kind request origin bytes (Err fault) →
+    (fault ≡ Memory) ⊎ AnswersCheck request origin bytes (Err fault)
+refused-of-kind kind request origin bytes fault read (inl memory) = inl memory
+refused-of-kind kind request origin bytes fault read (inr answers) =
+    inr (of-kind kind request origin bytes (Err fault) read answers)
 
 -- the bounds of a lawful text are proved
 pub proved-of : (kind : TextKind) (shop : Shop) (bytes jobs : List ℕ) (bounds : Bounds) →
@@ -88,16 +106,11 @@ wrote-optimum request origin sink bytes text asked answers took =
     optimum-of request.output origin says.0 sink bytes text says.5 says.2 says.3.0 says.6 says.7 (says.4 asked) says.8
     took
 
--- the request of certificates that are no two-ended ones
-abbrev alone : CheckRequest
-alone = record { two_ended = false; output = Proved; optimal = false }
-
--- what is written where these alone are taken is the least makespan
+-- what is written where no two-ended certificate is accepted is the least makespan
 pub wrote-least : {K : Type 0} (origin : Origin) (sink : SinkRun K) (bytes text : List ℕ) →
-    AnswersCheck alone origin bytes (Ok text) → Took text sink → WroteLeast origin.block.instance sink
-wrote-least origin sink bytes text (kind, taken, (bounds, jobs, gives, suffices, prints)) took =
+    AnswersTrees origin bytes (Ok text) → Took text sink → WroteLeast origin.block.instance sink
+wrote-least origin sink bytes text (bounds, jobs, gives, suffices, prints) took =
     let shop = origin.block.instance in
-    let own : GivesAs Certificate shop bytes bounds jobs = subst (λ k. GivesAs k shop bytes bounds jobs) taken gives in
-    optimum-of Proved origin kind sink bytes text jobs bounds (proved-of Certificate shop bytes jobs bounds own)
-    (given-sequence Certificate shop bytes bounds jobs own) (given-upper Certificate shop bytes bounds jobs own)
-    (one-number shop bytes jobs bounds own) prints took
+    optimum-of Proved origin Certificate sink bytes text jobs bounds (proved-of Certificate shop bytes jobs bounds gives)
+    (given-sequence Certificate shop bytes bounds jobs gives) (given-upper Certificate shop bytes bounds jobs gives)
+    (one-number shop bytes jobs bounds gives) prints took

@@ -1,11 +1,12 @@
 -- What a command does that reads nothing, by what it answers and what the sink took.
-use Rattle.std.proofs.Common.{◌≡◌, refl, inl, inr, List, ℕ, Result, Ok, Err, true}
+use Rattle.std.proofs.Common.{◌≡◌, ◌⊎◌, refl, inl, inr, List, ℕ, Result, Ok, Err, true}
 use Rattle.std.specs.Prelude.{IfErr, OnOk}
 use Rattle.flow_core.specs.Bytes.{AddsProperPrefix}
 use Rattle.flow_core.specs.declared.bytes.fault.WriteFault.{WriteFault}
 use Rattle.flow_core.specs.declared.bytes.fault.WriteFault.TheVariants as write
 use Rattle.flow_commands.specs.Output.{Output}
-use Rattle.flow_commands.specs.Runs.{EndsAlone, Responds, SinkRun, Took, Wrote}
+use Rattle.flow_commands.specs.Runs.{EndsAlone, IsUnwritten, Responds, SinkRun, Took, Wrote}
+use Rattle.flow_commands.specs.internal.Devices.{NamesNoDevice}
 use Rattle.flow_commands.specs.declared.refusals.CommandFault.{CommandFault}
 use Rattle.flow_commands.specs.declared.refusals.CommandFault.TheVariants as command
 
@@ -32,6 +33,17 @@ all-written Answers sink text answers took works = record {
   ended = tt;
   write_device = (λ named. cc named, λ failed. absurd (works failed));
   reads_nothing = λ named. cc named;
+}
+
+-- nothing was written
+pub refused : {K A : Type 0} (Answers : Output → Type 0) (sink : SinkRun K) (fault : CommandFault) →
+    (fault ≡ command.Memory) ⊎ Answers (Err fault) → NamesNoDevice {T = A} (Err fault) → IsUnwritten sink →
+    (sink.has_failed sink.after ≡ true → ⊥) → Responds Answers sink (Err fault)
+refused Answers sink fault why no_device unwritten works = record {
+  written = tt;
+  ended = inl (unwritten, why);
+  write_device = (λ named. absurd (no_device.1 (cc named)), λ failed. absurd (works failed));
+  reads_nothing = λ named. no_device.0 (cc named);
 }
 
 -- one kind of answer is also one of another kind

@@ -1,7 +1,7 @@
 -- What commands answer is true of the shop.
 use Rattle.std.proofs.Common.{◌≡◌, refl, subst, inl, inr, unwrap_or, ℕ, List, [], Option, Some, None}
 use Rattle.std.proofs.Common.{Result, Ok, Err}
-use Rattle.std.specs.Prelude.{IfSome}
+use Rattle.std.specs.Prelude.{IfSome, OnOk}
 use Rattle.flow_core.specs.Sequences.{IsLowerBound, IsSequence}
 use Rattle.flow_core.specs.Shop.{Shop}
 use Rattle.flow_check.proofs.Sound.{certificate_is_sound}
@@ -21,14 +21,16 @@ use Rattle.flow_commands.specs.Output.{Output}
 use Rattle.flow_commands.specs.Block.{Origin}
 use Rattle.flow_commands.specs.Certify.{AnswersCertify, Certifies, WroteTwoEnded, certify_fault}
 use Rattle.flow_commands.specs.Request.{SaysTrue, answers}
-use Rattle.flow_commands.specs.Runs.{SinkRun, Took}
+use Rattle.flow_commands.specs.Runs.{CameBoth, CommandRun, Ran, SinkRun, Took}
 use Rattle.flow_commands.specs.Schedule.{AnswersSchedule, GivesTimed, WroteSchedule}
 use Rattle.flow_commands.specs.Solve.{AnswersOptions, AnswersSolve, WroteCertificate}
 use Rattle.flow_search.specs.Choices.{versioned_or_fault}
 use Rattle.flow_commands.specs.Start.{FromStart}
 use Rattle.flow_commands.specs.declared.refusals.CommandFault.{CommandFault}
+use Rattle.flow_commands.specs.declared.files.FileKind.{FileKind}
 use Rattle.flow_commands.specs.declared.timed.TimedSequence.{TimedSequence}
 use Rattle.flow_commands.proofs.Least.{says-proved, wrote-optimum}
+use Rattle.flow_commands.proofs.Written.{came-both}
 
 -- a text that is answered for a start is answered for some sequence, or for none
 from-start : (A : Shop → Option (List ℕ) → Output → Type 0) (origin : Origin) (given : Option (List ℕ))
@@ -126,3 +128,11 @@ request-says-true (Schedule form) sink origin given text answer took =
 request-says-true (Span jobs) sink origin given text answer took = tt
 request-says-true Neh sink origin given text answer took = tt
 request-says-true (Improve request) sink origin given text answer took = tt
+
+-- what a run writes for a request is true of the shop
+pub run-says-true : {S T K : Type 0} {kind : FileKind} {index : ℕ} {run : CommandRun S T K}
+    {result : Result (Unit {0}) CommandFault} (request : Request) → Ran kind (answers request) index run result →
+    OnOk result (CameBoth kind index (λ origin given. SaysTrue request origin given run.sink) run)
+run-says-true {kind = kind} {index = index} {run = run} {result = result} request ran =
+    came-both kind (answers request) index run result (λ origin given. SaysTrue request origin given run.sink)
+    (request-says-true request run.sink) ran.written

@@ -1,5 +1,5 @@
 -- What `check` answers.
-use Rattle.std.specs.Prelude.{◌≡◌, ◌≢◌, ℕ, ◌⊎◌, Bool, false, true, cond, nat_eq, List, ◌++◌, Ok, Err}
+use Rattle.std.specs.Prelude.{◌≡◌, ◌≢◌, ℕ, ◌⊎◌, false, true, cond, nat_eq, List, ◌++◌, Ok, Err}
 use Rattle.flow_core.specs.Shop.{Shop}
 use Rattle.flow_core.specs.Paths.{span}
 use Rattle.flow_core.specs.Sequences.{IsLeastMakespan, IsSequence}
@@ -35,11 +35,6 @@ printed_text Sequence origin kind bytes bounds jobs = sequence_lines origin.bloc
 printed_text Report origin kind bytes bounds jobs =
     proved_line bounds ++ report_lines origin kind bytes
 
--- the kind as which the bytes are read: a certificate, where two-ended certificates are not accepted
-abbrev pub IsTakenAs : Bool → List ℕ → TextKind → Type 0
-IsTakenAs true bytes kind = IsReadAs bytes kind
-IsTakenAs false bytes kind = kind ≡ Certificate
-
 -- bounds suffice for a request: where the optimum is asked for, they are one number
 abbrev pub SufficesFor : CheckRequest → Bounds → Type 0
 SufficesFor request bounds = request.optimal ≡ true → bounds.lower ≡ bounds.upper
@@ -73,7 +68,11 @@ AnswersAs kind request origin bytes (Err fault) =
 -- what `check` answers for a block and the bytes of a text
 abbrev pub AnswersCheck : CheckRequest → Origin → List ℕ → Output → Type 0
 AnswersCheck request origin bytes answer =
-    (kind : TextKind) × IsTakenAs request.two_ended bytes kind × AnswersAs kind request origin bytes answer
+    (kind : TextKind) × IsReadAs bytes kind × AnswersAs kind request origin bytes answer
+
+-- what `check` answers for a block and bytes where no two-ended certificate is accepted, and the bounds are asked for
+abbrev pub AnswersTrees : Origin → List ℕ → Output → Type 0
+AnswersTrees = AnswersAs Certificate (record { output = Proved; optimal = false })
 
 -- what a text of a kind proves of the shop: its bounds are proved, and those of a certificate are one number
 abbrev pub ProvesAs : TextKind → Shop → Bounds → Type 0
@@ -83,7 +82,7 @@ ProvesAs kind shop bounds = AreProved shop bounds × (kind ≡ Certificate → b
 -- suffice; or the sequence has the upper one
 abbrev pub SaysProved : CheckRequest → Origin → List ℕ → Output → Type 0
 SaysProved request origin bytes (Ok text) =
-    (kind : TextKind) × IsTakenAs request.two_ended bytes kind
+    (kind : TextKind) × IsReadAs bytes kind
     × (bounds : Bounds) × ProvesAs kind origin.block.instance bounds × SufficesFor request bounds
     × (jobs : List ℕ) × IsSequence origin.block.instance.jobs jobs
     × (span origin.block.instance jobs ≡ bounds.upper)

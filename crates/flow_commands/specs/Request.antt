@@ -13,14 +13,6 @@ use Rattle.flow_commands.specs.Schedule.{AnswersSchedule, WroteSchedule}
 use Rattle.flow_commands.specs.Solve.{AnswersSolve, WroteCertificate}
 use Rattle.flow_commands.specs.Span.{AnswersSpan}
 use Rattle.flow_commands.specs.Start.{FromStart}
-use Rattle.flow_commands.specs.declared.files.FileKind.{FileKind}
-use Rattle.flow_commands.specs.declared.files.FileKind.TheVariants as file
-
--- as what the second file of a request is read
-abbrev pub second_kind : Request → FileKind
-second_kind (Check request) = file.Certificate
-second_kind (Schedule form) = file.StartOrCertificate
-second_kind request = file.Text
 
 -- what is answered for a request, for a block and the bytes of a second file where there is one
 abbrev pub answers : Request → Origin → Option (List ℕ) → Output → Type 0

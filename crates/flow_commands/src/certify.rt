@@ -1,26 +1,24 @@
 //! The command `certify`.
 
-ghost use Rattle.std.specs.Prelude.{◌≡◌, false, None, Some, IfOk, OnOk, IfErr, IfSome, is_some};
-ghost use Rattle.std.specs.Option.{ForSome};
+ghost use Rattle.std.specs.Prelude.{◌≡◌, false, None, Some, IfOk, OnOk, IfErr, IfSome};
 ghost use denote.Param.Send.{IsSync};
 ghost use Rattle.flow_core.specs.Sequences.{IsSequence};
 ghost use Rattle.flow_commands.specs.internal.Devices.{NamesNoDevice};
-ghost use Rattle.flow_commands.specs.Certify.{AnswersCertify, WroteTwoEnded, certify_fault};
-ghost use Rattle.flow_commands.specs.Runs.{CameFor, Ran, Responds, run_of, second_run, sink_run, source_run};
+ghost use Rattle.flow_commands.specs.Certify.{AnswersCertify, certify_fault};
+ghost use Rattle.flow_commands.specs.Runs.{Responds, sink_run};
 ghost use Rattle.flow_commands.specs.Start.{FromStart};
 
 use crate::block::PickedBlock;
-use crate::command::{Command, run_over};
-use crate::files::FileKind;
+use crate::command::Command;
 use crate::improve::effort_of;
 use crate::refusals::CommandFault;
-use crate::start::{sequence_given, start_of};
+use crate::start::{given_start, start_of};
 use flow_cert::write_two_ended;
 use flow_certify::{MostDirections, certify};
 use flow_check::Bounds;
-use flow_core::{Instance, MAX_WORKERS, Sequence, Sink, Source};
+use flow_core::{Instance, MAX_WORKERS, Sequence, Sink};
 use flow_improve::Effort;
-use flow_requests::CertifyRequest;
+use flow_requests::{CertifyRequest, SecondFile};
 use flow_workers::{Watch, Workers};
 use std::alloc::Global;
 use std::thread::Threads;
@@ -46,8 +44,10 @@ fn tested(request: CertifyRequest) -> Result<(Effort, MostDirections), CommandFa
     Ok((effort, most))
 }
 
-/// Certifies as a request says. The workers search for directions, on threads where they are two or more, and the watch
-/// is told how far the run is.
+/// Writes a two-ended certificate: bounds of the least makespan, which are one number where that was proved. Its
+/// sequence is no worse than the one that a start text gives, or, where there is no such text, than that of Nawaz,
+/// Enscore and Ham. The workers search for directions, on threads where they are two or more, and the watch is told how
+/// far the run is.
 #[derive(Drop)]
 pub(crate) struct Certify<'a, R, W> {
     pub(crate) rt: &'a R,
@@ -102,39 +102,11 @@ impl<'a, R: Threads + Sync, W: Watch> Command for Certify<'a, R, W> {
         &self,
         alloc: Global,
         picked: PickedBlock,
-        second: Option<Vec<u8>>,
+        second: SecondFile<Vec<u8>>,
         out: &mut K,
     ) -> Result<(), CommandFault> {
         let PickedBlock { block, .. } = picked;
-        let given = sequence_given(alloc, &block.instance, second)?;
+        let given = given_start(alloc, &block.instance, second)?;
         certify_instance(self, alloc, block.instance, given, out)
     }
-}
-
-/// Writes a two-ended certificate of the block that an index names: bounds of its least makespan, which are one number
-/// where that was proved. Its sequence is no worse than the one that a start text gives, or, where there is no such
-/// text, than that of Nawaz, Enscore and Ham. The workers search for directions, on threads where they are two or more.
-/// The watch is told how far the run is.
-pub fn run_certify<R: Threads + Sync, S: Source, T: Source, W: Watch, K: Sink>(
-    rt: &R,
-    alloc: Global,
-    file: &mut S,
-    index: u32,
-    start: &mut Option<T>,
-    request: CertifyRequest,
-    watch: &W,
-    out: &mut K,
-) -> Result<(), CommandFault>
-    requires file_works { S.has_failed file.old ≡ false }
-    requires start_works { ForSome start.old (λ source. T.has_failed source ≡ false) }
-    requires out_works { K.has_failed out.old ≡ false }
-    ensures ran { Ran FileKind.Text (FromStart (AnswersCertify request)) index
-        (run_of (source_run S.Source file.old file.new) (second_run T.Source start.old start.new)
-        (sink_run K.Sink out.old out.new)) result }
-    ensures lawful { OnOk result (CameFor index (λ shop. WroteTwoEnded shop (sink_run K.Sink out.old out.new))
-        (source_run S.Source file.old file.new)) }
-    ensures start_stays { is_some start.new ≡ is_some start.old }
-{
-    let command = Certify { rt, watch, request };
-    run_over(alloc, file, index, FileKind::Text, start, &command, out)
 }

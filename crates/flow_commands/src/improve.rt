@@ -1,24 +1,20 @@
 //! The command `improve`.
 
-ghost use Rattle.std.specs.Prelude.{◌≡◌, ◌⊎◌, false, None, Some, Ok, Err};
-ghost use Rattle.std.specs.Prelude.{IfOk, OnOk, IfErr, IfSome, is_some};
-ghost use Rattle.std.specs.Option.{ForSome};
+ghost use Rattle.std.specs.Prelude.{◌≡◌, ◌⊎◌, None, Some, Ok, Err, IfOk, OnOk, IfErr, IfSome};
 ghost use Rattle.flow_core.specs.Paths.{span};
 ghost use Rattle.flow_core.specs.Sequences.{IsSequence};
 ghost use Rattle.flow_commands.specs.internal.Devices.{NamesNoDevice};
 ghost use Rattle.flow_commands.specs.Improve.{AnswersImprove, IsImproved, improve_fault};
-ghost use Rattle.flow_commands.specs.Runs.{Ran, run_of, second_run, sink_run, source_run};
 ghost use Rattle.flow_commands.specs.Start.{FromStart};
 
 use crate::block::PickedBlock;
-use crate::command::{Answering, Printed, run_over};
-use crate::files::FileKind;
+use crate::command::Command;
 use crate::printed::sequence_lines;
 use crate::refusals::CommandFault;
-use crate::start::{sequence_given, start_of};
-use flow_core::{Instance, Sequence, Sink, Source};
+use crate::start::{given_start, start_of};
+use flow_core::{Instance, Sequence, Sink, put_all};
 use flow_improve::{Effort, EffortFault, Reached, improve};
-use flow_requests::ImproveRequest;
+use flow_requests::{ImproveRequest, SecondFile};
 use std::alloc::{AllocError, Global};
 
 /// The effort of a request; or the first fault of its numbers.
@@ -68,44 +64,28 @@ fn improved_lines(
     Ok(sequence_lines(alloc, better.sequence.jobs(), better.value)?)
 }
 
-/// Answers a sequence that is no worse than the one to start from, and its makespan.
+/// Answers a sequence and its makespan, which is no worse than the one that a start text gives, or, where there is no
+/// such text, than that of Nawaz, Enscore and Ham.
 #[derive(Drop)]
 pub(crate) struct Improve {
     pub(crate) request: ImproveRequest,
 }
 
-impl Answering for Improve {
+impl Command for Improve {
+    ghost is_ready = { λ _. Unit {0} };
+
     ghost answers = { λ s. FromStart (AnswersImprove s.request) };
 
-    fn answer(
+    fn respond<K: Sink>(
         &self,
         alloc: Global,
         picked: PickedBlock,
-        second: Option<Vec<u8>>,
-    ) -> Result<Vec<u8>, CommandFault> {
-        let given = sequence_given(alloc, &picked.block.instance, second)?;
-        improved_lines(alloc, &picked.block.instance, given, self.request)
+        second: SecondFile<Vec<u8>>,
+        out: &mut K,
+    ) -> Result<(), CommandFault> {
+        let given = given_start(alloc, &picked.block.instance, second)?;
+        let text = improved_lines(alloc, &picked.block.instance, given, self.request)?;
+        put_all(out, text.as_slice())?;
+        Ok(())
     }
-}
-
-/// Improves a starting sequence of the block that an index names: the one that a start text gives, or, where there is
-/// no such text, that of Nawaz, Enscore and Ham. Writes the better sequence and its makespan.
-pub fn run_improve<S: Source, T: Source, K: Sink>(
-    alloc: Global,
-    file: &mut S,
-    index: u32,
-    start: &mut Option<T>,
-    request: ImproveRequest,
-    out: &mut K,
-) -> Result<(), CommandFault>
-    requires file_works { S.has_failed file.old ≡ false }
-    requires start_works { ForSome start.old (λ source. T.has_failed source ≡ false) }
-    requires out_works { K.has_failed out.old ≡ false }
-    ensures ran { Ran FileKind.Text (FromStart (AnswersImprove request)) index
-        (run_of (source_run S.Source file.old file.new) (second_run T.Source start.old start.new)
-        (sink_run K.Sink out.old out.new)) result }
-    ensures start_stays { is_some start.new ≡ is_some start.old }
-{
-    let command = Printed(Improve { request });
-    run_over(alloc, file, index, FileKind::Text, start, &command, out)
 }

@@ -5,7 +5,6 @@
 //! kind stands in `refusals`, a law of the definitions in `laws`.
 #![tactic(auto)]
 
-mod any_request;
 mod block;
 mod certify;
 mod check;
@@ -18,25 +17,24 @@ mod neh;
 mod printed;
 mod refusals;
 mod report;
+mod request;
 mod schedule;
 mod solve;
 mod span;
 mod start;
 mod timed;
 
-pub use any_request::run_request;
-pub use certify::run_certify;
-pub use check::{run_check, run_check_as};
+pub use check::run_check;
 pub use flow_improve::EffortFault;
 pub use flow_requests::{
-    CertifyRequest, CheckOutput, CheckRequest, ImproveRequest, Request, ScheduleForm, SolveRequest,
+    CertifyRequest, CheckOutput, CheckRequest, ImproveRequest, Request, ScheduleForm, SecondFile,
+    SolveRequest,
 };
 pub use flow_workers::{News, Unwatched, Watch};
 pub use generate::run_gen;
-pub use improve::run_improve;
 pub use laws::{each_start_gives_one, report_states_lengths};
 pub use neh::run_neh;
 pub use refusals::{CommandFault, ToolFault};
-pub use schedule::run_schedule;
-pub use solve::{run_solve, run_solve_as};
+pub use request::{Means, run_request};
+pub use solve::run_solve;
 pub use span::run_span;

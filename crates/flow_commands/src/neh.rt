@@ -6,12 +6,13 @@ ghost use Rattle.flow_commands.specs.Neh.{AnswersNeh};
 ghost use Rattle.flow_commands.specs.Runs.{Ran, run_alone, sink_run, source_run};
 
 use crate::block::PickedBlock;
-use crate::command::{Answering, Printed, run_over};
+use crate::command::{Command, run};
 use crate::files::FileKind;
 use crate::printed::sequence_lines;
 use crate::refusals::CommandFault;
 use flow_bound::neh;
-use flow_core::{Instance, MemorySource, Sink, Source};
+use flow_core::{Instance, MemorySource, Sink, Source, put_all};
+use flow_requests::SecondFile;
 use std::alloc::{AllocError, Global};
 
 /// Answers the starting sequence and its makespan.
@@ -26,16 +27,21 @@ fn starting_lines(alloc: Global, instance: &Instance) -> Result<Vec<u8>, AllocEr
     sequence_lines(alloc, sequence.jobs(), value)
 }
 
-impl Answering for Neh {
+impl Command for Neh {
+    ghost is_ready = { λ _. Unit {0} };
+
     ghost answers = { λ _. OfShop AnswersNeh };
 
-    fn answer(
+    fn respond<K: Sink>(
         &self,
         alloc: Global,
         picked: PickedBlock,
-        _second: Option<Vec<u8>>,
-    ) -> Result<Vec<u8>, CommandFault> {
-        Ok(starting_lines(alloc, &picked.block.instance)?)
+        _second: SecondFile<Vec<u8>>,
+        out: &mut K,
+    ) -> Result<(), CommandFault> {
+        let text = starting_lines(alloc, &picked.block.instance)?;
+        put_all(out, text.as_slice())?;
+        Ok(())
     }
 }
 
@@ -51,13 +57,12 @@ pub fn run_neh<S: Source, K: Sink>(
     ensures { Ran FileKind.Text (OfShop AnswersNeh) index
         (run_alone (source_run S.Source file.old file.new) (sink_run K.Sink out.old out.new)) result }
 {
-    run_over(
+    run(
         alloc,
         file,
         index,
-        FileKind::Text,
-        &mut None::<MemorySource>,
-        &Printed(Neh),
+        &mut SecondFile::<MemorySource>::Absent,
+        &Neh,
         out,
     )
 }

@@ -4,7 +4,9 @@ ghost use Rattle.std.specs.Prelude.{◌≡◌, ◌⊎◌, false, None, Err, IfOk
 ghost use Rattle.std.specs.Option.{ForSome};
 ghost use Rattle.flow_core.specs.Sequences.{IsSequence};
 ghost use Rattle.flow_search.specs.Plans.{IsPlan, but_memory, plan_fault};
+ghost use Rattle.flow_requests.specs.SecondFile.{file_in};
 ghost use Rattle.flow_commands.specs.Output.{Output};
+ghost use Rattle.flow_commands.specs.Files.{kind_of};
 ghost use Rattle.flow_commands.specs.internal.Devices.{NamesNoDevice};
 ghost use Rattle.flow_commands.specs.Runs.{CameFor, Ran, Responds, run_alone, run_of, second_run, sink_run, source_run};
 ghost use Rattle.flow_commands.specs.Solve.{AnswersRun, AnswersSolve, WroteCertificate};
@@ -12,14 +14,14 @@ ghost use Rattle.flow_commands.specs.Start.{FromStart, StartsFrom};
 ghost use Rattle.flow_commands.specs.internal.Picked.{origin_of};
 ghost use Rattle.flow_commands.specs.internal.Reading.{bytes_of};
 
-use crate::block::PickedBlock;
-use crate::files::{FileKind, read_picked, read_second};
+use crate::block::{PickedBlock, block_at};
+use crate::files::{FileKind, read_file, read_second};
 use crate::refusals::CommandFault;
-use crate::start::sequence_given;
+use crate::start::given_start;
 use flow_cert::write_certificate;
 use flow_core::{Instance, MemorySource, Sequence, Sink, Source};
 use flow_pool::{Gate, solve};
-use flow_requests::SolveRequest;
+use flow_requests::{SecondFile, SolveRequest};
 use flow_search::{Options, Plan, PlanFault, prepare, prepare_from};
 use std::alloc::Global;
 use std::sync::Wait;
@@ -88,41 +90,56 @@ fn asked_plan<'a>(
     Ok(plan_of(alloc, instance, given, options)?)
 }
 
-/// Solves an instance as a request says, from a given sequence if there is one, and writes the certificate of its plan.
-#[inline(never)]
-fn solve_instance<R: Threads + Wait + Sync, G: Gate + Sync, K: Sink>(
-    rt: &R,
-    alloc: Global,
-    instance: &Instance,
-    given: Option<Sequence>,
-    request: SolveRequest,
-    gate: &G,
-    out: &mut K,
-) -> Result<(), CommandFault>
-    requires out_works { K.has_failed out.old ≡ false }
-    requires given { IfSome given (IsSequence instance.now.jobs) }
-    ensures { Responds (AnswersSolve request instance.now given) (sink_run K.Sink out.old out.new) result }
-{
-    let plan = asked_plan(alloc, instance, given, request)?;
-    solve_plan(rt, alloc, &plan, gate, out)
+/// How a block is solved: by which threads, past which gate, and as a request says. This is no `Command`: the kit proves
+/// no method of a trait yet that hands a gate to threads.
+#[derive(Drop)]
+pub(crate) struct Solve<'a, R, G> {
+    pub(crate) rt: &'a R,
+    pub(crate) gate: &'a G,
+    pub(crate) request: SolveRequest,
 }
 
-/// Solves a block as a request says, from the sequence of a start text if there is one.
+/// Solves a block, from the sequence of a start text if there is one, and writes the certificate of its plan.
 fn solve_block<R: Threads + Wait + Sync, G: Gate + Sync, K: Sink>(
-    rt: &R,
+    solve: &Solve<R, G>,
     alloc: Global,
     picked: PickedBlock,
-    start: Option<Vec<u8>>,
-    request: SolveRequest,
-    gate: &G,
+    start: SecondFile<Vec<u8>>,
     out: &mut K,
 ) -> Result<(), CommandFault>
-    requires out_works { K.has_failed out.old ≡ false }
-    ensures { Responds (FromStart (AnswersSolve request) (origin_of picked) (bytes_of start))
+    requires { K.has_failed out.old ≡ false }
+    ensures { Responds (FromStart (AnswersSolve solve.now.request) (origin_of picked) (bytes_of (file_in start)))
         (sink_run K.Sink out.old out.new) result }
 {
-    let given = sequence_given(alloc, &picked.block.instance, start)?;
-    solve_instance(rt, alloc, &picked.block.instance, given, request, gate, out)
+    let PickedBlock { block, .. } = picked;
+    let given = given_start(alloc, &block.instance, start)?;
+    let plan = asked_plan(alloc, &block.instance, given, solve.request)?;
+    solve_plan(solve.rt, alloc, &plan, solve.gate, out)
+}
+
+/// Solves the block of a text that an index names, as `run` runs a command. It starts from the sequence that a start
+/// text gives, or, where there is no such text, from that of Nawaz, Enscore and Ham.
+#[inline(never)]
+pub(crate) fn solve_over<R: Threads + Wait + Sync, S: Source, T: Source, G: Gate + Sync, K: Sink>(
+    alloc: Global,
+    file: &mut S,
+    index: u32,
+    second: &mut SecondFile<T>,
+    solve: &Solve<R, G>,
+    out: &mut K,
+) -> Result<(), CommandFault>
+    requires file_works { S.has_failed file.old ≡ false }
+    requires second_works { ForSome (file_in second.old) (λ source. T.has_failed source ≡ false) }
+    requires out_works { K.has_failed out.old ≡ false }
+    ensures ran { Ran (kind_of second.old) (FromStart (AnswersSolve solve.now.request)) index
+        (run_of (source_run S.Source file.old file.new)
+        (second_run T.Source (file_in second.old) (file_in second.new)) (sink_run K.Sink out.old out.new)) result }
+    ensures stays { is_some (file_in second.new) ≡ is_some (file_in second.old) }
+{
+    let text = read_file(alloc, file, FileKind::Text)?;
+    let picked = block_at(alloc, text, index)?;
+    let bytes = read_second(alloc, second)?;
+    solve_block(solve, alloc, picked, bytes, out)
 }
 
 /// Solves the block that an index names, from the starting sequence of Nawaz, Enscore and Ham, and writes the
@@ -157,35 +174,7 @@ pub fn run_solve<R: Threads + Wait + Sync, S: Source, G: Gate + Sync, K: Sink>(
         budget,
         version,
     };
-    let no_start = &mut None::<MemorySource>;
-    run_solve_as(rt, alloc, file, index, no_start, request, gate, out)
-}
-
-/// Solves the block that an index names as a request says, and writes the certificate of its plan. It starts from the
-/// sequence that a start text gives, or, where there is no such text, from that of Nawaz, Enscore and Ham.
-#[inline(never)]
-pub fn run_solve_as<R: Threads + Wait + Sync, S: Source, T: Source, G: Gate + Sync, K: Sink>(
-    rt: &R,
-    alloc: Global,
-    file: &mut S,
-    index: u32,
-    start: &mut Option<T>,
-    request: SolveRequest,
-    gate: &G,
-    out: &mut K,
-) -> Result<(), CommandFault>
-    requires file_works { S.has_failed file.old ≡ false }
-    requires start_works { ForSome start.old (λ source. T.has_failed source ≡ false) }
-    requires out_works { K.has_failed out.old ≡ false }
-    ensures ran { Ran FileKind.Text (FromStart (AnswersSolve request)) index
-        (run_of (source_run S.Source file.old file.new) (second_run T.Source start.old start.new)
-        (sink_run K.Sink out.old out.new)) result }
-    ensures lawful { OnOk result (CameFor index (λ shop. WroteCertificate shop (sink_run K.Sink out.old out.new))
-        (source_run S.Source file.old file.new)) }
-    ensures start_stays { is_some start.new ≡ is_some start.old }
-{
-    // This is no `Command`: the kit proves no method of a trait yet that hands a gate to threads.
-    let picked = read_picked(alloc, file, index)?;
-    let start = read_second(alloc, start, FileKind::Text)?;
-    solve_block(rt, alloc, picked, start, request, gate, out)
+    let absent = &mut SecondFile::<MemorySource>::Absent;
+    let solve = Solve { rt, gate, request };
+    solve_over(alloc, file, index, absent, &solve, out)
 }

@@ -7,11 +7,12 @@ ghost use Rattle.flow_commands.specs.Runs.{Ran, run_alone, sink_run, source_run}
 ghost use Rattle.flow_commands.specs.Span.{AnswersSpan, span_answer};
 
 use crate::block::PickedBlock;
-use crate::command::{Answering, Printed, run_over};
+use crate::command::{Command, run};
 use crate::files::FileKind;
 use crate::printed::makespan_line;
 use crate::refusals::CommandFault;
-use flow_core::{Instance, MemorySource, Sequence, SequenceFault, Sink, Source, makespan};
+use flow_core::{Instance, MemorySource, Sequence, SequenceFault, Sink, Source, makespan, put_all};
+use flow_requests::SecondFile;
 use std::alloc::Global;
 
 /// Answers the makespan of jobs in this order.
@@ -29,16 +30,21 @@ fn span_line(alloc: Global, instance: &Instance, jobs: &[u16]) -> Result<Vec<u8>
     Ok(makespan_line(alloc, makespan(instance, &sequence))?)
 }
 
-impl<'a> Answering for Span<'a> {
+impl<'a> Command for Span<'a> {
+    ghost is_ready = { λ _. Unit {0} };
+
     ghost answers = { λ s. OfShop (AnswersSpan s.jobs.now) };
 
-    fn answer(
+    fn respond<K: Sink>(
         &self,
         alloc: Global,
         picked: PickedBlock,
-        _second: Option<Vec<u8>>,
-    ) -> Result<Vec<u8>, CommandFault> {
-        Ok(span_line(alloc, &picked.block.instance, self.jobs)?)
+        _second: SecondFile<Vec<u8>>,
+        out: &mut K,
+    ) -> Result<(), CommandFault> {
+        let text = span_line(alloc, &picked.block.instance, self.jobs)?;
+        put_all(out, text.as_slice())?;
+        Ok(())
     }
 }
 
@@ -55,14 +61,6 @@ pub fn run_span<S: Source, K: Sink>(
     ensures { Ran FileKind.Text (OfShop (AnswersSpan jobs.now)) index
         (run_alone (source_run S.Source file.old file.new) (sink_run K.Sink out.old out.new)) result }
 {
-    let command = Printed(Span { jobs });
-    run_over(
-        alloc,
-        file,
-        index,
-        FileKind::Text,
-        &mut None::<MemorySource>,
-        &command,
-        out,
-    )
+    let absent = &mut SecondFile::<MemorySource>::Absent;
+    run(alloc, file, index, absent, &Span { jobs }, out)
 }

@@ -1,6 +1,7 @@
 //! The starting sequence that a start text gives.
 
 ghost use Rattle.std.specs.Prelude.{◌≡◌, ◌⊎◌, Ok, Err, IfOk, IfErr, IfSome};
+ghost use Rattle.flow_requests.specs.SecondFile.{file_in};
 ghost use Rattle.flow_core.specs.Sequences.{IsSequence};
 ghost use Rattle.flow_commands.specs.internal.Devices.{NamesNoDevice};
 ghost use Rattle.flow_commands.specs.Start.{GivesStart, StartsFrom};
@@ -10,11 +11,12 @@ ghost use Rattle.flow_commands.specs.internal.Reading.{bytes_of};
 use crate::refusals::CommandFault;
 use flow_bound::neh;
 use flow_core::{Instance, Sequence, StartFault, makespan, read_start};
+use flow_requests::SecondFile;
 use std::alloc::{AllocError, Global};
 
 /// The sequence that a start text gives for an instance; or the first fault of the text, of its jobs, or of its
 /// makespan.
-pub(crate) fn given_sequence(
+pub(crate) fn sequence_of_start(
     alloc: Global,
     instance: &Instance,
     text: &[u8],
@@ -35,20 +37,20 @@ pub(crate) fn given_sequence(
     Ok(sequence)
 }
 
-/// The sequence that a start text gives for an instance, where there is such a text.
-pub(crate) fn sequence_given(
+/// The sequence that a start text gives for an instance; none where it is absent.
+pub(crate) fn given_start(
     alloc: Global,
     instance: &Instance,
-    text: Option<Vec<u8>>,
+    start: SecondFile<Vec<u8>>,
 ) -> Result<Option<Sequence>, CommandFault>
-    ensures given { IfOk result (GivesSequence instance.now (bytes_of text)) }
+    ensures given { IfOk result (GivesSequence instance.now (bytes_of (file_in start))) }
     ensures each { IfOk result (λ given. IfSome given (IsSequence instance.now.jobs)) }
     ensures refused { IfErr result (λ fault. (fault ≡ CommandFault.Memory)
-        ⊎ RefusesStart instance.now (bytes_of text) fault) }
+        ⊎ RefusesStart instance.now (bytes_of (file_in start)) fault) }
     ensures device { NamesNoDevice result }
 {
-    match text {
-        Some(text) => Ok(Some(given_sequence(alloc, instance, text.as_slice())?)),
+    match start.file() {
+        Some(text) => Ok(Some(sequence_of_start(alloc, instance, text.as_slice())?)),
         None => Ok(None),
     }
 }

@@ -7,7 +7,7 @@ ghost use Rattle.flow_commands.specs.Schedule.{GivesCertified, GivesTimed};
 
 use crate::files::begins_as_certificate;
 use crate::refusals::CommandFault;
-use crate::start::given_sequence;
+use crate::start::sequence_of_start;
 use flow_check::{Shown, check_text, kind_of};
 use flow_core::{Instance, Sequence};
 use std::alloc::Global;
@@ -57,7 +57,7 @@ pub(crate) fn timed_sequence(
         return certified_sequence(alloc, instance, text);
     }
     Ok(TimedSequence {
-        sequence: given_sequence(alloc, instance, text)?,
+        sequence: sequence_of_start(alloc, instance, text)?,
         lower: None,
     })
 }

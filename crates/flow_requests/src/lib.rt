@@ -2,6 +2,9 @@
 //! commands refuse those beyond their limits.
 #![tactic(auto)]
 
+ghost use Rattle.std.specs.Prelude.{◌≡◌};
+ghost use Rattle.flow_requests.specs.SecondFile.{file_in};
+
 /// How a block is solved.
 #[derive(Clone, Copy, Debug, PartialEq)]
 pub struct SolveRequest {
@@ -39,11 +42,9 @@ pub struct CertifyRequest {
     pub workers: u32,
 }
 
-/// Which texts are accepted, and what is printed.
+/// What is printed of a lawful text, and which bounds suffice.
 #[derive(Clone, Copy, Debug, PartialEq)]
 pub struct CheckRequest {
-    /// Whether a two-ended certificate is accepted too, by its first line.
-    pub two_ended: bool,
     /// What is printed of a lawful text.
     pub output: CheckOutput,
     /// Whether a text is refused whose bounds are not one number.
@@ -97,6 +98,33 @@ pub enum Request {
     Schedule(ScheduleForm),
 }
 
+/// The file that a request reads beside the text, by what it is read as: its name, its source or its bytes.
+#[derive(Clone, Copy, Debug, PartialEq, Drop)]
+pub enum SecondFile<F> {
+    /// None is read.
+    Absent,
+    /// A start.
+    Start(F),
+    /// A certificate, two-ended or not.
+    Certificate(F),
+    /// A certificate, where it begins as one, and else a start.
+    StartOrCertificate(F),
+}
+
+impl<F> SecondFile<F> {
+    /// The file, where there is one.
+    pub fn file(self) -> Option<F>
+        ensures { result ≡ file_in self }
+    {
+        match self {
+            SecondFile::Absent => None,
+            SecondFile::Start(file) => Some(file),
+            SecondFile::Certificate(file) => Some(file),
+            SecondFile::StartOrCertificate(file) => Some(file),
+        }
+    }
+}
+
 /// What a command line asks for.
 #[derive(Debug, PartialEq, Drop)]
 pub enum Invocation<'a> {
@@ -115,8 +143,8 @@ pub enum Invocation<'a> {
         file: &'a str,
         /// The block's number in the text, from 1.
         index: u32,
-        /// The name of the second file: a starting sequence, a certificate, or a sequence to be timed.
-        second: Option<&'a str>,
+        /// The name of the second file.
+        second: SecondFile<&'a str>,
         /// What is asked of the block.
         request: Request,
     },

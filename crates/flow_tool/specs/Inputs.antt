@@ -2,6 +2,9 @@
 use Rattle.std.specs.Prelude.{◌≡◌, ◌≢◌, ℕ, List, codes, Option, Some, None}
 use Rattle.std.specs.Borrow.{Bor}
 use Rattle.flow_text.specs.declared.bytes.device.Source as sources
+use Rattle.flow_requests.specs.SecondFile.{file_in}
+use Rattle.flow_requests.specs.declared.SecondFile.{SecondFile}
+use Rattle.flow_requests.specs.declared.SecondFile.TheVariants as second
 use Rattle.flow_commands.specs.Runs.{SourceRun, second_run}
 use Rattle.flow_tool.specs.declared.inputs.Text.{Text}
 use Rattle.flow_tool.specs.declared.inputs.Text.TheVariants.{Standard, File}
@@ -45,10 +48,12 @@ IsText names name (File file) = (name ≢ codes "stdin") × names.opened name fi
 abbrev pub RefusedText : {A : Type 0} → {B : Type 0} → Names A B → List ℕ → Type 0
 RefusedText names name = (name ≢ codes "stdin") × names.refused name
 
--- the name of a second file opened this file; or there is neither
-abbrev pub IsSecond : {A : Type 0} → {B : Type 0} → Names A B → Option (Bor (List ℕ)) → Option B → Type 0
-IsSecond names None None = Unit {0}
-IsSecond names (Some name) (Some file) = names.opened name.now file
+-- the name of a second file opened this file, which is read as the same; or there is neither
+abbrev pub IsSecond : {A : Type 0} → {B : Type 0} → Names A B → SecondFile (Bor (List ℕ)) → SecondFile B → Type 0
+IsSecond names second.Absent second.Absent = Unit {0}
+IsSecond names (second.Start name) (second.Start file) = names.opened name.now file
+IsSecond names (second.Certificate name) (second.Certificate file) = names.opened name.now file
+IsSecond names (second.StartOrCertificate name) (second.StartOrCertificate file) = names.opened name.now file
 IsSecond names name file = ⊥
 
 -- a second file is named, and could not be opened
@@ -63,9 +68,10 @@ abbrev pub RunOfText :
 RunOfText {A} {B} standard file names name Holds =
     (text : Text A B) × (after : Text A B) × IsText names name text × Holds (text_run standard file text after)
 
--- the same of a run of the second file, whose name may be left out
+-- the same of a second file that the name stands for, which may be absent, and of its run
 abbrev pub RunOfSecond :
-    {A : Type 0} → {B : Type 0} → sources.Ghosts B → Names A B → Option (Bor (List ℕ))
-    → (Option (SourceRun B) → Type 0) → Type 0
+    {A : Type 0} → {B : Type 0} → sources.Ghosts B → Names A B → SecondFile (Bor (List ℕ))
+    → (SecondFile B → Option (SourceRun B) → Type 0) → Type 0
 RunOfSecond {A} {B} file names name Holds =
-    (second : Option B) × (after : Option B) × IsSecond names name second × Holds (second_run file second after)
+    (second : SecondFile B) × (after : SecondFile B) × IsSecond names name second
+    × Holds second (second_run file (file_in second) (file_in after))

@@ -4,7 +4,9 @@ use Rattle.flow_text.specs.declared.bytes.device.Source as sources
 use Rattle.flow_requests.specs.declared.Invocation.{Invocation}
 use Rattle.flow_requests.specs.declared.Invocation.TheVariants.{Gen, OfBlock}
 use Rattle.flow_commands.specs.Generate.{AnswersGen}
-use Rattle.flow_commands.specs.Request.{answers, second_kind}
+use Rattle.flow_requests.specs.SecondFile.{file_in}
+use Rattle.flow_commands.specs.Files.{kind_of}
+use Rattle.flow_commands.specs.Request.{answers}
 use Rattle.flow_commands.specs.Runs.{IsUnwritten, Ran, Responds, SinkRun, run_of}
 use Rattle.flow_commands.specs.declared.refusals.CommandFault.{CommandFault}
 use Rattle.flow_tool.specs.Inputs.{Names, RefusedSecond, RefusedText, RunOfSecond, RunOfText}
@@ -29,9 +31,9 @@ Obeys standard file names (Gen jobs machines seed) sink result =
 Obeys standard file names (OfBlock name index second request) sink result =
     (IsErrOf result Open × RefusedText names name.now × IsUnwritten sink)
     ⊎ RunOfText standard file names name.now (λ text.
-    (IsErrOf result Open × RefusedSecond names second × (text.after ≡ text.before) × IsUnwritten sink)
-    ⊎ RunOfSecond file names second (λ given.
-    EndsAs (Ran (second_kind request) (answers request) index (run_of text given sink)) result))
+    (IsErrOf result Open × RefusedSecond names (file_in second) × (text.after ≡ text.before) × IsUnwritten sink)
+    ⊎ RunOfSecond file names second (λ opened given.
+    EndsAs (Ran (kind_of opened) (answers request) index (run_of text given sink)) result))
 
 -- the program did what words mean: what they ask for; or it wrote the text that explains them; or it stopped, and had
 -- written nothing, since memory ran out or since they are no command line
@@ -43,10 +45,10 @@ Follows meaning standard file names words sink result =
     ⊎ ((text : List ℕ) × meaning.explains words text × EndsAs (Responds (λ answer. answer ≡ Ok text) sink) result)
     ⊎ ((IsErrOf result Memory ⊎ (IsErrOf result CommandLine × meaning.refused words)) × IsUnwritten sink)
 
--- the same of words that the system gives: they are not known, and it may be that they can't be read
-abbrev pub FollowsSome :
+-- the same of words that may not be given: then the program stopped, by this reason, and had written nothing
+abbrev pub FollowsGiven :
     {A : Type 0} → {B : Type 0} → {K : Type 0} → Meaning → sources.Ghosts A → sources.Ghosts B → Names A B
-    → SinkRun K → Result (Unit {0}) Stop → Type 0
-FollowsSome meaning standard file names sink result =
-    ((words : List (List ℕ)) × Follows meaning standard file names words sink result)
-    ⊎ ((IsErrOf result Memory ⊎ IsErrOf result CommandLine) × IsUnwritten sink)
+    → Result (List (List ℕ)) Stop → SinkRun K → Result (Unit {0}) Stop → Type 0
+FollowsGiven meaning standard file names (Ok words) sink result =
+    Follows meaning standard file names words sink result
+FollowsGiven meaning standard file names (Err stop) sink result = (result ≡ Err stop) × IsUnwritten sink

@@ -1,7 +1,9 @@
 -- What the words of a command line mean.
-use Rattle.std.specs.Prelude.{◌≡◌, ◌||◌, ℕ, Bool, true, Any, List, codes, string_bytes}
+use Rattle.std.specs.Prelude.{◌≡◌, ◌||◌, ℕ, Bool, true, Any, List, map, codes, string_bytes, Result, Ok, Err}
 use Rattle.std.specs.Str.{bytes_eq}
 use Rattle.flow_requests.specs.declared.Invocation.{Invocation}
+use Rattle.std.specs.declared.vec.Vec.{Vec}
+use Rattle.flow_tool.specs.declared.refusal.Stop.{Stop}
 use Rattle.flow_tool.specs.declared.words.Asked.{Asked}
 use Rattle.flow_tool.specs.declared.words.Asked.TheVariants.{Explain, Run}
 
@@ -33,3 +35,8 @@ little_known = record {
 abbrev pub IsAsked : Meaning → List (List ℕ) → Asked → Type 0
 IsAsked meaning words (Run invocation) = meaning.asks words invocation
 IsAsked meaning words (Explain text) = meaning.explains words (string_bytes text)
+
+-- the texts of words, where they are given
+abbrev pub texts_of : {W A : Type 0} → (W → List ℕ) → Result (Vec W A) Stop → Result (List (List ℕ)) Stop
+texts_of text (Ok words) = Ok (map text words.items)
+texts_of text (Err stop) = Err stop

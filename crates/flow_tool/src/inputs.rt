@@ -2,10 +2,12 @@
 
 ghost use Rattle.std.specs.Prelude.{◌≡◌, false, IfNone, IfSome, IfOk, IfErr, OnErr};
 ghost use Rattle.std.specs.Option.{ForSome};
+ghost use Rattle.flow_requests.specs.SecondFile.{file_in};
 ghost use Rattle.flow_tool.specs.Inputs.{IsSecond, IsText, Names, RefusedSecond, RefusedText, shown, unknown_names};
 
 use crate::refusal::Stop;
 use flow_core::{Refused, Source, StdSource};
+use flow_requests::SecondFile;
 use std::fs::{File, OpenFile};
 use std::io::Input;
 use std::rt::Files;
@@ -80,23 +82,37 @@ pub(crate) fn open_text<I: Inputs>(
     if name == STANDARD {
         return Ok(Text::Standard(inputs.standard()));
     }
-    Ok(Text::File(inputs.open(name).ok_or(Stop::Open)?))
+    Ok(Text::File(open_file(inputs, name)?))
+}
+
+/// The file of this name, opened for reading.
+fn open_file<I: Inputs>(inputs: &I, name: &str) -> Result<I::File, Stop>
+    ensures works { IfOk result (λ file. I.File.has_failed file ≡ false) }
+    ensures opened { IfOk result ((I.names inputs.now).opened name.now) }
+    ensures refused { OnErr result ((I.names inputs.now).refused name.now) }
+    ensures stop { IfErr result (λ stop. stop ≡ Stop.Open) }
+{
+    inputs.open(name).ok_or(Stop::Open)
 }
 
 /// The second file, opened for reading, where one is named.
 pub(crate) fn open_second<I: Inputs>(
     inputs: &I,
-    name: Option<&str>,
-) -> Result<Option<I::File>, Stop>
-    ensures works { IfOk result (λ second. ForSome second (λ file. I.File.has_failed file ≡ false)) }
+    name: SecondFile<&str>,
+) -> Result<SecondFile<I::File>, Stop>
+    ensures works { IfOk result (λ second. ForSome (file_in second) (λ file. I.File.has_failed file ≡ false)) }
     ensures opened { IfOk result (IsSecond (I.names inputs.now) name.entry) }
-    ensures refused { OnErr result (RefusedSecond (I.names inputs.now) name.entry) }
+    ensures refused { OnErr result (RefusedSecond (I.names inputs.now) (file_in name.entry)) }
     ensures stop { IfErr result (λ stop. stop ≡ Stop.Open) }
 {
-    match name {
-        Some(name) => Ok(Some(inputs.open(name).ok_or(Stop::Open)?)),
-        None => Ok(None),
-    }
+    Ok(match name {
+        SecondFile::Absent => SecondFile::Absent,
+        SecondFile::Start(name) => SecondFile::Start(open_file(inputs, name)?),
+        SecondFile::Certificate(name) => SecondFile::Certificate(open_file(inputs, name)?),
+        SecondFile::StartOrCertificate(name) => {
+            SecondFile::StartOrCertificate(open_file(inputs, name)?)
+        }
+    })
 }
 
 /// Standard input and the files of the system.

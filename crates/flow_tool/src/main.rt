@@ -11,7 +11,8 @@ mod status;
 mod tests;
 mod words;
 
-use dispatch::run_given;
+use dispatch::{given_words, run_words};
+use flow_commands::Means;
 use flow_core::StdSink;
 use inputs::StdInputs;
 use lines::Lines;
@@ -29,9 +30,13 @@ fn main(rt: HostRuntime) -> ExitCode {
     let inputs = StdInputs::new(&rt);
     let progress = Progress::new(&rt, start);
     let mut out = StdSink::new(io::writer(&rt));
-    let refusal = run_given::<CommandLine, _, _, _, _>(
-        &rt, &rt, &inputs, &progress, &mut out,
-    ).err();
+    let means = Means {
+        rt: &rt,
+        alloc: rt.alloc(),
+        watch: &progress,
+    };
+    let words = given_words(&rt);
+    let refusal = run_words::<CommandLine, _, _, _, _, _>(&means, &inputs, words, &mut out).err();
     progress.end(refusal);
     match refusal {
         None => ExitCode::SUCCESS,

@@ -3,7 +3,7 @@
 use clap::ArgMatches;
 use flow_requests::{
     CertifyRequest, CheckOutput, CheckRequest, ImproveRequest, Invocation, Request, ScheduleForm,
-    SolveRequest,
+    SecondFile, SolveRequest,
 };
 use std::alloc::{AllocError, Global};
 
@@ -19,16 +19,16 @@ pub fn invocation_of<'a>(
         return span_of(alloc, given);
     }
     if let Some(given) = matches.subcommand_matches("neh") {
-        return Ok(of_block(given, None, Some(Request::Neh)));
+        return Ok(of_block(given, SecondFile::Absent, Some(Request::Neh)));
     }
     if let Some(given) = matches.subcommand_matches("solve") {
-        return Ok(of_block(given, given.get_str("start"), solve_of(given)));
+        return Ok(of_block(given, start_of(given), solve_of(given)));
     }
     if let Some(given) = matches.subcommand_matches("improve") {
-        return Ok(of_block(given, given.get_str("start"), improve_of(given)));
+        return Ok(of_block(given, start_of(given), improve_of(given)));
     }
     if let Some(given) = matches.subcommand_matches("certify") {
-        return Ok(of_block(given, given.get_str("start"), certify_of(given)));
+        return Ok(of_block(given, start_of(given), certify_of(given)));
     }
     if let Some(given) = matches.subcommand_matches("check") {
         return Ok(check_of(given));
@@ -47,10 +47,18 @@ fn gen_of<'a>(given: &ArgMatches<'a>) -> Option<Invocation<'a>> {
     })
 }
 
-/// What is asked of the block of a text, with the name of a second file if there is one; none where nothing is asked.
+/// The name of a start, which may be left out.
+fn start_of<'a>(given: &ArgMatches<'a>) -> SecondFile<&'a str> {
+    match given.get_str("start") {
+        Some(name) => SecondFile::Start(name),
+        None => SecondFile::Absent,
+    }
+}
+
+/// What is asked of the block of a text, with the name of the second file; none where nothing is asked.
 fn of_block<'a>(
     given: &ArgMatches<'a>,
-    second: Option<&'a str>,
+    second: SecondFile<&'a str>,
     request: Option<Request>,
 ) -> Option<Invocation<'a>> {
     let request = request?;
@@ -67,7 +75,7 @@ fn span_of<'a>(
     given: &ArgMatches<'a>,
 ) -> Result<Option<Invocation<'a>>, AllocError> {
     Ok(match jobs_of(alloc, given)? {
-        Some(jobs) => of_block(given, None, Some(Request::Span { jobs })),
+        Some(jobs) => of_block(given, SecondFile::Absent, Some(Request::Span { jobs })),
         None => None,
     })
 }
@@ -98,12 +106,11 @@ fn certify_of(given: &ArgMatches) -> Option<Request> {
 
 fn check_of<'a>(given: &ArgMatches<'a>) -> Option<Invocation<'a>> {
     let request = CheckRequest {
-        two_ended: true,
         output: output_of(given)?,
         optimal: given.get_flag("optimal"),
     };
-    let cert = given.get_str("CERT")?;
-    of_block(given, Some(cert), Some(Request::Check(request)))
+    let certificate = SecondFile::Certificate(given.get_str("CERT")?);
+    of_block(given, certificate, Some(Request::Check(request)))
 }
 
 /// What the words of `check` ask to print; none where they ask for two things.
@@ -118,8 +125,8 @@ fn output_of(given: &ArgMatches) -> Option<CheckOutput> {
 
 fn schedule_of<'a>(given: &ArgMatches<'a>) -> Option<Invocation<'a>> {
     let form = form_of(given.get_str("form")?)?;
-    let sequence = given.get_str("SEQUENCE")?;
-    of_block(given, Some(sequence), Some(Request::Schedule(form)))
+    let sequence = SecondFile::StartOrCertificate(given.get_str("SEQUENCE")?);
+    of_block(given, sequence, Some(Request::Schedule(form)))
 }
 
 /// The form of a name; none where no form has it.

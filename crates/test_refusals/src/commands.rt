@@ -2,14 +2,15 @@
 
 ghost use Rattle.std.specs.Prelude.{◌≡◌, false};
 ghost use Rattle.std.specs.Option.{ForSome};
+ghost use Rattle.flow_requests.specs.SecondFile.{file_in};
 
 use crate::groups::{is_refusal, refused_where};
 use crate::schedules::{TABLE, is_picture};
 use flow_check::CheckFault;
 use flow_commands::{
-    CertifyRequest, CheckOutput, CheckRequest, CommandFault, ImproveRequest, ScheduleForm,
-    SolveRequest, Unwatched, run_certify, run_check, run_check_as, run_gen, run_improve, run_neh,
-    run_schedule, run_solve, run_solve_as, run_span,
+    CertifyRequest, CheckOutput, CheckRequest, CommandFault, ImproveRequest, Means, Request,
+    ScheduleForm, SecondFile, SolveRequest, Unwatched, run_check, run_gen, run_neh, run_request,
+    run_solve, run_span,
 };
 use flow_core::{MemorySink, MemorySource, StartFault};
 use flow_pool::{Open, SolveFault};
@@ -103,63 +104,24 @@ const SOLVE: SolveRequest = SolveRequest {
     version: 1,
 };
 
-/// `check` of certificates of all kinds.
+/// `check` of what is proved.
 const CHECK: CheckRequest = CheckRequest {
-    two_ended: true,
     output: CheckOutput::Proved,
     optimal: false,
 };
 
-/// The same, where the sequence is printed.
-const CHECK_SEQUENCE: CheckRequest = CheckRequest {
-    output: CheckOutput::Sequence,
-    ..CHECK
-};
-
-/// The same, with a report.
-const CHECK_REPORT: CheckRequest = CheckRequest {
-    output: CheckOutput::Report,
-    ..CHECK
-};
-
-/// The same, where a least makespan has to be proved.
-const CHECK_OPTIMAL: CheckRequest = CheckRequest {
-    optimal: true,
-    ..CHECK
-};
-
-/// A command, with what it is given beside its texts.
+/// A call of a command, with what it is given beside its text.
 #[derive(Drop)]
-enum Command {
-    OfText(OfText),
-    OfStart(OfStart),
-    OfTexts(OfTexts),
-}
-
-/// A command that reads an instance, or nothing.
-#[derive(Drop)]
-enum OfText {
+enum Call {
     Gen,
     Span,
     Neh,
-    /// By `run_solve`, at a depth, within a budget.
+    /// At a depth, within a budget.
     Solve(u32, u32),
-}
-
-/// A command that reads an instance, and a start if there is one.
-#[derive(Drop)]
-enum OfStart {
-    Improve,
-    Certify(CertifyRequest),
-    SolveAs(SolveRequest),
-}
-
-/// A command that reads an instance and another text.
-#[derive(Drop)]
-enum OfTexts {
-    Check,
-    CheckAs(CheckRequest),
-    Schedule(ScheduleForm),
+    /// Of a certificate.
+    Check(&'static [u8]),
+    /// By `run_request`, with a second file.
+    Request(SecondFile<&'static [u8]>, Request),
 }
 
 /// What a command is to write, or its fault.
@@ -173,206 +135,190 @@ enum Wanted {
 /// A run of a command.
 #[derive(Drop)]
 pub(crate) struct Run {
-    /// The name of the call.
+    /// The name of the run.
     pub name: &'static str,
     text: &'static [u8],
-    /// Its start, its certificate, or its sequence.
-    beside: Option<&'static [u8]>,
-    command: Command,
+    call: Call,
     wanted: Wanted,
 }
 
 /// All runs.
-pub(crate) static RUNS: [Run; 26] = [
+pub(crate) const RUNS: [Run; 20] = [
     Run {
         name: "run_span",
         text: TWO_MACHINES_TEXT,
-        beside: None,
-        command: Command::OfText(OfText::Span),
+        call: Call::Span,
         wanted: Wanted::Text(b"makespan 9\n"),
     },
     Run {
         name: "run_gen",
         text: b"",
-        beside: None,
-        command: Command::OfText(OfText::Gen),
+        call: Call::Gen,
         wanted: Wanted::Text(GENERATED_TEXT),
     },
     Run {
         name: "run_neh",
         text: TWO_MACHINES_TEXT,
-        beside: None,
-        command: Command::OfText(OfText::Neh),
+        call: Call::Neh,
         wanted: Wanted::Text(b"sequence 2 3 1\nmakespan 9\n"),
-    },
-    Run {
-        name: "run_improve",
-        text: THREE_MACHINES_TEXT,
-        beside: None,
-        command: Command::OfStart(OfStart::Improve),
-        wanted: Wanted::Text(b"sequence 2 1 3\nmakespan 13\n"),
-    },
-    Run {
-        name: "run_improve from a start",
-        text: THREE_MACHINES_TEXT,
-        beside: Some(START),
-        command: Command::OfStart(OfStart::Improve),
-        wanted: Wanted::Text(START),
-    },
-    Run {
-        name: "run_certify from a start",
-        text: THREE_MACHINES_TEXT,
-        beside: Some(START),
-        command: Command::OfStart(OfStart::Certify(PROVED)),
-        wanted: Wanted::Text(TWO_ENDED_12),
-    },
-    Run {
-        name: "run_certify with a few directions",
-        text: TEN_JOBS_TEXT,
-        beside: None,
-        command: Command::OfStart(OfStart::Certify(BOUNDED)),
-        wanted: Wanted::Text(BOUNDS_OF_TEN_JOBS),
-    },
-    Run {
-        name: "run_certify by two workers",
-        text: ONE_LONG_JOB_TEXT,
-        beside: None,
-        command: Command::OfStart(OfStart::Certify(CertifyRequest {
-            workers: 2,
-            ..PROVED
-        })),
-        wanted: Wanted::Text(BY_TWO_WORKERS),
     },
     Run {
         name: "run_solve",
         text: THREE_MACHINES_TEXT,
-        beside: None,
-        command: Command::OfText(OfText::Solve(0, AMPLE)),
+        call: Call::Solve(0, AMPLE),
         wanted: Wanted::Text(&CERTIFICATE_AT_DEPTH_0),
     },
     Run {
         name: "run_solve beyond the budget",
         text: THREE_MACHINES_TEXT,
-        beside: None,
-        command: Command::OfText(OfText::Solve(1, TIGHT)),
+        call: Call::Solve(1, TIGHT),
         wanted: Wanted::Fault(CommandFault::Run(SolveFault::OverBudget(2))),
-    },
-    Run {
-        name: "run_solve_as in version 2",
-        text: THREE_MACHINES_TEXT,
-        beside: None,
-        command: Command::OfStart(OfStart::SolveAs(SolveRequest {
-            version: 2,
-            ..SOLVE
-        })),
-        wanted: Wanted::Text(CERTIFICATE_2),
-    },
-    Run {
-        name: "run_solve_as from a start",
-        text: THREE_MACHINES_TEXT,
-        beside: Some(START),
-        command: Command::OfStart(OfStart::SolveAs(SOLVE)),
-        wanted: Wanted::Text(STARTED_CERTIFICATE),
-    },
-    Run {
-        name: "run_solve_as from a start with another makespan",
-        text: THREE_MACHINES_TEXT,
-        beside: Some(b"sequence 1 2 3\nmakespan 14\n"),
-        command: Command::OfStart(OfStart::SolveAs(SOLVE)),
-        wanted: Wanted::Fault(CommandFault::Start(StartFault::Line(2))),
     },
     Run {
         name: "run_check",
         text: THREE_MACHINES_TEXT,
-        beside: Some(&CERTIFICATE_AT_DEPTH_0),
-        command: Command::OfTexts(OfTexts::Check),
+        call: Call::Check(&CERTIFICATE_AT_DEPTH_0),
         wanted: Wanted::Text(b"optimal 12\n"),
     },
     Run {
         name: "run_check of a text with a weak letter",
         text: THREE_MACHINES_TEXT,
-        beside: Some(WEAK_CERTIFICATE),
-        command: Command::OfTexts(OfTexts::Check),
+        call: Call::Check(WEAK_CERTIFICATE),
         wanted: Wanted::Fault(CommandFault::Certificate(CheckFault::Weak(7))),
     },
     Run {
-        name: "run_check_as of version 2",
+        name: "improve from a start",
         text: THREE_MACHINES_TEXT,
-        beside: Some(CERTIFICATE_2),
-        command: Command::OfTexts(OfTexts::CheckAs(CHECK)),
-        wanted: Wanted::Text(b"optimal 12\n"),
+        call: Call::Request(SecondFile::Start(START), Request::Improve(NO_ROUND)),
+        wanted: Wanted::Text(START),
     },
     Run {
-        name: "run_check_as of a sequence",
+        name: "certify from a start",
         text: THREE_MACHINES_TEXT,
-        beside: Some(&CERTIFICATE_AT_DEPTH_0),
-        command: Command::OfTexts(OfTexts::CheckAs(CHECK_SEQUENCE)),
+        call: Call::Request(
+            SecondFile::Start(START),
+            Request::Certify {
+                request: PROVED,
+                progress: false,
+            },
+        ),
+        wanted: Wanted::Text(TWO_ENDED_12),
+    },
+    Run {
+        name: "certify with a few directions",
+        text: TEN_JOBS_TEXT,
+        call: Call::Request(
+            SecondFile::Absent,
+            Request::Certify {
+                request: BOUNDED,
+                progress: false,
+            },
+        ),
+        wanted: Wanted::Text(BOUNDS_OF_TEN_JOBS),
+    },
+    Run {
+        name: "certify by two workers",
+        text: ONE_LONG_JOB_TEXT,
+        call: Call::Request(
+            SecondFile::Absent,
+            Request::Certify {
+                request: CertifyRequest {
+                    workers: 2,
+                    ..PROVED
+                },
+                progress: false,
+            },
+        ),
+        wanted: Wanted::Text(BY_TWO_WORKERS),
+    },
+    Run {
+        name: "solve in version 2",
+        text: THREE_MACHINES_TEXT,
+        call: Call::Request(
+            SecondFile::Absent,
+            Request::Solve(SolveRequest {
+                version: 2,
+                ..SOLVE
+            }),
+        ),
+        wanted: Wanted::Text(CERTIFICATE_2),
+    },
+    Run {
+        name: "solve from a start",
+        text: THREE_MACHINES_TEXT,
+        call: Call::Request(SecondFile::Start(START), Request::Solve(SOLVE)),
+        wanted: Wanted::Text(STARTED_CERTIFICATE),
+    },
+    Run {
+        name: "solve from a start with another makespan",
+        text: THREE_MACHINES_TEXT,
+        call: Call::Request(
+            SecondFile::Start(b"sequence 1 2 3\nmakespan 14\n"),
+            Request::Solve(SOLVE),
+        ),
+        wanted: Wanted::Fault(CommandFault::Start(StartFault::Line(2))),
+    },
+    Run {
+        name: "check of a two-ended sequence",
+        text: THREE_MACHINES_TEXT,
+        call: Call::Request(
+            SecondFile::Certificate(TWO_ENDED_12),
+            Request::Check(CheckRequest {
+                output: CheckOutput::Sequence,
+                ..CHECK
+            }),
+        ),
         wanted: Wanted::Text(CHECKED_LINES),
     },
     Run {
-        name: "run_check_as of a two-ended sequence",
-        text: THREE_MACHINES_TEXT,
-        beside: Some(TWO_ENDED_12),
-        command: Command::OfTexts(OfTexts::CheckAs(CHECK_SEQUENCE)),
-        wanted: Wanted::Text(CHECKED_LINES),
-    },
-    Run {
-        name: "run_check_as with a report",
+        name: "check with a report",
         text: GENERATED_TEXT,
-        beside: Some(TWO_ENDED_OF_SEED),
-        command: Command::OfTexts(OfTexts::CheckAs(CHECK_REPORT)),
+        call: Call::Request(
+            SecondFile::Certificate(TWO_ENDED_OF_SEED),
+            Request::Check(CheckRequest {
+                output: CheckOutput::Report,
+                ..CHECK
+            }),
+        ),
         wanted: Wanted::Text(REPORT),
     },
     Run {
-        name: "run_check_as of bounds",
+        name: "check of bounds",
         text: THREE_MACHINES_TEXT,
-        beside: Some(TWO_ENDED_11),
-        command: Command::OfTexts(OfTexts::CheckAs(CHECK)),
+        call: Call::Request(SecondFile::Certificate(TWO_ENDED_11), Request::Check(CHECK)),
         wanted: Wanted::Text(b"bounds 11 13\n"),
     },
     Run {
-        name: "run_check_as of bounds for an optimum",
+        name: "check of bounds for an optimum",
         text: THREE_MACHINES_TEXT,
-        beside: Some(TWO_ENDED_11),
-        command: Command::OfTexts(OfTexts::CheckAs(CHECK_OPTIMAL)),
+        call: Call::Request(
+            SecondFile::Certificate(TWO_ENDED_11),
+            Request::Check(CheckRequest {
+                optimal: true,
+                ..CHECK
+            }),
+        ),
         wanted: Wanted::Fault(CommandFault::Bounds {
             lower: 11,
             upper: 13,
         }),
     },
     Run {
-        name: "run_check_as of a two-ended certificate",
-        text: THREE_MACHINES_TEXT,
-        beside: Some(TWO_ENDED_12),
-        command: Command::OfTexts(OfTexts::CheckAs(CHECK_OPTIMAL)),
-        wanted: Wanted::Text(b"optimal 12\n"),
-    },
-    Run {
-        name: "run_schedule of a table",
+        name: "schedule of a table",
         text: TWO_MACHINES_TEXT,
-        beside: Some(b"sequence 2 3 1\n"),
-        command: Command::OfTexts(OfTexts::Schedule(ScheduleForm::Csv)),
+        call: Call::Request(
+            SecondFile::StartOrCertificate(b"sequence 2 3 1\n"),
+            Request::Schedule(ScheduleForm::Csv),
+        ),
         wanted: Wanted::Text(TABLE),
     },
     Run {
-        name: "run_schedule of a two-ended certificate",
+        name: "schedule of a two-ended certificate",
         text: THREE_MACHINES_TEXT,
-        beside: Some(TWO_ENDED_12),
-        command: Command::OfTexts(OfTexts::Schedule(ScheduleForm::Svg)),
-        wanted: Wanted::Picture,
-    },
-    Run {
-        name: "run_schedule of a text with a weak letter",
-        text: THREE_MACHINES_TEXT,
-        beside: Some(WEAK_CERTIFICATE),
-        command: Command::OfTexts(OfTexts::Schedule(ScheduleForm::Csv)),
-        wanted: Wanted::Fault(CommandFault::Certificate(CheckFault::Weak(7))),
-    },
-    Run {
-        name: "run_schedule of a picture",
-        text: THREE_MACHINES_TEXT,
-        beside: Some(b"sequence 3 1 2\n"),
-        command: Command::OfTexts(OfTexts::Schedule(ScheduleForm::Svg)),
+        call: Call::Request(
+            SecondFile::StartOrCertificate(TWO_ENDED_12),
+            Request::Schedule(ScheduleForm::Svg),
+        ),
         wanted: Wanted::Picture,
     },
 ];
@@ -384,77 +330,15 @@ fn all_of(bytes: &[u8]) -> MemorySource
     MemorySource::new(bytes, 7, None)
 }
 
-/// A source of all these bytes, where there are some.
-fn all_of_any(bytes: Option<&'static [u8]>) -> Option<MemorySource<'static>>
-    ensures { ForSome result (λ source. source.failed ≡ false) }
+/// The source of a second file.
+fn second_of(second: SecondFile<&'static [u8]>) -> SecondFile<MemorySource<'static>>
+    ensures { ForSome (file_in result) (λ source. source.failed ≡ false) }
 {
-    match bytes {
-        Some(bytes) => Some(all_of(bytes)),
-        None => None,
-    }
-}
-
-/// Runs a command that reads an instance, or nothing.
-fn ran_of_text<T: Threads + Wait + Sync>(
-    threads: &T,
-    alloc: Global,
-    text: &'static [u8],
-    command: &OfText,
-    out: &mut MemorySink,
-) -> Result<(), CommandFault>
-    requires { out.old.failed ≡ false }
-{
-    let mut file = all_of(text);
-    match command {
-        OfText::Gen => run_gen(alloc, 2, 2, 1, out),
-        OfText::Span => run_span(alloc, &mut file, 1, &[2, 3, 1], out),
-        OfText::Neh => run_neh(alloc, &mut file, 1, out),
-        OfText::Solve(depth, budget) => run_solve(
-            threads, alloc, &mut file, 1, 2, *depth, *budget, 1, &Open, out,
-        ),
-    }
-}
-
-/// Runs a command that reads an instance, and a start if there is one.
-fn ran_of_start<T: Threads + Wait + Sync>(
-    threads: &T,
-    alloc: Global,
-    run: &Run,
-    command: &OfStart,
-    out: &mut MemorySink,
-) -> Result<(), CommandFault>
-    requires { out.old.failed ≡ false }
-{
-    let mut file = all_of(run.text);
-    let mut start = all_of_any(run.beside);
-    match command {
-        OfStart::Improve => run_improve(alloc, &mut file, 1, &mut start, NO_ROUND, out),
-        OfStart::Certify(request) => {
-            run_certify(
-                threads, alloc, &mut file, 1, &mut start, *request, &Unwatched, out,
-            )
-        }
-        OfStart::SolveAs(request) => run_solve_as(
-            threads, alloc, &mut file, 1, &mut start, *request, &Open, out,
-        ),
-    }
-}
-
-/// Runs a command that reads an instance and another text.
-fn ran_of_texts(
-    alloc: Global,
-    run: &Run,
-    command: &OfTexts,
-    out: &mut MemorySink,
-) -> Result<(), CommandFault>
-    requires { out.old.failed ≡ false }
-{
-    let mut file = all_of(run.text);
-    let mut other = all_of(run.beside.unwrap_or(b""));
-    match command {
-        OfTexts::Check => run_check(alloc, &mut file, 1, &mut other, out),
-        OfTexts::CheckAs(request) => run_check_as(alloc, &mut file, 1, &mut other, *request, out),
-        OfTexts::Schedule(form) => run_schedule(alloc, &mut file, 1, &mut other, *form, out),
+    match second {
+        SecondFile::Absent => SecondFile::Absent,
+        SecondFile::Start(bytes) => SecondFile::Start(all_of(bytes)),
+        SecondFile::Certificate(bytes) => SecondFile::Certificate(all_of(bytes)),
+        SecondFile::StartOrCertificate(bytes) => SecondFile::StartOrCertificate(all_of(bytes)),
     }
 }
 
@@ -467,10 +351,25 @@ fn ran<T: Threads + Wait + Sync>(
 ) -> Result<(), CommandFault>
     requires { out.old.failed ≡ false }
 {
-    match &run.command {
-        Command::OfText(command) => ran_of_text(threads, alloc, run.text, command, out),
-        Command::OfStart(command) => ran_of_start(threads, alloc, run, command, out),
-        Command::OfTexts(command) => ran_of_texts(alloc, run, command, out),
+    let mut file = all_of(run.text);
+    match &run.call {
+        Call::Gen => run_gen(alloc, 2, 2, 1, out),
+        Call::Span => run_span(alloc, &mut file, 1, &[2, 3, 1], out),
+        Call::Neh => run_neh(alloc, &mut file, 1, out),
+        Call::Solve(depth, budget) => run_solve(
+            threads, alloc, &mut file, 1, 2, *depth, *budget, 1, &Open, out,
+        ),
+        Call::Check(certificate) => {
+            run_check(alloc, &mut file, 1, &mut all_of(*certificate), out)
+        }
+        Call::Request(second, request) => {
+            let means = Means {
+                rt: threads,
+                alloc,
+                watch: &Unwatched,
+            };
+            run_request(&means, &mut file, 1, &mut second_of(*second), request, out)
+        }
     }
 }
 

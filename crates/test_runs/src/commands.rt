@@ -2,11 +2,17 @@
 
 ghost use Rattle.std.specs.Prelude.{◌≡◌, false};
 ghost use Rattle.std.specs.Option.{ForSome};
+ghost use Rattle.flow_requests.specs.SecondFile.{file_in};
 
-use flow_commands::{CommandFault, ImproveRequest, run_gen, run_neh};
+use flow_commands::{
+    CheckOutput, CheckRequest, CommandFault, ImproveRequest, Means, Request, SecondFile, Unwatched,
+    run_gen, run_neh, run_request,
+};
 use flow_core::{MemorySink, MemorySource, ReadFault, WriteFault};
 use std::alloc::Global;
-use texts::{START, THREE_MACHINES};
+use std::sync::Wait;
+use std::thread::Threads;
+use texts::THREE_MACHINES;
 
 mod certify;
 mod check;
@@ -17,8 +23,8 @@ mod improve;
 mod neh;
 mod schedule;
 mod solve;
-mod solve_as;
 mod span;
+mod starts;
 mod texts;
 
 /// The budget of a tree where none is to be refused.
@@ -76,15 +82,15 @@ fn comes_to(
     ends(ran, out, end_of(wanted))
 }
 
-/// What a command reads: a text and an index, and another text if there is one; and how many bytes each gives before it
-/// refuses, if it does.
+/// What a run reads: a text and an index, and a second file; and how many bytes each gives before it refuses, if it
+/// does.
 #[derive(Clone, Copy)]
 struct Given<'a> {
     text: &'a [u8],
     text_most: Option<usize>,
     index: u32,
-    beside: Option<&'a [u8]>,
-    beside_most: Option<usize>,
+    second: SecondFile<&'a [u8]>,
+    second_most: Option<usize>,
 }
 
 impl<'a> Given<'a> {
@@ -95,21 +101,21 @@ impl<'a> Given<'a> {
         MemorySource::new(self.text, 7, self.text_most)
     }
 
-    /// The source of the other text, if there is one.
-    fn source_beside(&self) -> Option<MemorySource<'a>>
-        ensures { ForSome result (λ source. source.failed ≡ false) }
+    /// The source of the second file.
+    fn second_source(&self) -> SecondFile<MemorySource<'a>>
+        ensures { ForSome (file_in result) (λ source. source.failed ≡ false) }
     {
-        match self.beside {
-            Some(bytes) => Some(MemorySource::new(bytes, 5, self.beside_most)),
-            None => None,
+        let most = self.second_most;
+        match self.second {
+            SecondFile::Absent => SecondFile::Absent,
+            SecondFile::Start(text) => SecondFile::Start(MemorySource::new(text, 5, most)),
+            SecondFile::Certificate(text) => {
+                SecondFile::Certificate(MemorySource::new(text, 5, most))
+            }
+            SecondFile::StartOrCertificate(text) => {
+                SecondFile::StartOrCertificate(MemorySource::new(text, 5, most))
+            }
         }
-    }
-
-    /// The source of the other text, which is empty where there is none.
-    fn source_of_beside(&self) -> MemorySource<'a>
-        ensures { result.failed ≡ false }
-    {
-        MemorySource::new(self.beside.unwrap_or(b""), 5, self.beside_most)
     }
 }
 
@@ -118,15 +124,45 @@ const OF_THREE: Given<'static> = Given {
     text: THREE_MACHINES,
     text_most: None,
     index: 1,
-    beside: None,
-    beside_most: None,
+    second: SecondFile::Absent,
+    second_most: None,
 };
 
-/// The same with a start.
-const STARTED: Given<'static> = Given {
-    beside: Some(START),
-    ..OF_THREE
-};
+/// A start, or none.
+fn start_of(start: Option<&[u8]>) -> SecondFile<&[u8]> {
+    match start {
+        Some(text) => SecondFile::Start(text),
+        None => SecondFile::Absent,
+    }
+}
+
+/// Whether what a request asks of texts ends so with a sink of so many bytes.
+fn answers<R: Threads + Wait + Sync>(
+    rt: &R,
+    alloc: Global,
+    texts: &Given,
+    request: &Request,
+    room: usize,
+    end: End,
+) -> bool {
+    let mut out = MemorySink::new(alloc, room);
+    let means = Means {
+        rt,
+        alloc,
+        watch: &Unwatched,
+    };
+    let mut file = texts.source();
+    let mut second = texts.second_source();
+    let ran = run_request(
+        &means,
+        &mut file,
+        texts.index,
+        &mut second,
+        request,
+        &mut out,
+    );
+    ends(ran, &out, end)
+}
 
 /// A source of all these bytes.
 fn all_of(bytes: &[u8]) -> MemorySource
@@ -158,4 +194,12 @@ fn improvement(numbers: [u32; 4]) -> ImproveRequest {
         seed,
         work,
     }
+}
+
+/// What is printed of a certificate, where its bounds may differ.
+fn checked(output: CheckOutput) -> Request {
+    Request::Check(CheckRequest {
+        output,
+        optimal: false,
+    })
 }

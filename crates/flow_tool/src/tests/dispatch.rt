@@ -3,13 +3,14 @@
 ghost use Rattle.std.specs.Prelude.{◌≡◌, false};
 
 use crate::dispatch::run_words;
+use crate::refusal::Stop;
 use crate::tests::files::{DEPTH_1, Named, START};
 use crate::tests::lines::{
     ANSWERS, CERTIFY, CHECK, IMPROVE, OPTIONS, Row, SCHEDULE, STARTS, VERSIONS,
 };
 use crate::tests::refusal::is_line;
 use crate::words::CommandLine;
-use flow_commands::Unwatched;
+use flow_commands::{Means, Unwatched};
 use flow_core::MemorySink;
 use std::alloc::{AllocError, Global};
 use std::process::Abort;
@@ -43,17 +44,13 @@ fn says<R: Threads + Wait + Sync>(
 ) -> bool
     requires { out.old.failed ≡ false }
 {
-    let Ok(words) = words_of(alloc, line) else {
-        return false;
-    };
-    match run_words::<CommandLine, _, _, _, _, _>(
+    let means = Means {
         rt,
         alloc,
-        &Named::new(of_stdin),
-        words.as_slice(),
-        &Unwatched,
-        out,
-    ) {
+        watch: &Unwatched,
+    };
+    let words = words_of(alloc, line).map_err(|_| Stop::Memory);
+    match run_words::<CommandLine, _, _, _, _, _>(&means, &Named::new(of_stdin), words, out) {
         Ok(()) => refusal.is_empty(),
         Err(stop) => is_line(alloc, stop, refusal),
     }

@@ -4,7 +4,7 @@ use crate::tests::dispatch::words_of;
 use clap::error::ErrorKind;
 use flow_requests::{
     CertifyRequest, CheckOutput, CheckRequest, ImproveRequest, Invocation, Request, ScheduleForm,
-    SolveRequest,
+    SecondFile, SolveRequest,
 };
 use flow_words::{invocation_of, make_command};
 use std::alloc::Global;
@@ -48,68 +48,69 @@ const OTHER: ImproveRequest = ImproveRequest {
 };
 
 /// Command lines, and what they ask for: the name of the second file, and what is asked of block 1 of the text FILE.
-const OF_BLOCK: [(&str, Option<&str>, Request); 12] = [
+const OF_BLOCK: [(&str, SecondFile<&str>, Request); 12] = [
     (
         "check FILE 1 CERT",
-        Some("CERT"),
+        SecondFile::Certificate("CERT"),
         Request::Check(CheckRequest {
-            two_ended: true,
             output: CheckOutput::Proved,
             optimal: false,
         }),
     ),
     (
         "check FILE 1 CERT --optimal --sequence",
-        Some("CERT"),
+        SecondFile::Certificate("CERT"),
         Request::Check(CheckRequest {
-            two_ended: true,
             output: CheckOutput::Sequence,
             optimal: true,
         }),
     ),
     (
         "check FILE 1 CERT --verbose",
-        Some("CERT"),
+        SecondFile::Certificate("CERT"),
         Request::Check(CheckRequest {
-            two_ended: true,
             output: CheckOutput::Report,
             optimal: false,
         }),
     ),
-    ("neh FILE 1", None, Request::Neh),
+    ("neh FILE 1", SecondFile::Absent, Request::Neh),
     (
         "schedule FILE 1 SEQUENCE",
-        Some("SEQUENCE"),
+        SecondFile::StartOrCertificate("SEQUENCE"),
         Request::Schedule(ScheduleForm::Csv),
     ),
     (
         "schedule FILE 1 SEQUENCE --form svg",
-        Some("SEQUENCE"),
+        SecondFile::StartOrCertificate("SEQUENCE"),
         Request::Schedule(ScheduleForm::Svg),
     ),
     (
         "solve FILE 1 --depth 2",
-        None,
+        SecondFile::Absent,
         Request::Solve(SolveRequest { depth: 2, ..SOLVE }),
     ),
     (
         "solve FILE 1 --certificate 2 --start SEQUENCE --workers 3",
-        Some("SEQUENCE"),
+        SecondFile::Start("SEQUENCE"),
         Request::Solve(SolveRequest {
             workers: 3,
             version: 2,
             ..SOLVE
         }),
     ),
-    ("improve FILE 1", None, Request::Improve(USUAL)),
+    (
+        "improve FILE 1",
+        SecondFile::Absent,
+        Request::Improve(USUAL),
+    ),
     (
         "improve FILE 1 --seed 0 --start SEQUENCE --rounds 4294967295 --width 65537 --work 7",
-        Some("SEQUENCE"),
+        SecondFile::Start("SEQUENCE"),
         Request::Improve(OTHER),
     ),
     (
         "certify FILE 1",
-        None,
+        SecondFile::Absent,
         Request::Certify {
             request: CertifyRequest {
                 improve: USUAL,
@@ -122,7 +123,7 @@ const OF_BLOCK: [(&str, Option<&str>, Request); 12] = [
     (
         "certify FILE 1 --directions 4294967295 --work 7 --width 65537 --seed 0 --rounds 4294967295 \
 --workers 65 --progress --start SEQUENCE",
-        Some("SEQUENCE"),
+        SecondFile::Start("SEQUENCE"),
         Request::Certify {
             request: CertifyRequest {
                 improve: OTHER,
@@ -146,7 +147,7 @@ fn is_read_as(alloc: Global, line: &str, wanted: &Invocation) -> bool {
 }
 
 /// Whether a command line asks this of block 1 of the text FILE, with this second file.
-fn asks(alloc: Global, line: &str, name: Option<&str>, wanted: &Request) -> bool {
+fn asks(alloc: Global, line: &str, name: SecondFile<&str>, wanted: &Request) -> bool {
     let Ok(words) = words_of(alloc, line) else {
         return false;
     };
@@ -173,7 +174,7 @@ fn are_jobs_read(alloc: Global) -> bool {
     let span = Invocation::OfBlock {
         file: "FILE",
         index: u32::MAX,
-        second: None,
+        second: SecondFile::Absent,
         request: Request::Span { jobs },
     };
     is_read_as(alloc, "span FILE 4294967295 3 1 65535", &span)

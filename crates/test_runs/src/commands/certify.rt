@@ -1,73 +1,44 @@
-//! What `certify` writes and refuses.
+//! What `certify` writes.
 
 ghost use Rattle.std.specs.Prelude.{◌≡◌, false};
 
 use super::endless::Endless;
 use super::texts::{
     ABOVE_16_BITS, AIMED, BEST, FOUR_MACHINES, GENERATED, HALVED, LAST, LONG_JOBS, LONG_TOTAL,
-    LONG_TREES, NINE_JOBS, ON_THREE, ONE_JOB, ONE_LONG_JOB, SEVEN_JOBS, START, THREE_MACHINES,
+    LONG_TREES, NINE_JOBS, ON_THREE, ONE_JOB, ONE_LONG_JOB, SEVEN_JOBS, THREE_MACHINES,
     TOTAL_IN_NARROW, TOTAL_IN_WIDE, TWO_ENDED_12, TWO_MACHINES, UP_TO_16_BITS,
 };
 use super::{
-    End, Given, OF_THREE, ROOM, STARTED, UNREAD, Wanted, all_of, comes_to, end_of, ends, filled,
-    improvement,
+    Given, OF_THREE, ROOM, Wanted, all_of, answers, checked, comes_to, end_of, filled, improvement,
+    start_of,
 };
 use flow_commands::{
-    CertifyRequest, CheckOutput, CheckRequest, CommandFault, EffortFault, ImproveRequest,
-    Unwatched, run_certify, run_check_as,
+    CertifyRequest, CheckOutput, CommandFault, Means, Request, SecondFile, Unwatched, run_request,
 };
-use flow_core::{MemorySink, ReadFault, SequenceFault, StartFault, TextFault};
+use flow_core::{MemorySink, ReadFault, TextFault};
 use std::alloc::Global;
+use std::sync::Wait;
 use std::thread::Threads;
-
-const ROUNDS: Wanted = Err(CommandFault::Improve(EffortFault::Rounds));
-
-const WORK: Wanted = Err(CommandFault::Improve(EffortFault::Work));
-
-const DIRECTIONS: Wanted = Err(CommandFault::Directions);
-
-/// The two-ended certificate of two machines, whose bound with no job put is the least makespan.
-const OF_TWO: Wanted = Ok(b"flowshop two-ended 1\n3 2\n9 9\n2 3 1\n\nend\n");
 
 /// Numbers of an improvement without beam and rounds.
 const NONE: [u32; 4] = [0, 0, 1, 0];
 
-/// A text, an index, a start text, width, rounds, seed and work, and the most directions; and what is written, or the
-/// fault.
-type Row = (
-    &'static [u8],
-    u32,
-    Option<&'static [u8]>,
-    [u32; 4],
-    u32,
-    Wanted,
-);
+/// A text, a start text, width, rounds, seed and work, and the most directions; and what is written, or the fault.
+type Row = (&'static [u8], Option<&'static [u8]>, [u32; 4], u32, Wanted);
 
 /// The text with three machines has one best sequence. The directions were computed apart from the program, by the
 /// definitions.
-static ROWS: [Row; 20] = [
-    (THREE_MACHINES, 1, None, NONE, 1_000, Ok(TWO_ENDED_12)),
+static ROWS: [Row; 6] = [
+    (THREE_MACHINES, Some(LAST), NONE, 1_000, Ok(TWO_ENDED_12)),
     (
         THREE_MACHINES,
-        1,
-        Some(START),
-        NONE,
-        1_000,
-        Ok(TWO_ENDED_12),
-    ),
-    (THREE_MACHINES, 1, Some(LAST), NONE, 1_000, Ok(TWO_ENDED_12)),
-    (
-        THREE_MACHINES,
-        1,
         Some(BEST),
         [65_536, 100_000_000, 2_147_483_646, 1_000_000],
         1_000_000_000,
         Ok(TWO_ENDED_12),
     ),
-    (TWO_MACHINES, 1, None, NONE, 1, OF_TWO),
     (
         ONE_JOB,
-        1,
         None,
         NONE,
         1,
@@ -76,7 +47,6 @@ static ROWS: [Row; 20] = [
     // One round with each of two seeds, by the plain program bench/improve.rs, and the bound with no job put.
     (
         LONG_TREES,
-        1,
         None,
         [0, 1, 1, 1],
         1,
@@ -84,101 +54,43 @@ static ROWS: [Row; 20] = [
     ),
     (
         LONG_TREES,
-        1,
         None,
         [0, 1, 2, 1],
         1,
         Ok(b"flowshop two-ended 1\n9 4\n557 616\n1 6 3 9 4 5 7 2 8\n\nend\n"),
     ),
-    (THREE_MACHINES, 1, None, [0, 100_000_001, 0, 0], 0, ROUNDS),
-    (THREE_MACHINES, 1, None, [0, 0, 1, 1_000_001], 0, WORK),
-    (THREE_MACHINES, 1, None, NONE, 0, DIRECTIONS),
-    (THREE_MACHINES, 1, None, NONE, 1_000_000_001, DIRECTIONS),
-    (THREE_MACHINES, 1, None, NONE, 4_294_967_295, DIRECTIONS),
-    (THREE_MACHINES, 1, Some(BEST), NONE, 0, DIRECTIONS),
+    // The text comes before the numbers.
     (
         b"",
-        1,
         None,
         NONE,
         0,
         Err(CommandFault::Text(TextFault::NoBlock)),
     ),
-    (THREE_MACHINES, 0, None, NONE, 0, Err(CommandFault::Index)),
-    (
-        THREE_MACHINES,
-        2,
-        Some(b""),
-        NONE,
-        0,
-        Err(CommandFault::Index),
-    ),
-    (
-        THREE_MACHINES,
-        1,
-        Some(b"sequence 1 1 1"),
-        NONE,
-        0,
-        Err(CommandFault::Sequence(SequenceFault::Twice(2))),
-    ),
-    (
-        THREE_MACHINES,
-        1,
-        Some(b"sequence 1 2 3\nmakespan 14"),
-        NONE,
-        0,
-        Err(CommandFault::Start(StartFault::Line(2))),
-    ),
-    (
-        THREE_MACHINES,
-        1,
-        None,
-        [65_537, 0, 1, 0],
-        1,
-        Err(CommandFault::Improve(EffortFault::Width)),
-    ),
 ];
 
-/// Whether `certify` of texts ends so with a sink of so many bytes.
-fn certifies<R: Threads + Sync>(
-    rt: &R,
-    alloc: Global,
-    texts: &Given,
-    request: CertifyRequest,
-    room: usize,
-    end: End,
-) -> bool {
-    let mut out = MemorySink::new(alloc, room);
-    let mut file = texts.source();
-    let mut start = texts.source_beside();
-    let ran = run_certify(
-        rt,
-        alloc,
-        &mut file,
-        texts.index,
-        &mut start,
-        request,
-        &Unwatched,
-        &mut out,
-    );
-    ends(ran, &out, end)
+/// The request of `certify` with these numbers of an improvement, so many directions, and so many workers.
+fn certified(numbers: [u32; 4], directions: u32, workers: u32) -> Request {
+    Request::Certify {
+        request: CertifyRequest {
+            improve: improvement(numbers),
+            directions,
+            workers,
+        },
+        progress: false,
+    }
 }
 
 /// Whether `certify` comes to what a row says.
-fn holds<R: Threads + Sync>(rt: &R, alloc: Global, row: &Row) -> bool {
-    let (text, index, beside, numbers, directions, wanted) = *row;
-    let request = CertifyRequest {
-        improve: improvement(numbers),
-        directions,
-        workers: 1,
-    };
+fn holds<R: Threads + Wait + Sync>(rt: &R, alloc: Global, row: &Row) -> bool {
+    let (text, start, numbers, directions, wanted) = *row;
+    let request = certified(numbers, directions, 1);
     let texts = Given {
         text,
-        index,
-        beside,
+        second: start_of(start),
         ..OF_THREE
     };
-    certifies(rt, alloc, &texts, request, ROOM, end_of(wanted))
+    answers(rt, alloc, &texts, &request, ROOM, end_of(wanted))
 }
 
 #[test]
@@ -248,21 +160,8 @@ static KNOWN: [Known; 25] = [
     (HALVED, [4, 0, 1, 1], 20, Ok(b"bounds 535 548\n")),
 ];
 
-/// Whether `check` prints this for a two-ended certificate.
-fn is_accepted(alloc: Global, text: &[u8], certificate: &[u8], wanted: Wanted) -> bool {
-    let request = CheckRequest {
-        two_ended: true,
-        output: CheckOutput::Proved,
-        optimal: false,
-    };
-    let mut out = MemorySink::new(alloc, ROOM);
-    let mut cert = all_of(certificate);
-    let ran = run_check_as(alloc, &mut all_of(text), 1, &mut cert, request, &mut out);
-    comes_to(ran, &out, wanted)
-}
-
 /// Certifies the text of a row with so many workers. Returns whether it is not refused.
-fn is_certified<R: Threads + Sync>(
+fn is_certified<R: Threads + Wait + Sync>(
     rt: &R,
     alloc: Global,
     row: &Known,
@@ -272,27 +171,18 @@ fn is_certified<R: Threads + Sync>(
     requires { out.old.failed ≡ false }
 {
     let (text, numbers, directions, _) = *row;
-    let request = CertifyRequest {
-        improve: improvement(numbers),
-        directions,
-        workers,
-    };
-    let mut none = OF_THREE.source_beside();
-    let ran = run_certify(
+    let request = certified(numbers, directions, workers);
+    let means = Means {
         rt,
         alloc,
-        &mut all_of(text),
-        1,
-        &mut none,
-        request,
-        &Unwatched,
-        out,
-    );
-    ran == Ok(())
+        watch: &Unwatched,
+    };
+    let mut none = OF_THREE.second_source();
+    run_request(&means, &mut all_of(text), 1, &mut none, &request, out) == Ok(())
 }
 
 /// Whether `check` prints what a row says for what `certify` writes, and more workers write the same.
-fn proves<R: Threads + Sync>(rt: &R, alloc: Global, row: &Known) -> bool {
+fn proves<R: Threads + Wait + Sync>(rt: &R, alloc: Global, row: &Known) -> bool {
     let (text, _, _, wanted) = *row;
     let mut out = MemorySink::new(alloc, ROOM);
     if !is_certified(rt, alloc, row, 1, &mut out) {
@@ -304,7 +194,13 @@ fn proves<R: Threads + Sync>(rt: &R, alloc: Global, row: &Known) -> bool {
             return false;
         }
     }
-    is_accepted(alloc, text, out.bytes(), wanted)
+    let texts = Given {
+        text,
+        second: SecondFile::Certificate(out.bytes()),
+        ..OF_THREE
+    };
+    let request = checked(CheckOutput::Proved);
+    answers(rt, alloc, &texts, &request, ROOM, end_of(wanted))
 }
 
 #[test]
@@ -314,102 +210,29 @@ fn check_accepts_what_certify_wrote(rt: HostRuntime) {
     }
 }
 
-/// How many workers there are, with how many directions, and what `certify` of the instance with three machines comes
-/// to.
-static WORKERS: [(u32, u32, Wanted); 6] = [
-    (0, 0, DIRECTIONS),
-    (0, 1_000, Err(CommandFault::Workers)),
-    (1, 1_000, Ok(TWO_ENDED_12)),
-    (2, 1_000, Ok(TWO_ENDED_12)),
-    (64, 1_000, Ok(TWO_ENDED_12)),
-    (65, 1_000, Err(CommandFault::Workers)),
-];
-
-#[test]
-fn certify_takes_up_to_64_workers(rt: HostRuntime) {
-    for (workers, directions, wanted) in &WORKERS {
-        let request = CertifyRequest {
-            directions: *directions,
-            workers: *workers,
-            ..PLAIN
-        };
-        let end = end_of(*wanted);
-        assert!(rt;
-            certifies(&rt, rt.alloc(), &OF_THREE, request, ROOM, end),
-            "{workers} workers"
-        );
-    }
-}
-
-/// A request without beam and rounds.
-const PLAIN: CertifyRequest = CertifyRequest {
-    improve: ImproveRequest {
-        width: 0,
-        rounds: 0,
-        seed: 1,
-        work: 0,
-    },
-    directions: 1_000,
-    workers: 1,
-};
-
-#[test]
-fn certify_writes_nothing_after_a_failed_read(rt: HostRuntime) {
-    for most in 0..28usize {
-        let texts = Given {
-            beside_most: Some(most),
-            ..STARTED
-        };
-        assert!(rt;
-            certifies(&rt, rt.alloc(), &texts, PLAIN, ROOM, UNREAD),
-            "at {most}"
-        );
-    }
-}
-
 #[test]
 fn certify_fills_a_sink_up_to_its_limit(rt: HostRuntime) {
+    let request = certified(NONE, 1_000, 1);
     for room in 0..46usize {
         let end = filled(room, TWO_ENDED_12);
         assert!(rt;
-            certifies(&rt, rt.alloc(), &OF_THREE, PLAIN, room, end),
+            answers(&rt, rt.alloc(), &OF_THREE, &request, room, end),
             "at {room}"
         );
     }
 }
 
 #[test]
-fn certify_stops_an_endless_start(rt: HostRuntime) {
-    let mut out = MemorySink::new(rt.alloc(), ROOM);
-    let mut start = Some(Endless::new());
-    let mut file = all_of(THREE_MACHINES);
-    let ran = run_certify(
-        &rt,
-        rt.alloc(),
-        &mut file,
-        1,
-        &mut start,
-        PLAIN,
-        &Unwatched,
-        &mut out,
-    );
-    assert!(rt; comes_to(ran, &out, Err(CommandFault::Read(ReadFault::TooLong))));
-}
-
-#[test]
 fn certify_stops_an_endless_text(rt: HostRuntime) {
     let mut out = MemorySink::new(rt.alloc(), ROOM);
-    let mut none = OF_THREE.source_beside();
+    let means = Means {
+        rt: &rt,
+        alloc: rt.alloc(),
+        watch: &Unwatched,
+    };
+    let mut none = OF_THREE.second_source();
     let mut file = Endless::new();
-    let ran = run_certify(
-        &rt,
-        rt.alloc(),
-        &mut file,
-        1,
-        &mut none,
-        PLAIN,
-        &Unwatched,
-        &mut out,
-    );
+    let request = certified(NONE, 1_000, 1);
+    let ran = run_request(&means, &mut file, 1, &mut none, &request, &mut out);
     assert!(rt; comes_to(ran, &out, Err(CommandFault::Read(ReadFault::TooLong))));
 }

@@ -1,31 +1,20 @@
 //! What `schedule` writes and refuses.
 
-use super::endless::Endless;
 use super::texts::{
-    DEPTH_0, DEPTH_3, ONE_JOB, OTHER_STARTS, THREE_MACHINES, TWO_ENDED_11, TWO_ENDED_12, VERSION_2,
+    DEPTH_0, DEPTH_3, ONE_JOB, THREE_MACHINES, TWO_ENDED_11, TWO_ENDED_12, VERSION_2,
 };
-use super::{End, Given, OF_THREE, ROOM, UNREAD, Wanted, all_of, comes_to, end_of, ends, filled};
+use super::{Given, OF_THREE, ROOM, Wanted, answers, end_of};
 use flow_check::CheckFault;
-use flow_commands::{CommandFault, ScheduleForm, run_schedule};
-use flow_core::{MemorySink, MemorySource, ReadFault, StartFault, TextFault};
+use flow_commands::{
+    CommandFault, Means, Request, ScheduleForm, SecondFile, Unwatched, run_request,
+};
+use flow_core::{MemorySink, MemorySource, StartFault};
 use std::alloc::{AllocError, Global};
-
-/// One form, and both.
-const CSV: &[ScheduleForm] = &[ScheduleForm::Csv];
-
-const FORMS: &[ScheduleForm] = &[ScheduleForm::Csv, ScheduleForm::Svg];
-
-/// Three machines, and then two.
-const TWO_BLOCKS: &[u8] = b"a\n3 3 0 0 0\nb\n4 0 0\n0 8 2\n4 0 1\na\n3 2 0 0 0\nb\n3 1 2\n2 4 2\n";
+use std::sync::Wait;
+use std::thread::Threads;
 
 /// A start of the text with three machines.
 const START: &[u8] = b"sequence 3 1 2\nmakespan 12\n";
-
-/// The text with three machines, and this start.
-const WORKED: Given<'static> = Given {
-    beside: Some(START),
-    ..OF_THREE
-};
 
 /// Its table, worked out by hand.
 const TABLE: &[u8] =
@@ -54,77 +43,77 @@ stroke=\"#000000\" stroke-width=\"300\" stroke-dasharray=\"63920 2400\">\
 <text x=\"72960\" y=\"10760\" fill=\"#ffffff\">2</text>\n\
 </g></svg>\n";
 
-/// A text, an index, a start and forms; and what is written, or the fault.
-type Row = (
-    &'static [u8],
-    u32,
-    &'static [u8],
-    &'static [ScheduleForm],
-    Wanted,
-);
+/// The table of the sequence 2 1 3, worked out by hand.
+const OTHER_TABLE: &[u8] =
+    b"job,machine,start,end\n2,1,0,0\n2,2,0,8\n2,3,8,8\n1,1,0,4\n1,2,8,8\n1,3,8,12\n\
+3,1,4,4\n3,2,8,10\n3,3,12,13\n";
 
-static ROWS: [Row; 8] = [
-    (THREE_MACHINES, 1, START, CSV, Ok(TABLE)),
+/// A text, and a start, a certificate or a text that begins as one; and the table that is written, or the fault.
+static TABLES: [(&[u8], &[u8], Wanted); 8] = [
     (
         ONE_JOB,
-        1,
         b"sequence 1\n",
-        CSV,
         Ok(b"job,machine,start,end\n1,1,0,0\n"),
     ),
+    (THREE_MACHINES, START, Ok(TABLE)),
+    (THREE_MACHINES, DEPTH_3, Ok(TABLE)),
+    (THREE_MACHINES, VERSION_2, Ok(TABLE)),
+    (THREE_MACHINES, TWO_ENDED_11, Ok(OTHER_TABLE)),
     (
-        TWO_BLOCKS,
-        2,
-        b"sequence 2 3 1",
-        CSV,
-        Ok(b"job,machine,start,end\n2,1,0,1\n2,2,1,5\n3,1,1,3\n3,2,5,7\n1,1,3,6\n1,2,7,9\n"),
+        THREE_MACHINES,
+        b"flowshop ",
+        Err(CommandFault::Certificate(CheckFault::Header)),
     ),
-    (TWO_BLOCKS, 1, START, CSV, Ok(TABLE)),
     (
-        TWO_BLOCKS,
-        2,
-        START,
-        FORMS,
+        THREE_MACHINES,
+        b"flowshop",
+        Err(CommandFault::Start(StartFault::Line(1))),
+    ),
+    (
+        THREE_MACHINES,
+        b"\nflowshop two-ended 1\n3 3\n12 12\n3 1 2\n++\nend\n",
         Err(CommandFault::Start(StartFault::Line(2))),
-    ),
-    (TWO_BLOCKS, 0, START, FORMS, Err(CommandFault::Index)),
-    (TWO_BLOCKS, 3, b"", FORMS, Err(CommandFault::Index)),
-    (
-        b"",
-        1,
-        b"",
-        FORMS,
-        Err(CommandFault::Text(TextFault::NoBlock)),
     ),
 ];
 
-/// Whether `schedule` of texts in a form ends so with a sink of so many bytes.
-fn schedules(alloc: Global, texts: &Given, form: ScheduleForm, room: usize, end: End) -> bool {
-    let mut out = MemorySink::new(alloc, room);
-    let mut file = texts.source();
-    let mut start = texts.source_of_beside();
-    let ran = run_schedule(alloc, &mut file, texts.index, &mut start, form, &mut out);
-    ends(ran, &out, end)
-}
-
-/// Whether `schedule` in a form comes to what a row says.
-fn holds(alloc: Global, row: &Row, form: ScheduleForm) -> bool {
-    let (text, index, start, _, wanted) = *row;
+/// Whether the table of a row is written, or refused.
+fn holds<R: Threads + Wait + Sync>(rt: &R, alloc: Global, row: &(&[u8], &[u8], Wanted)) -> bool {
+    let (text, given, wanted) = *row;
+    let request = Request::Schedule(ScheduleForm::Csv);
     let texts = Given {
         text,
-        index,
-        beside: Some(start),
+        second: SecondFile::StartOrCertificate(given),
         ..OF_THREE
     };
-    schedules(alloc, &texts, form, ROOM, end_of(wanted))
+    answers(rt, alloc, &texts, &request, ROOM, end_of(wanted))
 }
 
 #[test]
 fn schedule_writes_the_table(rt: HostRuntime) {
-    for (number, row) in ROWS.iter().enumerate() {
-        for form in row.3 {
-            assert!(rt; holds(rt.alloc(), row, *form), "row {number}");
-        }
+    for (number, row) in TABLES.iter().enumerate() {
+        assert!(rt; holds(&rt, rt.alloc(), row), "row {number}");
+    }
+}
+
+/// The schedule of a text for a start or a certificate in a form; none where it was refused.
+fn scheduled<R: Threads + Wait + Sync>(
+    rt: &R,
+    alloc: Global,
+    (text, given): (&[u8], &[u8]),
+    form: ScheduleForm,
+) -> Option<MemorySink> {
+    let mut out = MemorySink::new(alloc, 16_000_000);
+    let means = Means {
+        rt,
+        alloc,
+        watch: &Unwatched,
+    };
+    let mut second = SecondFile::StartOrCertificate(MemorySource::new(given, 65_536, None));
+    let mut file = MemorySource::new(text, 65_536, None);
+    let request = Request::Schedule(form);
+    match run_request(&means, &mut file, 1, &mut second, &request, &mut out) {
+        Ok(()) => Some(out),
+        Err(_) => None,
     }
 }
 
@@ -165,15 +154,13 @@ static PICTURES: [Drawn; 5] = [
 ];
 
 /// Whether the picture of a row has its title and its end.
-fn is_drawn(alloc: Global, row: &Drawn) -> bool {
+fn is_drawn<R: Threads + Wait + Sync>(rt: &R, alloc: Global, row: &Drawn) -> bool {
     let (text, given, title, bars) = *row;
-    let mut out = MemorySink::new(alloc, ROOM);
-    let mut given = all_of(given);
-    let mut file = all_of(text);
-    let ran = run_schedule(alloc, &mut file, 1, &mut given, ScheduleForm::Svg, &mut out);
+    let Some(out) = scheduled(rt, alloc, (text, given), ScheduleForm::Svg) else {
+        return false;
+    };
     let drawn = out.bytes();
-    let begins = ran == Ok(()) && drawn.starts_with(b"<svg ".as_slice());
-    begins && drawn.ends_with(bars) && has_line(drawn, title)
+    drawn.starts_with(b"<svg ".as_slice()) && drawn.ends_with(bars) && has_line(drawn, title)
 }
 
 /// Whether a text has one line that begins so.
@@ -187,105 +174,7 @@ fn has_line(written: &[u8], begin: &str) -> bool {
 #[test]
 fn schedule_draws_the_bars(rt: HostRuntime) {
     for (number, row) in PICTURES.iter().enumerate() {
-        assert!(rt; is_drawn(rt.alloc(), row), "row {number}");
-    }
-}
-
-/// The table of the sequence 2 1 3, worked out by hand.
-const OTHER_TABLE: &[u8] =
-    b"job,machine,start,end\n2,1,0,0\n2,2,0,8\n2,3,8,8\n1,1,0,4\n1,2,8,8\n1,3,8,12\n\
-3,1,4,4\n3,2,8,10\n3,3,12,13\n";
-
-/// A certificate of three machines, or a text that begins as one; and the table that is written, or the fault.
-static CERTIFICATES: [(&[u8], Wanted); 12] = [
-    (DEPTH_0, Ok(TABLE)),
-    (DEPTH_3, Ok(TABLE)),
-    (VERSION_2, Ok(TABLE)),
-    (TWO_ENDED_12, Ok(TABLE)),
-    (TWO_ENDED_11, Ok(OTHER_TABLE)),
-    (
-        b"flowshop two-ended 1\n3 3\n12 12\n3 1 2\n+\nend\n",
-        Err(CommandFault::Certificate(CheckFault::Tree(5))),
-    ),
-    (
-        b"flowshop certificate 1\n3 3 1\n12\n3 1 2\nB\nC\n++.A\nend\n",
-        Err(CommandFault::Certificate(CheckFault::Weak(7))),
-    ),
-    (
-        b"flowshop two-ended 1\n3 2\n12 12\n3 1 2\n++\nend\n",
-        Err(CommandFault::Certificate(CheckFault::Size)),
-    ),
-    (
-        b"flowshop two-ended 2\n",
-        Err(CommandFault::Certificate(CheckFault::Header)),
-    ),
-    (
-        b"flowshop ",
-        Err(CommandFault::Certificate(CheckFault::Header)),
-    ),
-    (b"flowshop", Err(CommandFault::Start(StartFault::Line(1)))),
-    (
-        b"\nflowshop two-ended 1\n3 3\n12 12\n3 1 2\n++\nend\n",
-        Err(CommandFault::Start(StartFault::Line(2))),
-    ),
-];
-
-#[test]
-fn schedule_takes_certificates(rt: HostRuntime) {
-    for (number, row) in CERTIFICATES.iter().enumerate() {
-        let row = (THREE_MACHINES, 1, row.0, CSV, row.1);
-        assert!(rt; holds(rt.alloc(), &row, ScheduleForm::Csv), "row {number}");
-    }
-}
-
-/// Whether `schedule` names the fault of a start in both forms.
-fn names(alloc: Global, row: &(&'static [u8], CommandFault)) -> bool {
-    let row = (THREE_MACHINES, 1, row.0, FORMS, Err(row.1));
-    holds(alloc, &row, ScheduleForm::Csv) && holds(alloc, &row, ScheduleForm::Svg)
-}
-
-#[test]
-fn schedule_names_the_fault_of_a_start(rt: HostRuntime) {
-    for (number, row) in OTHER_STARTS.iter().enumerate() {
-        assert!(rt; names(rt.alloc(), row), "row {number}");
-    }
-}
-
-#[test]
-fn schedule_stops_an_endless_start(rt: HostRuntime) {
-    for form in FORMS {
-        let mut out = MemorySink::new(rt.alloc(), ROOM);
-        let mut start = Endless::new();
-        let mut file = all_of(THREE_MACHINES);
-        let ran = run_schedule(rt.alloc(), &mut file, 1, &mut start, *form, &mut out);
-        assert!(rt; comes_to(ran, &out, Err(CommandFault::Read(ReadFault::TooLong))));
-        // One piece more than 256 make the limit of 16,777,216 bytes.
-        assert_eq!(rt; start.given, 257 * 65_536);
-    }
-}
-
-#[test]
-fn schedule_writes_nothing_after_a_failed_read(rt: HostRuntime) {
-    for most in 0..START.len() + 1 {
-        let texts = Given {
-            beside_most: Some(most),
-            ..WORKED
-        };
-        assert!(rt;
-            schedules(rt.alloc(), &texts, ScheduleForm::Svg, ROOM, UNREAD),
-            "at {most}"
-        );
-    }
-}
-
-#[test]
-fn schedule_fills_a_sink_up_to_its_limit(rt: HostRuntime) {
-    for room in 0..TABLE.len() + 1 {
-        let end = filled(room, TABLE);
-        assert!(rt;
-            schedules(rt.alloc(), &WORKED, ScheduleForm::Csv, room, end),
-            "at {room}"
-        );
+        assert!(rt; is_drawn(&rt, rt.alloc(), row), "row {number}");
     }
 }
 
@@ -356,29 +245,23 @@ fn has_lines(written: &[u8], row: &Greatest) -> bool {
     }
 }
 
-/// Whether `schedule` of a text and a start writes the lines and the end of a row.
-fn writes_lines(alloc: Global, text: &[u8], start: &[u8], row: &Greatest) -> bool {
-    let mut out = MemorySink::new(alloc, 16_000_000);
-    let mut file = MemorySource::new(text, 65_536, None);
-    let mut source = MemorySource::new(start, 65_536, None);
-    let ran = run_schedule(alloc, &mut file, 1, &mut source, row.0, &mut out);
-    ran == Ok(()) && has_lines(out.bytes(), row)
-}
-
 /// Whether `schedule` of the greatest size writes the lines and the end of a row.
-fn is_whole(alloc: Global, row: &Greatest) -> bool {
+fn is_whole<R: Threads + Wait + Sync>(rt: &R, alloc: Global, row: &Greatest) -> bool {
     let Ok(text) = greatest_text(alloc) else {
         return false;
     };
-    match greatest_start(alloc) {
-        Ok(start) => writes_lines(alloc, text.as_slice(), start.as_slice(), row),
-        Err(_) => false,
+    let Ok(start) = greatest_start(alloc) else {
+        return false;
+    };
+    match scheduled(rt, alloc, (text.as_slice(), start.as_slice()), row.0) {
+        Some(out) => has_lines(out.bytes(), row),
+        None => false,
     }
 }
 
 #[test]
 fn schedule_of_the_greatest_size(rt: HostRuntime) {
     for row in &GREATEST {
-        assert!(rt; is_whole(rt.alloc(), row), "at the end {:?}", row.3);
+        assert!(rt; is_whole(&rt, rt.alloc(), row), "at the end {:?}", row.3);
     }
 }

@@ -7,7 +7,6 @@ use super::{
 use flow_commands::{CommandFault, run_solve};
 use flow_core::MemorySink;
 use flow_pool::{Gate, Open, SolveFault};
-use flow_search::{OptionFault, PlanFault};
 use std::alloc::Global;
 use std::sync::Wait;
 use std::sync::atomic::{AtomicBool, AtomicU32, Ordering};
@@ -22,7 +21,7 @@ const SOME: &[u32] = &[1, 2, 3, 64];
 /// A text, numbers of workers, a depth and a budget; and what is written, or the fault.
 type Row = (&'static [u8], &'static [u32], u32, u32, Wanted);
 
-static ROWS: [Row; 12] = [
+static ROWS: [Row; 8] = [
     (THREE_MACHINES, SOME, 0, AMPLE, Ok(DEPTH_0)),
     (THREE_MACHINES, SOME, 1, AMPLE, Ok(DEPTH_1)),
     (THREE_MACHINES, SOME, 2, AMPLE, Ok(DEPTH_2)),
@@ -48,34 +47,6 @@ static ROWS: [Row; 12] = [
         0,
         AMPLE,
         Ok(b"flowshop certificate 1\n1 1 0\n0\n1\nA\nend\n"),
-    ),
-    (
-        THREE_MACHINES,
-        &[65],
-        4,
-        0,
-        Err(CommandFault::Choice(OptionFault::Workers)),
-    ),
-    (
-        THREE_MACHINES,
-        &[1],
-        4,
-        0,
-        Err(CommandFault::Choice(OptionFault::Depth)),
-    ),
-    (
-        THREE_MACHINES,
-        &[1],
-        1,
-        0,
-        Err(CommandFault::Choice(OptionFault::Budget)),
-    ),
-    (
-        ONE_JOB,
-        &[1],
-        2,
-        AMPLE,
-        Err(CommandFault::Plan(PlanFault::Depth)),
     ),
 ];
 

@@ -4,14 +4,8 @@ use super::endless::Endless;
 use super::texts::TWO_MACHINES;
 use super::{ROOM, Wanted, all_of, comes_to};
 use flow_commands::{CommandFault, run_span};
-use flow_core::{MemorySink, ReadFault, SequenceFault, TextFault};
+use flow_core::{MemorySink, ReadFault, SequenceFault};
 use std::alloc::Global;
-
-/// Ten blocks: that with three machines, eight with one job, and that with two machines.
-const TEN_BLOCKS: &[u8] = b"a\n3 3 0 0 0\nb\n4 0 0\n0 8 2\n4 0 1\n\
-a\n1 1 0 0 0\nb\n0\na\n1 1 0 0 0\nb\n0\na\n1 1 0 0 0\nb\n0\na\n1 1 0 0 0\nb\n0\n\
-a\n1 1 0 0 0\nb\n0\na\n1 1 0 0 0\nb\n0\na\n1 1 0 0 0\nb\n0\na\n1 1 0 0 0\nb\n0\n\
-a\n3 2 0 0 0\nb\n3 1 2\n2 4 2\n";
 
 /// Ten times the block with two machines.
 const TEN_ALIKE: &[u8] = b"a\n3 2 0 0 0\nb\n3 1 2\n2 4 2\na\n3 2 0 0 0\nb\n3 1 2\n2 4 2\n\
@@ -22,7 +16,7 @@ a\n3 2 0 0 0\nb\n3 1 2\n2 4 2\na\n3 2 0 0 0\nb\n3 1 2\n2 4 2\n";
 /// A text, an index and jobs; and what is written, or the fault.
 type Row = (&'static [u8], u32, &'static [u16], Wanted);
 
-static ROWS: [Row; 12] = [
+static ROWS: [Row; 8] = [
     (TWO_MACHINES, 1, &[2, 3, 1], Ok(b"makespan 9\n")),
     (
         TWO_MACHINES,
@@ -43,10 +37,6 @@ static ROWS: [Row; 12] = [
         Err(CommandFault::Sequence(SequenceFault::Job(1))),
     ),
     (TWO_MACHINES, 2, &[2, 3, 1], Err(CommandFault::Index)),
-    (b"", 1, &[1], Err(CommandFault::Text(TextFault::NoBlock))),
-    (TEN_BLOCKS, 1, &[2, 3, 1], Ok(b"makespan 15\n")),
-    (TEN_BLOCKS, 9, &[1], Ok(b"makespan 0\n")),
-    (TEN_BLOCKS, 10, &[2, 3, 1], Ok(b"makespan 9\n")),
     (TEN_ALIKE, 10, &[2, 3, 1], Ok(b"makespan 9\n")),
     (TEN_ALIKE, 11, &[2, 3, 1], Err(CommandFault::Index)),
     (TEN_ALIKE, 0, &[2, 3, 1], Err(CommandFault::Index)),

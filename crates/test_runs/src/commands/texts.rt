@@ -140,8 +140,6 @@ pub(super) const TWO_ENDED_12: &[u8] = b"flowshop two-ended 1\n3 3\n12 12\n3 1 2
 
 pub(super) const TWO_ENDED_11: &[u8] = b"flowshop two-ended 1\n3 3\n11 13\n2 1 3\n-\nend\n";
 
-pub(super) const TWO_ENDED_10: &[u8] = b"flowshop two-ended 1\n3 3\n10 13\n2 1 3\n\nend\n";
-
 /// Start texts for three jobs that are refused, and their faults.
 pub(super) static OTHER_STARTS: [(&[u8], CommandFault); 12] = [
     (b"", CommandFault::Start(StartFault::Line(1))),
