@@ -7,7 +7,7 @@ use std::alloc::{AllocError, Global};
 /// that of the file VERSION at the top of the repository; `build` refuses another, and a release by another kit.
 const VERSION: &str =
     "2.0.0, certificates of versions 1 and 2, two-ended certificates of version 1; \
-its release is proved and built with rattle-kit-13b logic dac8208d650f15bf";
+its release is proved and built with rattle-kit-13f logic dac8208d650f15bf";
 
 /// A word of a command: its name, how it is read, and what the help says of it.
 struct Word {

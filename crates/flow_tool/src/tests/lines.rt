@@ -61,7 +61,7 @@ pub(crate) static ANSWERS: [Row; 20] = [
     (
         "--version",
         b"flowshop 2.0.0, certificates of versions 1 and 2, two-ended certificates of version 1; \
-its release is proved and built with rattle-kit-13b logic dac8208d650f15bf\n",
+its release is proved and built with rattle-kit-13f logic dac8208d650f15bf\n",
         "",
     ),
     ("span missing 1 1", b"", "failed open"),
