@@ -142,8 +142,11 @@ pub(crate) struct Run {
     wanted: Wanted,
 }
 
+/// How many runs there are.
+pub(crate) const RUN_COUNT: usize = 20;
+
 /// All runs.
-pub(crate) const RUNS: [Run; 20] = [
+pub(crate) const RUNS: [Run; RUN_COUNT] = [
     Run {
         name: "run_span",
         text: TWO_MACHINES_TEXT,

@@ -21,7 +21,7 @@ mod search;
 mod texts;
 mod workers;
 
-use commands::{RUNS, run_is_right};
+use commands::{RUN_COUNT, RUNS, run_is_right};
 use flow_commands::CommandFault;
 use groups::{GROUPS, is_refusal};
 use growths::{asked, grow};
@@ -72,7 +72,7 @@ fn main(rt: HostRuntime) -> ExitCode {
     for run in &RUNS {
         tally.add(&rt, run.name, run_is_right(&rt, alloc, run));
     }
-    let count = GROUPS.len() + 1 + RUNS.len();
+    let count = GROUPS.len() + 1 + RUN_COUNT;
     let right = tally.right;
     drop(println!(&rt; "{right} of {count} groups of calls returned what they should"));
     ExitCode::from(tally.status)

@@ -128,6 +128,17 @@ const OF_THREE: Given<'static> = Given {
     second_most: None,
 };
 
+/// A text, and a certificate of its first block.
+fn of_certificate<'a>(text: &'a [u8], certificate: &'a [u8]) -> Given<'a> {
+    Given {
+        text,
+        text_most: None,
+        index: 1,
+        second: SecondFile::Certificate(certificate),
+        second_most: None,
+    }
+}
+
 /// A start, or none.
 fn start_of(start: Option<&[u8]>) -> SecondFile<&[u8]> {
     match start {

@@ -10,10 +10,10 @@ use super::texts::{
 };
 use super::{
     Given, OF_THREE, ROOM, Wanted, all_of, answers, checked, comes_to, end_of, filled, improvement,
-    start_of,
+    of_certificate, start_of,
 };
 use flow_commands::{
-    CertifyRequest, CheckOutput, CommandFault, Means, Request, SecondFile, Unwatched, run_request,
+    CertifyRequest, CheckOutput, CommandFault, Means, Request, Unwatched, run_request,
 };
 use flow_core::{MemorySink, ReadFault, TextFault};
 use std::alloc::Global;
@@ -194,11 +194,7 @@ fn proves<R: Threads + Wait + Sync>(rt: &R, alloc: Global, row: &Known) -> bool 
             return false;
         }
     }
-    let texts = Given {
-        text,
-        second: SecondFile::Certificate(out.bytes()),
-        ..OF_THREE
-    };
+    let texts = of_certificate(text, out.bytes());
     let request = checked(CheckOutput::Proved);
     answers(rt, alloc, &texts, &request, ROOM, end_of(wanted))
 }

@@ -5,13 +5,11 @@ use super::texts::{
     TWO_ENDED_11, TWO_ENDED_12, TWO_MACHINES, VERSION_2,
 };
 use super::{
-    AMPLE, Given, OF_THREE, ROOM, Wanted, all_of, answers, checked, comes_to, end_of, ends, filled,
-    read_up_to,
+    AMPLE, Given, ROOM, Wanted, all_of, answers, checked, comes_to, end_of, ends, filled,
+    of_certificate, read_up_to,
 };
 use flow_check::CheckFault;
-use flow_commands::{
-    CheckOutput, CheckRequest, CommandFault, Request, SecondFile, run_check, run_solve,
-};
+use flow_commands::{CheckOutput, CheckRequest, CommandFault, Request, run_check, run_solve};
 use flow_core::{MemorySink, MemorySource};
 use flow_pool::Open;
 use std::alloc::Global;
@@ -107,19 +105,11 @@ static ASKED: [Row; 6] = [
     ),
 ];
 
-/// The text with three machines and this certificate.
-fn with_certificate(certificate: &[u8]) -> Given {
-    Given {
-        second: SecondFile::Certificate(certificate),
-        ..OF_THREE
-    }
-}
-
 /// Whether `check` comes to what a row says.
 fn prints<R: Threads + Wait + Sync>(rt: &R, alloc: Global, row: &Row) -> bool {
     let (certificate, output, optimal, wanted) = *row;
     let request = Request::Check(CheckRequest { output, optimal });
-    let texts = with_certificate(certificate);
+    let texts = of_certificate(THREE_MACHINES, certificate);
     answers(rt, alloc, &texts, &request, ROOM, end_of(wanted))
 }
 
@@ -185,9 +175,8 @@ SHA-256 of the certificate f6c90bc9805d508694d96196f1268379da85227b2fee223f8431c
 fn reports<R: Threads + Wait + Sync>(rt: &R, alloc: Global, row: &Reported) -> bool {
     let (text, index, certificate, wanted) = *row;
     let texts = Given {
-        text,
         index,
-        ..with_certificate(certificate)
+        ..of_certificate(text, certificate)
     };
     answers(rt, alloc, &texts, &checked(REPORT), ROOM, end_of(wanted))
 }
@@ -201,7 +190,7 @@ fn check_reports_of_which_block_and_how_long(rt: HostRuntime) {
 
 #[test]
 fn check_fills_a_sink_up_to_its_limit(rt: HostRuntime) {
-    let texts = with_certificate(DEPTH_0);
+    let texts = of_certificate(THREE_MACHINES, DEPTH_0);
     for room in 0..28usize {
         let end = filled(room, b"sequence 3 1 2\nmakespan 12\n");
         assert!(rt;
@@ -242,10 +231,7 @@ fn is_accepted<R: Threads + Wait + Sync>(
     let ran = run_solve(
         rt, alloc, &mut file, 1, 2, depth, AMPLE, version, &Open, &mut cert,
     );
-    let texts = Given {
-        text,
-        ..with_certificate(cert.bytes())
-    };
+    let texts = of_certificate(text, cert.bytes());
     let request = Request::Check(CheckRequest {
         output: LINE,
         optimal: true,
