@@ -1,4 +1,4 @@
-/* flowshop.h: calls for permutation flow shops. docs/library.md says how to build the library and how to link it.
+/* flowshop.h: calls for permutation flow shops, for C99, C++98 or later. docs/c.md says how to link the library.
  *
  * A shop has jobs 1 to `jobs` and machines 1 to `machines`. Every machine takes the jobs in one common order, and
  * each job visits machine 1 first. `times` has jobs * machines whole numbers, machine by machine: the time of job j

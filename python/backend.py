@@ -34,6 +34,9 @@ Description-Content-Type: text/markdown
 
 {read("python", "README.md").decode()}"""
 
+# The command that pip puts beside the interpreter.
+SCRIPTS = b"[console_scripts]\nflowshop = flowshop.__main__:run\n"
+
 
 def package():
     """The files of the package, by their names in a wheel, and its platform."""
@@ -53,6 +56,7 @@ def write(folder, files, tag, is_pure):
     """Writes a wheel of these files, and returns its name."""
     about = f"Wheel-Version: 1.0\nGenerator: flowshop\nRoot-Is-Purelib: {str(is_pure).lower()}\nTag: {tag}\n"
     files = {**files, f"{INFO}/METADATA": METADATA.encode(), f"{INFO}/WHEEL": about.encode()}
+    files[f"{INFO}/entry_points.txt"] = SCRIPTS
     files.update((f"{INFO}/{name}", read(name)) for name in LICENSES)
     record = ""
     for name, data in sorted(files.items()):

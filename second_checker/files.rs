@@ -1,6 +1,6 @@
 //! Files that are opened and read whole.
 
-use crate::fault::Fault;
+use crate::failure::Failure;
 use std::fs::File;
 use std::io::{self, ErrorKind, Read};
 
@@ -12,12 +12,12 @@ const MAX_CERTIFICATE: usize = 1_000_000_000;
 const PIECE: usize = 16_384;
 
 /// Opens a file.
-pub fn open(name: &str) -> Result<File, Fault> {
-    File::open(name).map_err(|_| Fault::Open)
+pub fn open(name: &str) -> Result<File, Failure> {
+    File::open(name).map_err(|_| Failure::Open)
 }
 
 /// Opens a benchmark text; the name `stdin` is standard input.
-pub fn open_text(name: &str) -> Result<Box<dyn Read>, Fault> {
+pub fn open_text(name: &str) -> Result<Box<dyn Read>, Failure> {
     if name == "stdin" {
         return Ok(Box::new(io::stdin()));
     }
@@ -25,17 +25,17 @@ pub fn open_text(name: &str) -> Result<Box<dyn Read>, Fault> {
 }
 
 /// Reads a benchmark text.
-pub fn read_text(source: impl Read) -> Result<Vec<u8>, Fault> {
+pub fn read_text(source: impl Read) -> Result<Vec<u8>, Failure> {
     read_all(source, MAX_TEXT)
 }
 
 /// Reads the text that is to be checked.
-pub fn read_certificate(source: impl Read) -> Result<Vec<u8>, Fault> {
+pub fn read_certificate(source: impl Read) -> Result<Vec<u8>, Failure> {
     read_all(source, MAX_CERTIFICATE)
 }
 
 /// Reads a source to its end, at most as many bytes as the limit.
-fn read_all(mut source: impl Read, limit: usize) -> Result<Vec<u8>, Fault> {
+fn read_all(mut source: impl Read, limit: usize) -> Result<Vec<u8>, Failure> {
     let mut text = Vec::new();
     let mut piece = [0; PIECE];
     loop {
@@ -43,12 +43,12 @@ fn read_all(mut source: impl Read, limit: usize) -> Result<Vec<u8>, Fault> {
             Ok(0) => return Ok(text),
             Ok(count) => count,
             Err(error) if error.kind() == ErrorKind::Interrupted => continue,
-            Err(_) => return Err(Fault::Device),
+            Err(_) => return Err(Failure::Device),
         };
-        text.try_reserve(count).map_err(|_| Fault::Memory)?;
+        text.try_reserve(count).map_err(|_| Failure::Memory)?;
         text.extend_from_slice(&piece[..count]);
         if text.len() > limit {
-            return Err(Fault::TooLong);
+            return Err(Failure::TooLong);
         }
     }
 }

@@ -42,27 +42,6 @@ pub struct Claim {
     pub sequence: Vec<usize>,
 }
 
-impl Claim {
-    /// The line that says what a lawful text proves.
-    pub fn line(&self) -> String {
-        if self.lower == self.upper {
-            format!("optimal {}\n", self.upper)
-        } else {
-            format!("bounds {} {}\n", self.lower, self.upper)
-        }
-    }
-
-    /// The lines of the sequence and of its makespan.
-    pub fn sequence_lines(&self) -> String {
-        let mut jobs = String::new();
-        for job in &self.sequence {
-            jobs.push(' ');
-            jobs.push_str(&(job + 1).to_string());
-        }
-        format!("sequence{jobs}\nmakespan {}\n", self.upper)
-    }
-}
-
 /// What lines 1 to 4 of a text claim of a shop, and what follows them.
 pub fn read<'a>(shop: &Shop, text: &'a [u8]) -> Result<(Claim, &'a [u8]), Fault> {
     let mut rest = text;

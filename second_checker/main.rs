@@ -11,7 +11,10 @@
 //! - `heading.rs`: lines 1 to 4 of a text, which say what it claims;
 //! - `trees.rs`: the trees of a certificate;
 //! - `directions.rs`: the directions of a two-ended certificate;
-//! - `files.rs`, `fault.rs`: files, and the lines of refused runs.
+//! - `check.rs`, `fault.rs`: the check of a whole text, and what is wrong with one;
+//! - `files.rs`, `failure.rs`: files, and the lines of refused runs.
+//!
+//! `lib.rs` makes a library of the same files but the last two, for cargo.
 //!
 //! Jobs and machines count from 0 in the program, and from 1 in texts. A run holds the text that it checks, and little
 //! beside: no call is deeper than a list of all jobs is long.
@@ -19,16 +22,18 @@
 #![forbid(unsafe_code)]
 
 mod blocks;
+mod check;
 mod directions;
+mod failure;
 mod fault;
 mod files;
 mod heading;
 mod shop;
 mod trees;
 
-use fault::Fault;
-use heading::{Claim, Kind};
-use shop::Shop;
+use check::check;
+use failure::Failure;
+use heading::Claim;
 use std::env;
 use std::ffi::OsString;
 use std::io::{self, Write};
@@ -93,22 +98,27 @@ fn request_of(words: &[String]) -> Option<Request<'_>> {
     }
 }
 
-/// Checks a whole text of a shop: what it claims, or its first fault.
-fn check(shop: &Shop, text: &[u8]) -> Result<Claim, Fault> {
-    let (claim, rest) = heading::read(shop, text)?;
-    let rest = match claim.kind {
-        Kind::TwoEnded => directions::check(shop, claim.lower, rest)?,
-        Kind::Certificate(bound) => trees::check(shop, bound, claim.lower, claim.depth, rest)?,
-    };
-    // The last line is `end` with its LF, and nothing follows.
-    if rest != b"end\n" {
-        return Err(Fault::Certificate("End"));
+/// The line that says what a lawful text proves.
+fn line(claim: &Claim) -> String {
+    if claim.lower == claim.upper {
+        format!("optimal {}\n", claim.upper)
+    } else {
+        format!("bounds {} {}\n", claim.lower, claim.upper)
     }
-    Ok(claim)
+}
+
+/// The lines of the sequence and of its makespan.
+fn sequence_lines(claim: &Claim) -> String {
+    let mut jobs = String::new();
+    for job in &claim.sequence {
+        jobs.push(' ');
+        jobs.push_str(&(job + 1).to_string());
+    }
+    format!("sequence{jobs}\nmakespan {}\n", claim.upper)
 }
 
 /// What the run prints on standard output.
-fn output(request: &Request) -> Result<String, Fault> {
+fn output(request: &Request) -> Result<String, Failure> {
     // Both files are opened before the first byte is read, and the benchmark text is read first.
     let file = files::open_text(request.file)?;
     let cert = files::open(request.cert)?;
@@ -116,36 +126,36 @@ fn output(request: &Request) -> Result<String, Fault> {
     let text = files::read_certificate(cert)?;
     let claim = check(&shop, &text)?;
     if request.optimal && claim.lower != claim.upper {
-        return Err(Fault::Bounds(claim.lower, claim.upper));
+        return Err(Failure::Bounds(claim.lower, claim.upper));
     }
     Ok(if request.sequence {
-        claim.sequence_lines()
+        sequence_lines(&claim)
     } else {
-        claim.line()
+        line(&claim)
     })
 }
 
 /// Does what the words of the command line ask for.
-fn run() -> Result<(), Fault> {
+fn run() -> Result<(), Failure> {
     let words: Result<Vec<_>, _> = env::args_os().skip(1).map(OsString::into_string).collect();
-    let words = words.map_err(|_| Fault::CommandLine)?;
+    let words = words.map_err(|_| Failure::CommandLine)?;
     let text = if words.iter().any(|word| word == "--help") {
         HELP.to_string()
     } else {
-        output(&request_of(&words).ok_or(Fault::CommandLine)?)?
+        output(&request_of(&words).ok_or(Failure::CommandLine)?)?
     };
     let mut out = io::stdout();
     let written = out.write_all(text.as_bytes()).and_then(|()| out.flush());
-    written.map_err(|_| Fault::Write)
+    written.map_err(|_| Failure::Write)
 }
 
 fn main() -> ExitCode {
     match run() {
         Ok(()) => ExitCode::SUCCESS,
-        Err(fault) => {
+        Err(failure) => {
             // Where standard error is closed the status alone is left to tell.
-            let _ = writeln!(io::stderr(), "{fault}");
-            ExitCode::from(fault.status())
+            let _ = writeln!(io::stderr(), "{failure}");
+            ExitCode::from(failure.status())
         }
     }
 }

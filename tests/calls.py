@@ -2,99 +2,60 @@
 directions are those of the search of reference.py, each status of refusals.py is met, and slices that are too short are
 refused and left as they were."""
 
+import concurrent.futures
 import os
 import random
 import re
 import subprocess
 import sys
-import tempfile
-import threading
-from ctypes import byref
 
 import reference
 import refusals
-from counts import TOP, end
+from counts import EXAMPLES, PROGRAM, TOP, end, new_folder
 from plain_pictures import plain_picture
 from plain_texts import Refused, bounds_line, check_two_ended, plain_blocks
-from records import LIBRARY, SIZE, U8, U16, U32, U64, BeamOptions, Block, Bounds, Effort, Node, Part, Plan
-from records import Reached, Room, RoundsOptions, Spans, Text, call, equal, lent, shop_of
+from records import LIBRARY, U8, U16, U32, U64, BeamOptions, Bounds, Effort, Node, Part, Plan, Reached, Room
+from records import RoundsOptions, Spans, Text, block, call, equal, given, lent, results, shop_of
 from reference import Search, of_rows, rows_of
 
-PROGRAM = os.environ.get("FLOWSHOP_PROGRAM", os.path.join(TOP, "crates", "flow_tool", "out", "flow_tool"))
 SHOPS = int(sys.argv[1]) if len(sys.argv) > 1 else 2_000
 SHOP = of_rows(refusals.THREE)
 MANY = 100_000
 
-
 # --- The calls ---
-
-
-def given(kind, numbers):
-    """A slice that a call reads, as two arguments."""
-    array, count = lent(kind, numbers)
-    return array, SIZE(count)
 
 
 def generate(jobs, machines, seed, room=None):
     times = Room(U32, jobs * machines if room is None else room)
-    array, count = times.words()
-    refused = call("generate", U32(jobs), U32(machines), U32(seed), array, SIZE(count))
-    if refused:
-        equal("times that are kept", times.untouched(), True)
-        return refused
-    return times.taken(jobs * machines)
-
-
-def block(text, index, room=20_800):
-    times = Room(U32, room)
-    found = Block(7, 7, *times.words(), 7, 7, 7)
-    refused = call("block", *given(U8, text), U32(index), found)
-    numbers = found.jobs, found.machines, found.seed, found.upper, found.lower
-    if refused:
-        equal("what is kept", (numbers, times.untouched()), ((7,) * 5, True))
-        return refused
-    return (*numbers[:2], times.taken(found.jobs * found.machines)), *numbers[2:]
+    return call("generate", U32(jobs), U32(machines), U32(seed), times) or times.taken(jobs * machines)
 
 
 def makespan(shop, sequence):
-    value = U64(7)
-    refused = call("makespan", shop_of(shop), *given(U16, sequence), byref(value))
-    if refused:
-        equal("a value that is kept", value.value, 7)
-        return refused
-    return value.value
+    value = Room(U64, 1, is_slice=False)
+    return call("makespan", shop_of(shop), *given(U16, sequence), value) or value.taken(1)[0]
 
 
 def timetable(shop, sequence, rooms=None):
     count = shop[0] * shop[1]
     starts, ends = [Room(U64, room) for room in rooms or (count, count)]
-    refused = call("timetable", shop_of(shop), *given(U16, sequence), Spans(*starts.words(), *ends.words()))
-    if refused:
-        equal("what is kept", (starts.untouched(), ends.untouched()), (True, True))
-        return refused
-    return starts.taken(count), ends.taken(count)
+    refused = call("timetable", shop_of(shop), *given(U16, sequence), results(Spans, starts, ends))
+    return refused or (starts.taken(count), ends.taken(count))
 
 
 def picture(shop, sequence, room=20_000, lower=0):
     data = Room(U8, room)
-    text = Text(*data.words(), 7)
+    text = results(Text, data)
     refused = call("picture", shop_of(shop), *given(U16, sequence), U64(lower), text)
-    if refused:
-        equal("what is kept", (text.length, data.untouched()), (7, True))
-        return refused
-    return bytes(data.taken(text.length))
+    return refused or bytes(data.taken(text.length))
 
 
 def reached(name, shop, words, room, is_part=False):
     """A sequence and its makespan; of a part of a search also whether that was whole."""
     sequence = Room(U16, shop[0] if room is None else room)
-    found = Reached(*sequence.words(), 7, 7)
+    found = results(Reached, sequence)
     refused = call(name, shop_of(shop), *words, found)
-    if refused:
-        equal("what is kept", (found.makespan, found.whole, sequence.untouched()), (7, 7, True))
-        return refused
-    equal("how the search ended", found.whole in ((0,) if name == "neh" else (0, 1)), True)
-    return (sequence.taken(shop[0]), found.makespan) + (found.whole,) * is_part
+    equal("how the search ended", bool(refused) or found.whole in ((0,) if name == "neh" else (0, 1)), True)
+    return refused or (sequence.taken(shop[0]), found.makespan) + (found.whole,) * is_part
 
 
 def neh(shop, room=None):
@@ -115,13 +76,10 @@ def rounds(shop, start, most=20, seed=1, steps=10**9, room=None):
 
 def proved(name, shop, words, room, text_room):
     """A sequence, both bounds, and a text where there is room for one."""
-    sequence = Room(U16, shop[0] if room is None else room)
-    bounds, data = Bounds(*sequence.words(), 7, 7), Room(U8, text_room or 0)
-    text = Text(*data.words(), 7)
+    sequence, data = Room(U16, shop[0] if room is None else room), Room(U8, text_room or 0)
+    bounds, text = results(Bounds, sequence), results(Text, data)
     refused = call(name, shop_of(shop), *words, bounds, *([] if text_room is None else [text]))
     if refused:
-        kept = bounds.lower, bounds.upper, text.length, sequence.untouched(), data.untouched()
-        equal("what is kept", kept, (7, 7, 7, True, True))
         return refused
     found = sequence.taken(shop[0]), bounds.lower, bounds.upper
     return found if text_room is None else (*found, bytes(data.taken(text.length)))
@@ -149,19 +107,14 @@ def prove(shop, number, first=(), last=(), budget=MANY, room=None, rest_room=Non
     """What the call gives: that the directions prove the number; a sequence, its makespan and the directions before it;
     or the first directions, and the parts that are left."""
     jobs = shop[0]
-    sequence = Room(U16, jobs if room is None else room)
-    directions, rest = Room(U8, budget), Room(U16, jobs * (jobs + 4) if rest_room is None else rest_room)
-    part = Part(*sequence.words(), *directions.words(), *rest.words(), 7, 7, 7, 7)
-    node = Node(*lent(U16, first), *lent(U16, last))
+    sequence, directions = Room(U16, jobs if room is None else room), Room(U8, budget)
+    rest = Room(U16, jobs * (jobs + 4) if rest_room is None else rest_room)
+    part, node = results(Part, sequence, directions, rest), Node(*lent(U16, first), *lent(U16, last))
     refused = call("prove", shop_of(shop), node, U64(number), part)
-    numbers = part.found, part.makespan, part.directions_length, part.rest_length
     if refused:
-        kept = numbers, sequence.untouched(), directions.untouched(), rest.untouched()
-        equal("what is kept", kept, ((7, 7, 7, 7), True, True, True))
         return refused
     text = bytes(directions.taken(part.directions_length)).decode("ascii")
-    left = rest.taken(part.rest_length)
-    jobs = sequence.taken(jobs if part.found == 2 else 0)
+    left, jobs = rest.taken(part.rest_length), sequence.taken(jobs if part.found == 2 else 0)
     equal("no makespan where there is no sequence", part.found == 2 or part.makespan == 0, True)
     equal("no parts where the search has ended", part.found == 3 or left == [], True)
     return [("PROVED", text), ("BELOW", text, jobs, part.makespan), ("OVER", text, parts_of(left))][part.found - 1]
@@ -202,14 +155,12 @@ def by_parts(shop, number, first, last, budget):
             nodes[:0] = nodes_of(found[0])
     return text, None
 
-
 # --- Plain code ---
 
 
 def plain_timetable(shop, sequence):
     """When the operations start and end, job by job."""
-    found = [span for of_job in reference.spans(shop, sequence) for span in of_job]
-    return [start for start, _ in found], [end for _, end in found]
+    return tuple(map(list, zip(*[span for of_job in reference.spans(shop, sequence) for span in of_job])))
 
 
 def plain_check(shop, text, most):
@@ -231,14 +182,12 @@ def drawn(draw, most_jobs=5, most_machines=4, times=(3, 9, 99)):
     jobs, machines = draw.randint(1, most_jobs), draw.randint(1, most_machines)
     return jobs, machines, [draw.randint(0, draw.choice(times)) for _ in range(jobs * machines)]
 
-
 # --- What is refused ---
 
 
 # The calls on a shop and a sequence. All that they take besides is wrong.
 CALLS = {
-    "makespan": makespan,
-    "timetable": lambda shop, jobs: timetable(shop, jobs, (0, 0)),
+    "makespan": makespan, "timetable": lambda shop, jobs: timetable(shop, jobs, (0, 0)),
     "picture": lambda shop, jobs: picture(shop, jobs, 0),
     "improve": lambda shop, jobs: improve(shop, jobs, 65_537, 100_000_001, 0, 1_000_001, 0),
     "solve": lambda shop, jobs: solve(shop, jobs, 9, 0, 0, 0, 0),
@@ -248,20 +197,14 @@ CALLS = {
 }
 # Those on a shop alone, or with lists that are none.
 OTHER_CALLS = {
-    "neh": lambda shop: neh(shop, 0),
-    "check": lambda shop: check(shop, b"", 0),
+    "neh": lambda shop: neh(shop, 0), "check": lambda shop: check(shop, b"", 0),
     "prove": lambda shop: prove(shop, 12, [4], [4], room=0),
     **{name: lambda shop, make=make: make(shop, [4]) for name, make in CALLS.items()},
 }
 # Shops that are none, with the fault and its place.
 WRONG_SHOPS = [
-    ((0, 27, [1]), "JOBS", 0),
-    ((801, 27, [1]), "JOBS", 0),
-    ((3, 0, [1]), "MACHINES", 0),
-    ((3, 27, [1]), "MACHINES", 0),
-    ((3, 3, [1]), "COUNT", 0),
-    ((3, 3, [1] * 10), "COUNT", 0),
-    ((2, 1, [1, 1_000_000]), "TIME", 2),
+    ((0, 27, [1]), "JOBS", 0), ((801, 27, [1]), "JOBS", 0), ((3, 0, [1]), "MACHINES", 0), ((3, 27, [1]), "MACHINES", 0),
+    ((3, 3, [1]), "COUNT", 0), ((3, 3, [1] * 10), "COUNT", 0), ((2, 1, [1, 1_000_000]), "TIME", 2),
     ((2, 1, [1_000_000, 4_294_967_295]), "TIME", 1),
 ]
 # The options of calls, and the calls with these on the shop above, with too little room for their results.
@@ -292,8 +235,7 @@ def refuse_arguments():
             wanted = numbers[0] * numbers[1] if names[0] == "jobs" else 3
             equal(f"{names} of {numbers}", make(*numbers), ("ROOM", wanted))
     for shop, depth, wanted in [
-        ((1, 1, [5]), 2, ("PLAN_DEPTH", 0)),
-        ((100, 1, [5] * 100), 3, ("PLAN_PREFIXES", 0)),
+        ((1, 1, [5]), 2, ("PLAN_DEPTH", 0)), ((100, 1, [5] * 100), 3, ("PLAN_PREFIXES", 0)),
         ((3, 3, SHOP[2]), 0, ("OVER_BUDGET", 0)),
     ]:
         equal(f"a plan of the depth {depth}, {wanted}", solve(shop, list(range(1, shop[0] + 1)), depth, 1), wanted)
@@ -318,8 +260,7 @@ def refuse_rooms():
         equal(f"room for {room} starts", timetable(SHOP, START, (room, 9)), wanted)
         equal(f"room for {room} ends", timetable(SHOP, START, (9, room)), wanted)
     for name, make in [
-        ("neh", lambda room: neh(SHOP, room)[0]),
-        ("improve", lambda room: improve(SHOP, START, room=room)[0]),
+        ("neh", lambda room: neh(SHOP, room)[0]), ("improve", lambda room: improve(SHOP, START, room=room)[0]),
         ("beam", lambda room: beam(SHOP, START, room=room)[0]),
         ("rounds", lambda room: rounds(SHOP, START, room=room)[0]),
         ("prove", lambda room: prove(SHOP, 13, room=room, rest_room=0)[0]),
@@ -350,11 +291,7 @@ def refuse_texts():
     text = b"one\n2 2 5 9 8\ntimes\n1 14\n75 46\n\nnext\n1 1 0 4294967295 0\ntimes\n999999\n"
     first, second = ((2, 2, [1, 14, 75, 46]), 5, 9, 8), ((1, 1, [999_999]), 0, 4_294_967_295, 0)
     for index, room, wanted in [
-        (1, 20_800, first),
-        (2, 20_800, second),
-        (1, 4, first),
-        (1, 3, ("ROOM", 4)),
-        (2, 0, ("ROOM", 1)),
+        (1, 20_800, first), (2, 20_800, second), (1, 4, first), (1, 3, ("ROOM", 4)), (2, 0, ("ROOM", 1)),
         *[(index, 0, ("INDEX", 2)) for index in (0, 3, 4_294_967_295)],
     ]:
         equal(f"block {index} with room for {room}", block(text, index, room), wanted)
@@ -385,8 +322,7 @@ def compare_calls():
         (lambda: timetable(SHOP, START), ([0, 0, 8, 0, 8, 8, 4, 8, 12], [0, 8, 8, 4, 8, 12, 4, 10, 13])),
         (lambda: timetable((1, 1, [999_999]), [1]), ([0], [999_999])),
         (lambda: [times[-1] for times in timetable(great, range(1, 801))], [823_999_176, 824_999_175]),
-        (lambda: neh(SHOP), (START, 13)),
-        (lambda: improve(SHOP, [3, 1, 2])[1], 12),
+        (lambda: neh(SHOP), (START, 13)), (lambda: improve(SHOP, [3, 1, 2])[1], 12),
         # Each sequence of one machine has the sum of its times, which is Taillard's bound.
         (lambda: improve(one, [2, 1], 65_536, 100_000_000, 2_147_483_646, 1_000_000)[1], 7),
         (lambda: improve((1, 1, [0]), [1], 0, 0, 1, 0), ([1], 0)),
@@ -394,20 +330,15 @@ def compare_calls():
         (lambda: certify(long, list(range(1, 15)))[1:3], (25, 34)),
         (lambda: plain_check(SHOP, certify(SHOP, START)[3], 1_000)[1:], (12, 12)),
         (lambda: rounds(one, [2, 1], 100_000_000, steps=2**64 - 1), ([2, 1], 7, 1)),
-        (lambda: beam(one, [2, 1]), ([2, 1], 7, 1)),
-        (lambda: beam(SHOP, START, width=65_536, steps=2**64 - 1)[1], 12),
-        (lambda: beam(SHOP, START, width=0), (START, 13, 0)),
-        (lambda: beam(SHOP, START, steps=0), (START, 13, 0)),
+        (lambda: beam(one, [2, 1]), ([2, 1], 7, 1)), (lambda: beam(SHOP, START, width=65_536, steps=2**64 - 1)[1], 12),
+        (lambda: beam(SHOP, START, width=0), (START, 13, 0)), (lambda: beam(SHOP, START, steps=0), (START, 13, 0)),
         (lambda: beam(SHOP, START, number=12)[:2], (START, 13)),
-        (lambda: beam(SHOP, START, number=13)[:2], ([3, 1, 2], 12)),
-        (lambda: rounds(SHOP, START, 0), (START, 13, 0)),
-        (lambda: rounds(SHOP, START, steps=0), (START, 13, 0)),
-        (lambda: rounds(SHOP, START)[1:], (12, 0)),
+        (lambda: beam(SHOP, START, number=13)[:2], ([3, 1, 2], 12)), (lambda: rounds(SHOP, START, 0), (START, 13, 0)),
+        (lambda: rounds(SHOP, START, steps=0), (START, 13, 0)), (lambda: rounds(SHOP, START)[1:], (12, 0)),
         (lambda: check(SHOP, refusals.BOUNDS), (START, 11, 13)),
         (lambda: check(SHOP, refusals.LEAST.replace(b"++", b"+-")), ([3, 1, 2], 12, 12)),
         (lambda: check(SHOP, refusals.TREE.replace(b"C++.B", b"C+AB")), ([3, 1, 2], 12, 12)),
-        (lambda: prove(SHOP, 12, [4], [4], room=0), ("JOB", 1)),
-        (lambda: prove(SHOP, 12, [0], [], room=0), ("JOB", 1)),
+        (lambda: prove(SHOP, 12, [4], [4], room=0), ("JOB", 1)), (lambda: prove(SHOP, 12, [0], [], room=0), ("JOB", 1)),
         (lambda: prove(SHOP, 12, [3, 2], [1, 65_535], room=0), ("JOB", 4)),
         (lambda: prove(SHOP, 12, [3, 2], [2, 4], room=0), ("TWICE", 3)),
         (lambda: prove(SHOP, 12, [3, 2, 3], [2, 4], room=0), ("TWICE", 3)),
@@ -415,16 +346,13 @@ def compare_calls():
         (lambda: prove(SHOP, 12, rest_room=0)[0], "PROVED"),
         (lambda: prove(SHOP, 13, rest_room=0)[2:], ([3, 1, 2], 12)),
         (lambda: prove(SHOP, 2**64 - 1, START), ("BELOW", "", START, 13)),
-        (lambda: prove(SHOP, 13, [2, 1], [3]), ("PROVED", "")),
-        (lambda: prove(SHOP, 0), ("PROVED", "")),
+        (lambda: prove(SHOP, 13, [2, 1], [3]), ("PROVED", "")), (lambda: prove(SHOP, 0), ("PROVED", "")),
         # The states of the seed 1 are 16807, 282475249, 1622650073 and 984943658. The last seed is the modulus less 1,
         # so its state is the modulus less the multiplier.
-        (lambda: generate(2, 2, 1, room=9), [1, 14, 75, 46]),
-        (lambda: generate(1, 1, 2_147_483_646), [99]),
+        (lambda: generate(2, 2, 1, room=9), [1, 14, 75, 46]), (lambda: generate(1, 1, 2_147_483_646), [99]),
         (lambda: generate(800, 26, 5), reference.generated(800, 26, 5)[2]),
     ]:
         equal("what a call gives", make(), wanted)
-
 
 # --- Drawn shops ---
 
@@ -488,8 +416,7 @@ def compare_reached(draw):
     value, best = reference.makespan(shop, start), reference.least(shop)
     for make, aim in [
         (lambda: beam(shop, start, width=draw.choice((1, 3, 4_096))), 0),
-        (lambda: beam(shop, start, best + 1), best + 1),
-        (lambda: beam(shop, start, best), best),
+        (lambda: beam(shop, start, best + 1), best + 1), (lambda: beam(shop, start, best), best),
         (lambda: rounds(shop, start, draw.randint(0, 30), draw.randint(1, 2_147_483_646)), 0),
     ]:
         sequence, reached, _ = make()
@@ -509,57 +436,35 @@ def compare_pictures(draw):
     """Pictures beside the one of docs/ and those of the program, where it is built."""
     for shop in ((1, 1, [0]), (1, 1, [999_999])):
         equal("a picture", picture(shop, [1]), plain_picture(shop, [1]))
-    with open(os.path.join(TOP, "examples", "taillard_20_5.txt"), "rb") as published:
-        shop = block(published.read(), 1)[0]
-    with open(os.path.join(TOP, "docs", "schedule.svg"), "rb") as drawing:
-        shown = drawing.read()
+    shop = block((EXAMPLES / "taillard_20_5.txt").read_bytes(), 1)[0]
+    shown = (TOP / "docs" / "schedule.svg").read_bytes()
     sequence = [int(job) for job in re.findall(rb"job (\d+), machine 1,", shown)]
     equal("the picture of docs/, with its least makespan", picture(shop, sequence, lower=1278), shown)
     if not os.path.exists(PROGRAM):
-        print("no program is built: its pictures were passed over")
-        return
-    with tempfile.TemporaryDirectory() as folder:
+        return print("no program is built: its pictures were passed over")
+    with new_folder() as folder:
         for _ in range(100):
-            compare_with_program(draw, folder)
+            shop = drawn(draw)
+            sequence = draw.sample(range(1, shop[0] + 1), shop[0])
+            (folder / "shop").write_bytes(refusals.block_of(rows_of(shop)))
+            (folder / "start").write_text(f"sequence {' '.join(map(str, sequence))}\n")
+            words = [PROGRAM, "schedule", folder / "shop", "1", folder / "start", "--form", "svg"]
+            wanted = subprocess.run(words, stdout=subprocess.PIPE, check=True).stdout
+            equal(f"a picture of the program: {words[1:]} of {shop}, {sequence}", picture(shop, sequence), wanted)
 
 
-def compare_with_program(draw, folder):
-    """The picture of a random shop and sequence beside that of the program."""
-    shop = drawn(draw)
-    sequence = draw.sample(range(1, shop[0] + 1), shop[0])
-    text, begun = os.path.join(folder, "shop"), os.path.join(folder, "start")
-    with open(text, "wb") as file:
-        file.write(refusals.block_of(rows_of(shop)))
-    with open(begun, "w", encoding="ascii") as file:
-        print("sequence", *sequence, "\nmakespan", reference.makespan(shop, sequence), file=file)
-    words = [PROGRAM, "schedule", text, "1", begun, "--form", "svg"]
-    shown = subprocess.run(words, stdout=subprocess.PIPE, check=True).stdout
-    equal(f"a picture of the program: {words[1:]} of {shop}, {sequence}", picture(shop, sequence), shown)
-
-
-def compare_at_once():
-    """Eight threads, each with shops of its own."""
-
-    def compare_shops(seed):
-        for number in range(50):
-            compare_shop(random.Random(seed * 100 + number))
-
-    threads = [threading.Thread(target=compare_shops, args=[seed]) for seed in range(8)]
-    for thread in threads:
-        thread.start()
-    for thread in threads:
-        thread.join()
+def compare_at_once(seed):
+    """One of several threads that run at once, with shops of its own."""
+    for number in range(50):
+        compare_shop(random.Random(seed * 100 + number))
 
 
 def main():
     """Runs all, and says how many were as they should be."""
-    with open(os.path.join(TOP, "VERSION"), encoding="ascii") as version:
-        major, minor, patch = map(int, version.read().split("."))
+    major, minor, patch = map(int, (TOP / "VERSION").read_text().split("."))
     equal("the version", LIBRARY.flowshop_version(), major * 1_000_000 + minor * 1_000 + patch)
-    refuse_arguments()
-    refuse_rooms()
-    refuse_texts()
-    compare_calls()
+    for part in (refuse_arguments, refuse_rooms, refuse_texts, compare_calls):
+        part()
     draw = random.Random(20_261_125)
     for _ in range(200):
         seed = draw.randint(1, 20), draw.randint(1, 5), draw.randint(1, 2_147_483_646)
@@ -570,7 +475,8 @@ def main():
     compare_pictures(draw)
     for _ in range(SHOPS):
         compare_shop(draw)
-    compare_at_once()
+    with concurrent.futures.ThreadPoolExecutor(8) as pool:
+        list(pool.map(compare_at_once, range(8)))
     end("calls from Python")
 
 

@@ -10,16 +10,15 @@ by which it is made, in which "$@" is the program with its words; and the most m
 import collections
 import hashlib
 import itertools
-import os
 import pathlib
 import re
 import subprocess
 
+from counts import EXAMPLES, TOP
 from plain_texts import bounds_line, plain_block, proved
 from refusals import TREE, block_of, text_of
 from worked import FILES
 
-TOP = pathlib.Path(__file__).resolve().parent.parent
 FIELDS = "words out line stdin keep view by most"
 Run = collections.namedtuple("Run", FIELDS, defaults=("", "", None, None, None, None, 0))
 # A file of a text, or of what a function gives in pieces; and one of what a run of the program writes.
@@ -124,8 +123,7 @@ def multiplied(name, factor):
                     for number, line in enumerate(pathlib.Path(name).read_bytes().splitlines(keepends=True))]
 
 
-AWK = "awk", "-f", os.path.join(TOP, "examples", "from_csv.awk")
-WITH_NAMES = "awk", "-f", os.path.join(TOP, "examples", "with_names.awk")
+AWK, WITH_NAMES = (("awk", "-f", EXAMPLES / f"{name}.awk") for name in ("from_csv", "with_names"))
 
 
 def of_table(name):
@@ -152,31 +150,24 @@ CASES["span, gen and neh"] = [
     Run("span stdin 1 2 3 1", "makespan 9\n", stdin="two_machines.txt"),
     Run("span three_machines.txt 1 1 2 3", "makespan 15\n"),
     # A text may have 16,777,216 bytes.
-    File("exact", pieces(SHORT, b" ", MEGABYTES_16 - len(SHORT))),
-    Run("span exact 1 2 3 1", "makespan 9\n"),
+    File("exact", pieces(SHORT, b" ", MEGABYTES_16 - len(SHORT))), Run("span exact 1 2 3 1", "makespan 9\n"),
     File("long", pieces(SHORT, b" ", MEGABYTES_16 - len(SHORT) + 1)),
     Run("span long 1 2 3 1", line="failed read TooLong"),
     # As many blocks as a text holds, and numbers and labels as long.
-    File("blocks", pieces(b"", b"a\n1 1 1 1 1\nb\n0\n", 1_048_576)),
-    Run("span blocks 1048576 1", "makespan 0\n"),
-    Run("span blocks 1048577 1", line="refused index"),
-    File("number", pieces(b"a\n", b"1", MEGABYTES_16 - 2)),
-    Run("span number 1 1", line="refused text Number 2"),
-    File("label", pieces(b"", b"\0", MEGABYTES_16)),
+    File("blocks", pieces(b"", b"a\n1 1 1 1 1\nb\n0\n", 1_048_576)), Run("span blocks 1048576 1", "makespan 0\n"),
+    Run("span blocks 1048577 1", line="refused index"), File("number", pieces(b"a\n", b"1", MEGABYTES_16 - 2)),
+    Run("span number 1 1", line="refused text Number 2"), File("label", pieces(b"", b"\0", MEGABYTES_16)),
     Run("span label 1 1", line="refused text Head 2"),
     Run("gen 20 5 873654221", (TOP / "examples" / "taillard_20_5.txt").read_text()),
     Run("gen 2 2 1", "number of jobs, number of machines, initial seed, upper bound and lower bound :\n2 2 1 122 122\n"
         "processing times :\n1 14\n75 46\n"),
     Run("gen 800 26 1", "021e78424a26b4cf99d389aa83713cf139e4358ab90b355ff3c0bf176db4f028\n", view=sha256),
-    Run("neh three_machines.txt 1", "sequence 2 1 3\nmakespan 13\n"),
-    Run("neh two_machines.txt 1", TWO_MACHINES),
+    Run("neh three_machines.txt 1", "sequence 2 1 3\nmakespan 13\n"), Run("neh two_machines.txt 1", TWO_MACHINES),
     Run("neh stdin 1", TWO_MACHINES, stdin="two_machines.txt"),
     Run("neh stdin 4", line="refused index", stdin="several_blocks.txt"),
     # A table with a row for each job, as a shop. Other tables are tried by tests/tables.
-    File("rows.csv", b"4,0,4\r\n\r\n0,8, 0\r\n0,2,1\r\n"),
-    File("of_rows", of_table("rows.csv")),
-    Run("neh of_rows 1", "sequence 2 1 3\nmakespan 13\n"),
-    Run("(neh|certify) table.csv 1", line="refused text Head 2"),
+    File("of_rows", of_table("table.csv")),
+    Run("neh of_rows 1", "sequence 2 1 3\nmakespan 13\n"), Run("(neh|certify) table.csv 1", line="refused text Head 2"),
 ]
 # The long sequences were worked out apart from the program: those of a beam and of rounds by two programs that share
 # nothing with it, and those of large shops by bench/improve.rs.
@@ -186,6 +177,7 @@ CASES["improve"] = [
     Run("improve three_machines.txt 1 --width 0 --rounds 0 --start start", expected("start")),
     Made("of_neh", "neh taillard_20_5.txt 1"),
     Run("improve taillard_20_5.txt 1 --width 0 --rounds 5 --seed 7", lambda: pathlib.Path("of_neh").read_text()),
+    Run("improve taillard_20_5.txt 1 --time-limit 0", lambda: pathlib.Path("of_neh").read_text()),
     Made("shop", "gen 20 10 587595453"),
     Run("improve shop 1 --width 0 --rounds 20 --seed 3",
         start([18, 5, 9, 12, 17, 3, 15, 4, 6, 19, 8, 2, 20, 10, 11, 14, 13, 7, 1, 16], 1596)),
@@ -205,12 +197,9 @@ CASES["improve"] = [
     Made("shop", "gen 200 10 1"),
     Run("improve shop 1 --width 0 --rounds 20", "3ac8220e3bb23a934c9d5d2408b869f73da870da365f76faed6b9899b80a419d\n",
         view=sha256),
-    Made("shop", "gen 100 5 2"),
-    Run("improve shop 1 --width 0 --rounds 30", expected("improved_100_5")),
+    Made("shop", "gen 100 5 2"), Run("improve shop 1 --width 0 --rounds 30", expected("improved_100_5")),
     # With equal times all sequences have the same makespan, so each start stays.
-    File("greatest", block(800, 26, 999_999)),
-    File("up", UP),
-    Run("improve greatest 1", DOWN),
+    File("greatest", block(800, 26, 999_999)), File("up", UP), Run("improve greatest 1", DOWN),
     Run("improve greatest 1 --start up --rounds 100000000", UP),
 ]
 # Two-ended certificates. The sequence of the least makespan is the only one of the first shop, and for each number the
@@ -218,6 +207,10 @@ CASES["improve"] = [
 CASES["certify"] = [
     Run("certify three_machines.txt 1(| --start start| --rounds 0 --start start)", expected("two_ended")),
     Run("certify three_machines.txt 1 --width 0 --rounds 0(| --directions 1000000000)", expected("two_ended")),
+    # In no time there are the starting sequence, and the bound of the empty lists. With time enough this is proved.
+    Run("certify three_machines.txt 1 --time-limit 0(| --workers 2)",
+        text_of("two-ended 1", "3 3", "10 13", [2, 1, 3], "").decode()),
+    Run("certify three_machines.txt 1 --time-limit 4294967295(| --workers 2)", expected("two_ended")),
     Run("certify stdin 1 --rounds 0 --seed 2147483646", expected("two_ended"), stdin="three_machines.txt"),
     # A shop whose empty lists have the least makespan as their bound has no direction.
     Run("certify two_machines.txt 1 --width 0 --rounds 0 --directions 1",
@@ -247,20 +240,15 @@ CASES["certify"] = [
     # COUNT + 20, which is also the bound of a node with the long job in a list; any other node has the bound COUNT +
     # 11, and ends that are alike. So the directions of each number above that one have a plus for each list of distinct
     # short jobs.
-    File("ones", ones(8)),
-    File("of_ones", of_ones(8, 28, 109_601)),
-    File("bounds_of_ones", of_ones(8, 19, 0)),
+    File("ones", ones(8)), File("of_ones", of_ones(8, 28, 109_601)), File("bounds_of_ones", of_ones(8, 19, 0)),
     Run("certify ones 1 --width 0 --rounds 0(| --directions 1000000| --workers 1| --workers 2| --workers 3| --workers 4"
         "| --workers 64)", of_ones(8, 28, 109_601)),
     Run("certify ones 1 --width 0 --rounds 0 --directions (1|109600|109600 --workers 3)", of_ones(8, 19, 0)),
     Run("certify ones 1 --work 10 --directions 1", "bounds 19 28\n", keep="certified", view=of_two_ended("ones")),
-    Run("check ones 1 (certified|bounds_of_ones)", "bounds 19 28\n"),
-    Run("check ones 1 of_ones", "optimal 28\n"),
-    File("ones", ones(10)),
-    File("of_ones", of_ones(10, 30, 9_864_101)),
+    Run("check ones 1 (certified|bounds_of_ones)", "bounds 19 28\n"), Run("check ones 1 of_ones", "optimal 28\n"),
+    File("ones", ones(10)), File("of_ones", of_ones(10, 30, 9_864_101)),
     Run("certify ones 1 --width 0 --rounds 0(| --workers 4)", sha256(of_ones(10, 30, 9_864_101).encode()), view=sha256),
-    Run("check ones 1 of_ones --optimal", "optimal 30\n"),
-    File("ones", ones(13)),
+    Run("check ones 1 of_ones --optimal", "optimal 30\n"), File("ones", ones(13)),
     Run("certify ones 1 --width 0 --rounds 0 --directions 100000", "bounds 24 33\n", keep="certified",
         view=of_two_ended("ones")),
     Run("check ones 1 certified", "bounds 24 33\n"),
@@ -329,19 +317,16 @@ CASES["solve"] = [
     Run("solve three_machines.txt 1 --depth 0 --start start", FROM_START),
     # The instance of docs/manual.md with a start. The value and the size are those of a copy of bench/plain.rs that
     # begins with a given start.
-    Made("shop", "gen 15 5 18"),
-    Run("solve shop 1", line="refused run OverBudget 11"),
+    Made("shop", "gen 15 5 18"), Run("solve shop 1", line="refused run OverBudget 11"),
     File("of_shop", start([1, 5, 3, 8, 12, 6, 4, 9, 15, 13, 7, 11, 14, 10, 2], 1028)),
     Run("solve shop 1 --start of_shop", "235633\n", keep="certified", view=size),
-    Run("check shop 1 certified", "optimal 1028\n"),
-    Made("shop", "gen 20 5 13"),
+    Run("check shop 1 certified", "optimal 1028\n"), Made("shop", "gen 20 5 13"),
     Run("solve shop 1 --depth 0", line="refused run OverBudget 0"),
     File("long_start", pieces(b"sequence", b" 1", 8_388_604)),
     Run("solve three_machines.txt 1 --start long_start", line="refused sequence Length"),
     # Plans and budgets that are refused.
     Run("solve three_machines.txt 1 --workers (1|2|3|64) --budget 3", line="refused run OverBudget 2"),
-    File("of_one_job", "a\n1 1 0 0 0\nb\n0\n"),
-    Run("solve of_one_job 1 --depth 2", line="refused plan Depth"),
+    File("of_one_job", "a\n1 1 0 0 0\nb\n0\n"), Run("solve of_one_job 1 --depth 2", line="refused plan Depth"),
     # A search ends soon after its tree is longer than the budget: this instance's tree has more than 100 MB.
     Run("solve taillard_20_5.txt 1 --budget 1000", line="refused run OverBudget 0"),
 ]
@@ -357,28 +342,25 @@ CASES["schedule"] = [
     *[Run("schedule three_machines.txt 1 /dev/stdin", TIMETABLE, stdin=name) for name in ("certificate", "two_ended")],
     Run("solve three_machines.txt 1 --depth 0 --start of_check", TREE.decode().replace("C++.B", "C+AB")),
     Run("schedule three_machines.txt 1 sequence --form svg", "right\n", view=picture_of("times.csv")),
-    Made("of_neh", "neh taillard_20_5.txt 1"),
-    Made("times.csv", "schedule taillard_20_5.txt 1 of_neh"),
+    Made("of_neh", "neh taillard_20_5.txt 1"), Made("times.csv", "schedule taillard_20_5.txt 1 of_neh"),
     Run("schedule taillard_20_5.txt 1 of_neh --form svg", "right\n", view=picture_of("times.csv")),
     # The title of a picture says what is proved: of a certificate, of one whose bounds differ, and of a sequence.
     File("bounds", "flowshop two-ended 1\n3 3\n11 13\n2 1 3\n-\nend\n"),
     *[Run(f"schedule three_machines.txt 1 {name} --form svg", f"{title}, jobs 3, machines 3\n",
           view=matches("\n<title>([^<]*)")) for name, title in (
-        ("(two_ended|certificate)", "optimal 12"),
-        ("bounds", "makespan 13, lower bound 11"),
+        ("(two_ended|certificate)", "optimal 12"), ("bounds", "makespan 13, lower bound 11"),
         ("sequence", "makespan 12"),
     )],
     # A bar and a time of the greatest shop: 20,800 of them, below 8 MB.
-    File("greatest", block(800, 26, 999_999)),
-    File("up", UP),
+    File("greatest", block(800, 26, 999_999)), File("up", UP),
     Run("schedule greatest 1 up --form svg", "20800 True\n",
         view=lambda output: f"{output.count(b'<rect ')} {len(output) < 8_000_000}\n"),
     File("of_table", of_table("table.csv")),
     Run("schedule of_table 1 sequence", 'job,machine,start,end\nTable,Cut,0,0\nTable,Weld,0,2\nTable,Paint,2,3\n'
         '"Shelf, large",Cut,0,4\n"Shelf, large",Weld,4,4\n"Shelf, large",Paint,4,8\nDoor,Cut,4,4\nDoor,Weld,4,12\n'
         'Door,Paint,12,12\n', view=command(*WITH_NAMES, "of_table", "/dev/stdin")),
-    File("quarters.csv", "Job;Cut;Weld\nDoor;1,5;0,25\nShelf;0,5;2\n"),
-    File("of_quarters", of_table("quarters.csv")),
+    File("of_quarters", "jobs\tDoor\tShelf\n2 2 0 0 0\n"
+         "machines, times in 1/4, decimal comma, separator semicolon\tCut\tWeld\n6 2\n1 8\n"),
     File("of_names", "sequence 2 1\nmakespan 11\n"),
     Run("schedule of_quarters 1 of_names", "job,machine,start,end\n2,1,0,2\n2,2,2,10\n1,1,2,8\n1,2,10,11\n"),
     Run("schedule of_quarters 1 of_names", "job;machine;start;end\nShelf;Cut;0;0,5\nShelf;Weld;0,5;2,5\n"
@@ -388,13 +370,11 @@ CASES["schedule"] = [
 # equal jobs each is put in first. No sequence is below the bound of the two empty lists here, so the starting sequence
 # is proved without a sign.
 CASES["the greatest"] = [
-    File("greatest", block(800, 26, 999_999)),
-    Run("neh greatest 1", DOWN),
+    File("greatest", block(800, 26, 999_999)), Run("neh greatest 1", DOWN),
     Run("solve greatest 1 --depth 0", text_of("certificate 1", "800 26 0", 824_999_175, DOWN_ORDER, "A").decode(),
         keep="certified"),
     Run("check greatest 1 certified", "optimal 824999175\n"),
-    Run("certify greatest 1",
-        text_of("two-ended 1", "800 26", "824999175 824999175", DOWN_ORDER, "").decode()),
+    Run("certify greatest 1", text_of("two-ended 1", "800 26", "824999175 824999175", DOWN_ORDER, "").decode()),
     # As many blocks of this size as a text holds, and a sequence of 800 jobs.
     File("blocks", pieces(b"", block(800, 26, 999_999), 110)),
     Run(f"span (greatest 1|blocks 110) {' '.join(map(str, DOWN_ORDER))}", "makespan 824999175\n"),
@@ -409,8 +389,7 @@ CASES["the greatest"] = [
     Run("solve jobs 1 --depth 2 --workers 4",
         text_of("certificate 1", "316 1 2", 0, range(316, 0, -1), *"A" * 99_540).decode()),
     # Drawn times; and times of up to 999,999, all of them multiples of 10,101. The bounds of both are lawful.
-    Made("drawn", "gen 800 26 1"),
-    File("long_times", multiplied("drawn", 10_101)),
+    Made("drawn", "gen 800 26 1"), File("long_times", multiplied("drawn", 10_101)),
     *[row for name in ("drawn", "long_times") for row in (
         Run(f"certify {name} 1 {FAR}", "flowshop two-ended 1\n", keep="certified", view=lines(1)),
         Run(f"check {name} 1 certified", said_of("certified")),
@@ -431,11 +410,9 @@ CASES["streams"] = [
     Run("check stdin 1 certificate", line="failed read Device", by='"$@" <&-'),
     Run("check three_machines.txt 1 /dev/stdin", line="failed open", by='"$@" <&-'),
     Run("check three_machines.txt 1 certificate", "optimal 12\n", by='"$@" <&-'),
-    Run("neh two_machines.txt 1", TWO_MACHINES, by='"$@" 2>&-'),
-    Run("neh two_machines.txt 2", line=1, by='"$@" 2>&-'),
+    Run("neh two_machines.txt 1", TWO_MACHINES, by='"$@" 2>&-'), Run("neh two_machines.txt 2", line=1, by='"$@" 2>&-'),
     *[PROGRESS._replace(by=by) for by in ('"$@" 2>&-', '"$@" 2>/dev/full', '"$@" 2> >(exec true)', 'unheard "$@"')],
-    PROGRESS._replace(line="", by='"$@" 2>none'),
-    PROGRESS._replace(out="", line=3, by='unheard "$@" >/dev/full'),
+    PROGRESS._replace(line="", by='"$@" 2>none'), PROGRESS._replace(out="", line=3, by='unheard "$@" >/dev/full'),
     # A pipe that is closed in the middle, and one before the first byte.
     Run("solve large_tree.txt 1 --depth 0 --budget 100000000", line="failed write Device", by='half_read "$@"'),
     Run("certify ones 1 --width 0 --rounds 0", line="failed write Device", by='half_read "$@"'),
@@ -470,16 +447,16 @@ CASES["words"] = [
     Run("check (two_machines.txt 1|three_machines.txt 1 certificate --either|three_machines.txt certificate)",
         line="refused command line"),
     Run("certify three_machines.txt(| 1 -o certificate| 1 --output certificate| 1 --time 60| 1 --rounds 1,000"
-        "| 1 --bounds| 1 --certificate 1| 1 --mirrored| 1 --progress --progress| 1 --progress=1)",
+        "| 1 --bounds| 1 --certificate 1| 1 --mirrored| 1 --progress --progress| 1 --progress=1"
+        "| 1 --time-limit 1.5| 1 --time-limit 10s)",
         line="refused command line"),
     *[Run(f"certify three_machines.txt 1 --{name}(| 4294967296| -1| 1 --{name} 1)", line="refused command line")
-      for name in ("directions", "workers", "rounds")],
+      for name in ("directions", "workers", "rounds", "time-limit")],
     Run("improve three_machines.txt 1 --rounds", line="refused command line"),
     Run("schedule three_machines.txt 1(| sequence 2)", line="refused command line"),
     Run("schedule three_machines.txt 1 sequence --form(| pdf| png| CSV| csv --form svg)", line="refused command line"),
     # A name with blanks, and files of the name stdin.
-    File("stdin", SHORT),
-    Run("neh ./stdin 1", TWO_MACHINES),
+    File("stdin", SHORT), Run("neh ./stdin 1", TWO_MACHINES),
     Run("neh", TWO_MACHINES,
         by="mkdir -p 'a folder'; cp two_machines.txt 'a folder/a file'; \"$@\" 'a folder/a file' 1"),
     File("stdin", "sequence 1 2 3\n"),

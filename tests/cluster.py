@@ -28,8 +28,8 @@ from counts import BLOCKS, TOP, command, end, equal, refused
 from reference import Search
 
 import flowshop
-from flowshop import Interrupted, Shop, _certify, _command_certify, _files, _library, _parts, _spread, _texts, _threads
-from flowshop import _waiting
+from flowshop import Interrupted, Shop, _certify, _command_certify, _files, _library, _parts, _rows, _spread, _texts
+from flowshop import _threads, _waiting
 from flowshop.__main__ import main
 
 # A shop whose least makespan no search of a test proves.
@@ -38,7 +38,10 @@ SOME = Shop.generate(20, 10, 1)
 FEW = {"width": 20, "rounds": 20, "seed": 3, "work": 7, "directions": 30_000}
 LONG = {"width": 16, "rounds": 10, "work": 1, "directions": 1_000_000_000}
 # A table of an earlier run.
-OLD = "file,block,jobs,machines,lower,upper,directions,seconds,sha256\nolder,0,1,1,1,1,0,,\n"
+OLD = (
+    "file,block,seed,jobs,machines,lower,upper,gap,optimal,kind,directions,sequence,cpu_seconds,seconds,sha256\n"
+    "older,0,0,1,1,1,1,0.000,true,two-ended 1,0,1,,,\n"
+)
 
 
 def shuffled(seed):
@@ -99,11 +102,8 @@ def compare_texts(pool):
     """The text of a run, whoever makes its searches, is that of one call of the library."""
     steps = set()
     ways = [
-        ("one worker", {}),
-        ("three threads", {"workers": 3}),
-        ("a map", {"map": shuffled(7)}),
-        ("processes", {"map": pool.map, "workers": 2}),
-        ("one that is not stopped", {"time_limit": 1000}),
+        ("one worker", {}), ("three threads", {"workers": 3}), ("a map", {"map": shuffled(7)}),
+        ("processes", {"map": pool.map, "workers": 2}), ("one that is not stopped", {"time_limit": 1000}),
     ]
     for shop, choice in drawn_runs():
         wanted = one_call(shop, **choice)
@@ -339,10 +339,8 @@ def interrupt_runs(pool):
     draw = random.Random(8)
     ways = [
         ("one call", lambda: HARD.certify(**{**LONG, "width": 64})),
-        ("one", lambda: HARD.certify(**LONG, time_limit=100)),
-        ("threads", lambda: HARD.certify(**LONG, workers=3)),
-        ("processes", lambda: HARD.certify(**LONG, map=pool.map)),
-        ("improve", HARD.improve),
+        ("one", lambda: HARD.certify(**LONG, time_limit=100)), ("threads", lambda: HARD.certify(**LONG, workers=3)),
+        ("processes", lambda: HARD.certify(**LONG, map=pool.map)), ("improve", HARD.improve),
     ]
     for number in range(20):
         name, call = ways[number % 5]
@@ -466,13 +464,14 @@ def use_command():
             got = [(row["lower"], row["upper"], row["sha256"]) for row in rows]
             equal(f"the table of {executor}", got, [(f.lower, f.upper, d) for f, d in zip(wanted, digests)])
             lines = [line.split() for line in run.stdout.splitlines()]
-            equal("what is printed", [line[-1] for line in lines], ["sha256", *digests])
+            equal("what is printed", [line[-1] for line in lines[:-1]], ["sha256", *digests])
+            equal("the last line", lines[-1][:3], ["sum", "3", "3"])
             names = [f"several_blocks.txt.{number}.certificate" for number in (1, 2, 3)]
             equal("the files", sorted(os.listdir(out)), [*names, "table"])
             equal("the texts", [(out / name).read_bytes() for name in names], [found.text for found in wanted])
             searched = [row["seconds"] is not None for row in rows]
             equal(f"what is searched by {executor}", searched, [executor == "threads"] * 3)
-            places = [len(str(row["seconds"]).partition(".")[2]) for row in rows]
+            places = [len(str(row[name]).partition(".")[2]) for row in rows for name in ("seconds", "cpu_seconds")]
             equal("the decimals of the seconds", max(places) < 4, True)
         # The text of another block, one that is cut off, and one that is not there.
         unlawful = [wanted[1].text, wanted[1].text[:-1]]
@@ -514,7 +513,8 @@ def use_command():
         runs = [command("certify", hard, "--out", out, "--work", 1, "--directions", 1000) for _ in range(2)]
         kept = "its bounds differ; remove this file, and the block is searched anew"
         equal("bounds that are kept", [run.stderr.count(kept) for run in runs], [0, 1])
-        equal("what is printed of them", runs[0].stdout.split()[-1], runs[1].stdout.split()[-1])
+        printed = [run.stdout.splitlines()[1].split()[-1] for run in runs]
+        equal("what is printed of them", printed[0], printed[1])
 
 
 def use_odd_names():
@@ -526,9 +526,10 @@ def use_odd_names():
             strict = {**os.environ, "PYTHONIOENCODING": "utf-8:strict"}
             run = command("certify", file, "--out", folder, "--csv", table, env=strict)
             equal(f"the status of {shown_as}", run.returncode, 0)
-            row = [f"{folder}/{shown_as}", "1", "2", "1", "3", "3", "0"]
+            row = [f"{folder}/{shown_as}", "1", "0", "2", "1", "3", "3"]
             equal(f"the table of {shown_as}", table.read_text().splitlines()[1].split(",")[:7], row)
-            equal(f"what is printed of {shown_as}", run.stdout.splitlines()[1].split()[:7], row)
+            printed = run.stdout.splitlines()[1].split()[:6]
+            equal(f"what is printed of {shown_as}", printed, [*row[:2], *row[3:]])
             equal("the files", sorted(os.listdir(folder)), sorted([name, f"{name}.1.certificate", "table"]))
 
 
@@ -568,7 +569,7 @@ def keep_streams():
             subprocess.run([*shell, *words, name], **run)
             *printed, last = file.read_text().splitlines(keepends=True)
             commas = [line.count(",") for line in printed]
-            equal(f"what is in the file of {name}", (commas, last), ([0] * 4 + [8] * 4, "after\n"))
+            equal(f"what is in the file of {name}", (commas, last), ([0] * 5 + [14] * 4, "after\n"))
             file.write_text("before\n")
             with open(file, "a") as out:
                 status = subprocess.run([*words, name], **{**run, "stdout": out}).returncode
@@ -578,7 +579,7 @@ def keep_streams():
             table.write_text(OLD)
             with open(table) as read:
                 status = subprocess.run([*words, name], stdin=read, **run).returncode
-            equal(f"what is in {name}", (status, table.read_text()), (0, "".join(printed[4:])))
+            equal(f"what is in {name}", (status, table.read_text()), (0, "".join(printed[5:])))
         with mock.patch.object(os, "listdir", side_effect=FileNotFoundError), open(table, "w"):
             _files.save(table, b"whole\n")
         equal("a file, where no streams are listed", table.read_text(), "whole\n")
@@ -588,7 +589,7 @@ def keep_streams():
             name, passed = f"/proc/self/fd/{out.fileno()}", [out.fileno()]
             status = subprocess.run([*words, name], pass_fds=passed, **run).returncode
             out.seek(0)
-            equal("a file whose folder is gone", (status, out.read()), (0, "".join(printed[4:])))
+            equal("a file whose folder is gone", (status, out.read()), (0, "".join(printed[5:])))
         with mock.patch.object(os, "replace") as moved:
             for number in (1, 2):
                 _files.save(pathlib.Path(folder, f"{'n' * 100}.{number}"), b"")
@@ -666,7 +667,7 @@ def refuse_words():
         said = "flowshop: --out is b, and there is no such folder\n"
         equal("a folder that a check does not make", (run.returncode, run.stderr), (2, said))
         said = command("certify", TOP / "examples" / "table.csv", cwd=folder).stderr
-        equal("what is said of a table", "examples/from_csv.awk makes such a file of a table" in said, True)
+        equal("what is said of a table", "python3 -m flowshop shop makes such a file of a table" in said, True)
         equal("the status of no command", command().returncode, 2)
         after = {name: pathlib.Path(folder, name).read_bytes() for name in os.listdir(folder) if name != "more"}
         equal("that no file is written", (after, os.listdir(more)), (before, ["a"]))
@@ -729,10 +730,10 @@ def use_terminal():
         with on_terminal([sys.executable, "-m", "flowshop", *words]) as (_, written):
             text = written(60)
         *lines, last = shown(text)
-        rows = [line.split()[1] for line in lines if len(line.split()) == 9]
+        rows = [line.split()[1] for line in lines if len(line.split()) == 12]
         equal("the rows", rows, ["block", *"12345"])
-        others = [line for line in lines if len(line.split()) != 9]
-        equal("the other lines", [line.split(" ", 1)[0] for line in others], [f"{folder}/shops.txt.3.certificate:"])
+        others = [line.split(" ", 1)[0] for line in lines if len(line.split()) != 12]
+        equal("the other lines", others, [f"{folder}/shops.txt.3.certificate:", "sum"])
         equal("that the last line is ended", last, "")
         equal("that a line says how far a block is", f"{file} 1: step " in text, True)
         equal("that it is written anew", "\x1b[K" in text, True)
@@ -790,7 +791,7 @@ def stop_at_pipes():
     """At an interrupt nothing waits for a pipe that is not read, a file that is not written makes a line, a stream for
     lines that is gone is passed over, and a table on a terminal begins at the left. Where no block is done, the file
     of the table stays as it is."""
-    row = _files.Row("shop.txt", 1, 1, 1, 1, 1, 0, None, "")
+    row = {**dict.fromkeys(_files.PROVED.names), "file": "shop.txt", "optimal": True}
     with tempfile.TemporaryDirectory() as folder:
         pipe, said = pathlib.Path(folder, "pipe"), Stream(False)
         os.mkfifo(pipe)
@@ -802,7 +803,8 @@ def stop_at_pipes():
             (pathlib.Path(folder, "table"), gone, None),
         ]:
             begun = time.monotonic()
-            rows = _files.Table([], argparse.Namespace(csv=str(table), json=None), io.StringIO())
+            files = argparse.Namespace(csv=str(table), json=None, latex=None)
+            rows = _rows.Table(_files.PROVED, [], files, io.StringIO())
             rows.add(row)
             _command_certify._stop(rows, 3, _waiting.Lines(stream))
             equal(f"how soon it ends with {table}", time.monotonic() - begun < 5, True)
@@ -983,8 +985,9 @@ def use_page():
         equal("that there are commands", [words[0] for words in lines], ["certify", "certify", "check"])
         for words in lines:
             run = command(*words, cwd=folder)
-            last = run.stdout.splitlines()[-1].split()[:6] if run.stdout else run.stderr
-            equal(f"{words}", (run.returncode, last), (0, ["shops.txt", "3", "10", "5", "708", "708"]))
+            last = [line.split()[:6] for line in run.stdout.splitlines()[-2:]] if run.stdout else run.stderr
+            equal(f"{words}", (run.returncode, last[0], last[1][:4]),
+                  (0, ["shops.txt", "3", "10", "5", "708", "708"], ["sum", "3", "3", "15"]))
     for name in ("by_processes.py", "many_workers.py"):
         equal(f"what {name} prints", example(name), "Certificate(optimal 303, 15 directions)\n")
 

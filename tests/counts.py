@@ -1,28 +1,40 @@
-"""Counts what is as it should be, and makes folders and runs, for the tests of the library and of the package for
-Python."""
+"""What tests share: counts of what is as it should be, folders, the errors of calls, and runs of the package. A script
+prints a line for each that is not as it should be, and then how many were. The status is 1 where one was not."""
 
 import contextlib
+import io
+import os
 import pathlib
 import subprocess
 import sys
 import tempfile
 
 TOP = pathlib.Path(__file__).resolve().parent.parent
-BLOCKS = TOP / "examples" / "several_blocks.txt"
+sys.path.insert(0, str(TOP / "python"))
+EXAMPLES = TOP / "examples"
+BLOCKS = EXAMPLES / "several_blocks.txt"
+PROGRAM = os.environ.get("FLOWSHOP_PROGRAM", str(TOP / "crates/flow_tool/out/flow_tool"))
+# The package as a command.
+FLOWSHOP = [sys.executable, "-m", "flowshop"]
 counts = {True: 0, False: 0}
+
+
+def holds(is_so, what):
+    """Counts whether something is as it should be, and says what it is where it is not."""
+    counts[bool(is_so)] += 1
+    if not is_so:
+        print(f"not as it should be: {what}", flush=True)
 
 
 def equal(what, got, wanted):
     """Counts whether what was got is what was wanted, and prints what it is where it is not."""
-    counts[got == wanted] += 1
-    if got != wanted:
-        print(f"not as it should be: {what}: {got!r} for {wanted!r}")
+    holds(got == wanted, f"{what}: {got!r} for {wanted!r}")
 
 
-def refused(call):
+def refused(call, *words, **more):
     """The error of a call: the name of its class, its name, place and sentence, or its type where it is another."""
     try:
-        return call()
+        return call(*words, **more)
     except (AttributeError, ImportError, MemoryError, OSError, TypeError) as error:
         return type(error)
     except ValueError as error:
@@ -32,16 +44,29 @@ def refused(call):
 
 
 @contextlib.contextmanager
-def new_folder():
-    """A folder for the time of a test."""
+def new_folder(is_here=False):
+    """A folder for the time of a test; where it is asked for, the one in which it runs."""
+    before = os.getcwd()
     with tempfile.TemporaryDirectory() as folder:
-        yield pathlib.Path(folder)
+        if is_here:
+            os.chdir(folder)
+        try:
+            yield pathlib.Path(folder)
+        finally:
+            os.chdir(before)
 
 
 def command(*words, **more):
     """Runs the package as a command."""
-    run = [sys.executable, "-m", "flowshop", *map(str, words)]
-    return subprocess.run(run, capture_output=True, text=True, timeout=120, check=False, **more)
+    more = {"capture_output": True, "text": True, "timeout": 120, "check": False, **more}
+    return subprocess.run([*FLOWSHOP, *map(str, words)], **more)
+
+
+def called(call, *words):
+    """What a command gives in this process: its status, its output and its standard error."""
+    with contextlib.redirect_stdout(io.StringIO()) as out, contextlib.redirect_stderr(io.StringIO()) as errors:
+        status = call([str(word) for word in words])
+    return status, out.getvalue(), errors.getvalue()
 
 
 def end(what):

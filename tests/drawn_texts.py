@@ -11,7 +11,6 @@ from refusals import block_of, text_of
 BYTES = b"0129 \n\r+-.ACDe"
 GREAT = (255, 256, 65_535, 65_536, 10**6, 2**31, 2**32 - 1, 2**32, 2**63, 2**64 - 1, 2**64, 10**20, 10**25)
 
-
 # --- Shops ---
 
 
@@ -38,7 +37,6 @@ def drawn_order(draw, shop):
     """The jobs in a drawn order."""
     return draw.sample(range(1, shop[0] + 1), shop[0])
 
-
 # --- Certificates ---
 
 
@@ -57,10 +55,8 @@ def drawn_directions(draw, search, lower, node=None):
     """Drawn directions that prove a number for a node of a Search; or those up to the first sequence below it, and
     False."""
     node = node or search.root
-    if bound(node) >= lower:
-        return "", True
-    if not search.left(node):
-        return "", False
+    if bound(node) >= lower or not search.left(node):
+        return "", bound(node) >= lower
     signs = sign = draw.choice("+-")
     for child in search.children(node, sign):
         more, is_proved = drawn_directions(draw, search, lower, child)
@@ -79,7 +75,6 @@ def drawn_tree(draw, shop, version, value, jobs):
     if letters and draw.random() < 0.9:
         return chr(ord("A") + draw.choice(letters))
     return "+" + "".join(drawn_tree(draw, shop, version, value, [*jobs, job]) for job in left)
-
 
 # --- Benchmark texts and starts ---
 
@@ -116,14 +111,12 @@ def free_block(draw, shop, stated):
 
 def start_text(draw, sequence, makespan):
     """The start of a sequence in a drawn form, with a makespan where it is not None."""
-    lines = [[b"sequence", *sequence]] + ([[b"makespan", makespan]] if makespan is not None else [])
     text = []
-    for word, *found in lines:
+    for word, *found in [[b"sequence", *sequence]] + ([[b"makespan", makespan]] if makespan is not None else []):
         zeros = [b"0" * draw.choice([0, 0, 0, 9]) + str(number).encode() for number in found]
         text += [blanks(draw)] * (draw.random() < 0.2)
         text.append(blanks(draw) + word + b"".join(blanks(draw, 1) + number for number in zeros) + blanks(draw))
     return joined(text)
-
 
 # --- Changes ---
 
@@ -178,32 +171,24 @@ def change_lines(draw, text):
         lines[one], lines[other] = lines[other], lines[one]
     elif kind == 1:
         del lines[one]
-    elif kind == 2:
-        lines.insert(one, lines[other])
-    elif kind == 3:
-        lines.insert(one, draw.choice([b"", b" ", b"end", b"x", b"1 2 3", b"+", b"flowshop certificate 1"]))
-    else:
+    elif kind == 4:
         return text[: draw.randrange(len(text) + 1)]
+    else:
+        others = [b"", b" ", b"end", b"x", b"1 2 3", b"+", b"flowshop certificate 1"]
+        lines.insert(one, lines[other] if kind == 2 else draw.choice(others))
     return b"\n".join(lines)
+
+
+ENDS = [
+    (b"\n", b"\r\n"), (b"\n", b"\r"), (b" ", b"  "), (b" ", b"\t"), (b"certificate 1", b"certificate 2"),
+    (b"certificate 2", b"certificate 1"), (b"two-ended 1", b"two-ended 2"), (b"two-ended 1", b"certificate 1"),
+    (b"end\n", b"end"), (b"end\n", b"end\n\n"), (b"flowshop", b"\xef\xbb\xbfflowshop"),
+]
 
 
 def change_ends(draw, text):
     """Other ends of lines, other blanks, and another kind on line 1."""
-    old, new = draw.choice(
-        [
-            (b"\n", b"\r\n"),
-            (b"\n", b"\r"),
-            (b" ", b"  "),
-            (b" ", b"\t"),
-            (b"certificate 1", b"certificate 2"),
-            (b"certificate 2", b"certificate 1"),
-            (b"two-ended 1", b"two-ended 2"),
-            (b"two-ended 1", b"certificate 1"),
-            (b"end\n", b"end"),
-            (b"end\n", b"end\n\n"),
-            (b"flowshop", b"\xef\xbb\xbfflowshop"),
-        ]
-    )
+    old, new = draw.choice(ENDS)
     found = [place.start() for place in re.finditer(re.escape(old), text)]
     if not found:
         return change_byte(draw, text)

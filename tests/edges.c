@@ -22,13 +22,10 @@ static const char *called = "nothing", *how = "";
 static uint32_t of_jobs;
 
 static void is(const char *what, uint64_t got, uint64_t wanted) {
-    if (got == wanted) {
-        passed++;
-        return;
-    }
+    *(got == wanted ? &passed : &failed) += 1;
+    if (got == wanted) return;
     printf("not as it should be: %s of flowshop_%s %s, %u jobs: %llu for %llu\n", what, called, how, of_jobs,
            (unsigned long long)got, (unsigned long long)wanted);
-    failed++;
 }
 
 static void stopped(int number) {
@@ -189,10 +186,7 @@ static void *lend(const void *from, size_t bytes) {
 }
 
 static void give_back(void) {
-    while (maps_count) {
-        maps_count--;
-        munmap(maps[maps_count].pages, maps[maps_count].count);
-    }
+    for (; maps_count; maps_count--) munmap(maps[maps_count - 1].pages, maps[maps_count - 1].count);
 }
 
 /* Lends a record that a call writes: its slices, and sevens for its numbers. */
@@ -229,78 +223,57 @@ static void lend_all(const size_t *lengths) {
            lengths[REST], 7, 7, 7, 7);
 }
 
+/* The slices of records: the record, the slice, and its length. */
+#define SLICES(IS)                                                                                                     \
+    IS(block, times, TIMES) IS(spans, starts, STARTS) IS(spans, ends, ENDS) IS(reached, sequence, SEQUENCE)            \
+    IS(bounds, sequence, SEQUENCE) IS(text, bytes, TEXT) IS(part, sequence, SEQUENCE)                                  \
+    IS(part, directions, DIRECTIONS) IS(part, rest, REST)
+
 /* Whether each record has the slices that it was lent with. */
 static int has_slices(void) {
-    void **slices = lent.slices;
-    const size_t *lengths = lent.lengths;
-    return lent.block->times == slices[TIMES] && lent.block->times_count == lengths[TIMES] &&
-           lent.spans->starts == slices[STARTS] && lent.spans->starts_count == lengths[STARTS] &&
-           lent.spans->ends == slices[ENDS] && lent.spans->ends_count == lengths[ENDS] &&
-           lent.reached->sequence == slices[SEQUENCE] && lent.reached->sequence_count == lengths[SEQUENCE] &&
-           lent.bounds->sequence == slices[SEQUENCE] && lent.bounds->sequence_count == lengths[SEQUENCE] &&
-           lent.text->bytes == slices[TEXT] && lent.text->bytes_count == lengths[TEXT] &&
-           lent.part->sequence == slices[SEQUENCE] && lent.part->sequence_count == lengths[SEQUENCE] &&
-           lent.part->directions == slices[DIRECTIONS] && lent.part->directions_count == lengths[DIRECTIONS] &&
-           lent.part->rest == slices[REST] && lent.part->rest_count == lengths[REST];
+#define IS_LENT(RECORD, SLICE, LENGTH)                                                                                 \
+    &&lent.RECORD->SLICE == lent.slices[LENGTH] && lent.RECORD->SLICE##_count == lent.lengths[LENGTH]
+    return 1 SLICES(IS_LENT);
 }
 
-enum { NUMBERS = 15 };
-
-/* The numbers of all records. */
-static void numbers(uint64_t *found) {
-    const uint64_t all[NUMBERS] = {
+/* The sum of all that a call may have written, and what it is where nothing is. */
+static uint64_t untouched;
+static uint64_t written(void) {
+    const uint64_t numbers[] = {
         lent.block->jobs,       lent.block->machines, lent.block->seed,   lent.block->upper,  lent.block->lower,
         lent.reached->makespan, lent.reached->whole,  lent.bounds->lower, lent.bounds->upper, lent.text->length,
         lent.part->found,       lent.part->makespan,  *lent.makespan,     lent.part->directions_length,
         lent.part->rest_length};
-    memcpy(found, all, sizeof all);
-}
-
-/* Whether all is as it was lent. */
-static int is_untouched(void) {
-    uint64_t found[NUMBERS];
-    int others = 0;
-    numbers(found);
-    for (int i = 0; i < NUMBERS; i++) others += found[i] != 7;
-    for (int i = TIMES; i < LENGTHS; i++)
-        for (size_t at = 0; at < lent.lengths[i] * WIDTHS[i]; at++) others += ((uint8_t *)lent.slices[i])[at] != 7;
-    return others == 0;
-}
-
-/* The sum of all that a call may have written. */
-static uint64_t written(void) {
-    uint64_t found[NUMBERS], sum = 1469598103934665603u;
-    numbers(found);
-    for (int i = 0; i < NUMBERS; i++) sum = (sum ^ found[i]) * 1099511628211u;
+    uint64_t sum = 1469598103934665603u;
+    for (size_t i = 0; i < sizeof numbers / sizeof *numbers; i++) sum = (sum ^ numbers[i]) * 1099511628211u;
     for (int i = TIMES; i < LENGTHS; i++)
         for (size_t at = 0; at < lent.lengths[i] * WIDTHS[i]; at++)
             sum = (sum ^ ((uint8_t *)lent.slices[i])[at]) * 1099511628211u;
     return sum;
 }
 
+/* Whether all is as it was lent. */
+static int is_untouched(void) { return written() == untouched; }
+
 /* --- The calls --- */
 
 #define ON_SHOP lent.shop, lent.slices[START], lent.lengths[START]
-static flowshop_outcome generate(void) {
-    return flowshop_generate(of.shop.jobs, of.shop.machines, 5, lent.slices[TIMES], lent.lengths[TIMES]);
-}
-static flowshop_outcome block(void) { return flowshop_block(lent.benchmark, of.benchmark_count, 1, lent.block); }
-static flowshop_outcome makespan(void) { return flowshop_makespan(ON_SHOP, lent.makespan); }
-static flowshop_outcome timetable(void) { return flowshop_timetable(ON_SHOP, lent.spans); }
-static flowshop_outcome picture(void) { return flowshop_picture(ON_SHOP, of.upper, lent.text); }
-static flowshop_outcome neh(void) { return flowshop_neh(lent.shop, lent.reached); }
-static flowshop_outcome improve(void) { return flowshop_improve(ON_SHOP, lent.effort, lent.reached); }
-static flowshop_outcome check(void) {
-    return flowshop_check(lent.shop, lent.certificate, of.certificate_count, lent.bounds);
-}
-static flowshop_outcome solve(void) { return flowshop_solve(ON_SHOP, lent.plan, lent.bounds, lent.text); }
-static flowshop_outcome certify(void) {
-    return flowshop_certify(ON_SHOP, lent.effort, DIRECTIONS_MOST, lent.bounds, lent.text);
-}
-static flowshop_outcome prove(void) { return flowshop_prove(lent.shop, lent.root, of.upper, lent.part); }
-static flowshop_outcome prove_node(void) { return flowshop_prove(lent.shop, lent.node, of.upper + 1, lent.part); }
-static flowshop_outcome beam(void) { return flowshop_beam(ON_SHOP, lent.beam, lent.reached); }
-static flowshop_outcome rounds(void) { return flowshop_rounds(ON_SHOP, lent.rounds, lent.reached); }
+#define CALL(NAME, ...)                                                                                                \
+    static flowshop_outcome NAME(void) { return __VA_ARGS__; }
+CALL(generate, flowshop_generate(of.shop.jobs, of.shop.machines, 5, lent.slices[TIMES], lent.lengths[TIMES]))
+CALL(block, flowshop_block(lent.benchmark, of.benchmark_count, 1, lent.block))
+CALL(makespan, flowshop_makespan(ON_SHOP, lent.makespan))
+CALL(timetable, flowshop_timetable(ON_SHOP, lent.spans))
+CALL(picture, flowshop_picture(ON_SHOP, of.upper, lent.text))
+CALL(neh, flowshop_neh(lent.shop, lent.reached))
+CALL(improve, flowshop_improve(ON_SHOP, lent.effort, lent.reached))
+CALL(check, flowshop_check(lent.shop, lent.certificate, of.certificate_count, lent.bounds))
+CALL(solve, flowshop_solve(ON_SHOP, lent.plan, lent.bounds, lent.text))
+CALL(certify, flowshop_certify(ON_SHOP, lent.effort, DIRECTIONS_MOST, lent.bounds, lent.text))
+CALL(prove, flowshop_prove(lent.shop, lent.root, of.upper, lent.part))
+CALL(prove_node, flowshop_prove(lent.shop, lent.node, of.upper + 1, lent.part))
+CALL(beam, flowshop_beam(ON_SHOP, lent.beam, lent.reached))
+CALL(rounds, flowshop_rounds(ON_SHOP, lent.rounds, lent.reached))
 
 #define BIT(LENGTH) (1u << (LENGTH))
 #define READ (BIT(SHOP_TIMES) | BIT(START))
@@ -309,29 +282,23 @@ static const struct call {
     const char *name;
     flowshop_outcome (*make)(void);
     unsigned lengths;
-} CALLS[] = {{"generate", generate, BIT(TIMES)},
-             {"block", block, BIT(TIMES)},
-             {"makespan", makespan, READ},
-             {"timetable", timetable, READ | BIT(STARTS) | BIT(ENDS)},
-             {"picture", picture, READ | BIT(TEXT)},
-             {"neh", neh, BIT(SHOP_TIMES) | BIT(SEQUENCE)},
-             {"improve", improve, READ | BIT(SEQUENCE)},
-             {"check", check, BIT(SHOP_TIMES) | BIT(SEQUENCE)},
-             {"solve", solve, READ | BIT(SEQUENCE) | BIT(TEXT)},
-             {"certify", certify, READ | BIT(SEQUENCE) | BIT(TEXT)},
-             {"prove", prove, BIT(SHOP_TIMES) | BIT(SEQUENCE) | BIT(REST)},
-             {"prove of a node", prove_node, BIT(SHOP_TIMES) | BIT(SEQUENCE) | BIT(REST)},
-             {"beam", beam, READ | BIT(SEQUENCE)},
-             {"rounds", rounds, READ | BIT(SEQUENCE)}};
+} CALLS[] = {
+    {"generate", generate, BIT(TIMES)}, {"block", block, BIT(TIMES)}, {"makespan", makespan, READ},
+    {"timetable", timetable, READ | BIT(STARTS) | BIT(ENDS)}, {"picture", picture, READ | BIT(TEXT)},
+    {"neh", neh, BIT(SHOP_TIMES) | BIT(SEQUENCE)}, {"improve", improve, READ | BIT(SEQUENCE)},
+    {"check", check, BIT(SHOP_TIMES) | BIT(SEQUENCE)}, {"solve", solve, READ | BIT(SEQUENCE) | BIT(TEXT)},
+    {"certify", certify, READ | BIT(SEQUENCE) | BIT(TEXT)},
+    {"prove", prove, BIT(SHOP_TIMES) | BIT(SEQUENCE) | BIT(REST)},
+    {"prove of a node", prove_node, BIT(SHOP_TIMES) | BIT(SEQUENCE) | BIT(REST)},
+    {"beam", beam, READ | BIT(SEQUENCE)}, {"rounds", rounds, READ | BIT(SEQUENCE)}};
 enum { CALLS_COUNT = sizeof CALLS / sizeof *CALLS };
 
 /* Makes a call with these lengths. */
 static flowshop_outcome made(const struct call *call, const size_t *lengths) {
     called = call->name;
     lend_all(lengths);
-    asked = 0;
-    held = 0;
-    is_called = 1;
+    untouched = written();
+    asked = 0, held = 0, is_called = 1;
     const flowshop_outcome outcome = call->make();
     is_called = 0;
     is("the slices", (uint64_t)has_slices(), 1);

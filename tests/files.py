@@ -105,22 +105,19 @@ def ended(python, words, folder, out, err, **more):
 # closed, that has no reader more, and that has no room.
 CERTIFY = [*RUN, "certify", BLOCKS, "--out", "new", "--csv", "table"]
 COMMANDS = {
-    "certify": (CERTIFY, 0, (0, 0, 3)),
-    "report": ([*RUN, "report", BLOCKS, "1"], 0, (3, 3, 3)),
+    "certify": (CERTIFY, 0, (0, 0, 3)), "report": ([*RUN, "report", BLOCKS, "1"], 0, (3, 3, 3)),
     "words": ([*RUN, "certify", "--nonsense"], 2, (2, 2, 2)),
     "processes": ([*CERTIFY, "--executor", "processes"], 0, (0, 0, 3)),
     "check": ([*RUN, "check", BLOCKS, "--out", "lawful"], 0, (0, 0, 3)),
     "check of others": ([*RUN, "check", BLOCKS, "--out", "unlawful"], 1, (1, 1, 1)),
-    "help": ([*RUN, "certify", "--help"], 0, (0, 0, 3)),
-    "nothing": ([*RUN, "certify", "nothing"], 3, (3, 3, 3)),
+    "help": ([*RUN, "certify", "--help"], 0, (0, 0, 3)), "nothing": ([*RUN, "certify", "nothing"], 3, (3, 3, 3)),
 }
 # Those that each python3 runs.
 OF_ALL = ("certify", "report", "words")
 # Kinds of standard output and of standard error, and which of the above the status is.
 STREAMS = [
     *[("file", err, 0) for err in ("null", "closed", "gone", "no room", "full pipe", "full terminal")],
-    *[("closed", err, 1) for err in ("file", "closed")],
-    *[("gone", err, 2) for err in ("file", "gone")],
+    *[("closed", err, 1) for err in ("file", "closed")], *[("gone", err, 2) for err in ("file", "gone")],
     *[("no room", err, 3) for err in ("file", "no room")],
 ]
 
@@ -141,7 +138,7 @@ def keep_status(python, name, out, err, kind):
         is_lost = status == 0 and wanted == 3
         equal(f"that {what} says what is lost", err != "file" or not is_lost or "standard output: " in said, True)
         if "--csv" in words:
-            rows = [line.split(",")[4:6] for line in (folder / "table").read_text().splitlines()[1:]]
+            rows = [line.split(",")[5:7] for line in (folder / "table").read_text().splitlines()[1:]]
             equal(f"the table of {what}", rows, BOUNDS)
             equal(f"the files of {what}", sorted(os.listdir(folder / "new")), NAMES)
 
@@ -420,7 +417,8 @@ def pick_blocks():
             words = ["certify", text.name, "--out", "new", "--blocks", blocks]
             got, line, kilobytes, seconds = measured(words, folder)
             used = f"{kilobytes} kB, {seconds:.1f} s"
-            equal(f"block {blocks} of a million: {line}, {used}", (got, kilobytes < 200_000, seconds < 6), (status, 1, 1))
+            got = got, kilobytes < 200_000, seconds < 6
+            equal(f"block {blocks} of a million: {line}, {used}", got, (status, True, True))
 
 
 def may_run(user):
@@ -468,7 +466,8 @@ def ask_for_leave():
             equal(f"{words}: {run.stderr}", (run.returncode, got[: len(said)]), (status, said))
             equal(f"that {words} are not searched", run.stdout == "", status != 0)
         save = "from flowshop import _saving; _saving.save('kept.csv', b'7')"
-        run = subprocess.run([sys.executable, "-c", save], capture_output=True, text=True, check=False, cwd=folder, **user)
+        words = {"capture_output": True, "text": True, "check": False, "cwd": folder, **user}
+        run = subprocess.run([sys.executable, "-c", save], **words)
         said = "PermissionError: [Errno 13] Permission denied: 'kept.csv'\n"
         equal(f"a file that may not be written: {run.stderr}", run.stderr.endswith(said), True)
         (folder / "hidden").chmod(0o755)

@@ -3,15 +3,13 @@ sentence."""
 
 import array
 import codecs
-import contextlib
 import copy
 import ctypes
 import doctest
 import inspect
-import io
+import itertools
 import json
 import mmap
-import os
 import pathlib
 import pickle
 import random
@@ -19,21 +17,20 @@ import re
 import resource
 import subprocess
 import sys
-import tempfile
+import types
 import warnings
 import xml.etree.ElementTree
 from unittest import mock
 
+import package_input
 import refusals
-from counts import BLOCKS, TOP, end, equal, refused
+from counts import BLOCKS, EXAMPLES, TOP, called, end, equal, new_folder, refused
 from reference import makespan, of_rows, root_bound
-from refusals import BOUNDS, LEAST, TREE
-from refusals import THREE as ROWS
+from refusals import BOUNDS, LEAST, THREE as ROWS, TREE
 
 import flowshop
 from flowshop import Certificate, FlowshopError, Operation, Shop, Start
-from flowshop import _library, _options, _parts, _stack, _texts
-from flowshop import __main__ as command
+from flowshop import __main__ as command, _library, _options, _parts, _stack, _texts
 
 try:
     import numpy
@@ -44,43 +41,37 @@ try:
 except ImportError:
     pandas = None
 
-PUBLISHED = os.path.join(TOP, "examples", "taillard_20_5.txt")
+PUBLISHED, HEADER = EXAMPLES / "taillard_20_5.txt", (TOP / "library" / "flowshop.h").read_text()
+SVG = "{http://www.w3.org/2000/svg}"
 SHOP = Shop.from_jobs(ROWS)
+COLUMNS = [list(column) for column in zip(*ROWS)]
 FEW = {"width": 0, "rounds": 0, "seed": 1, "work": 0, "directions": 1000}
 OPTIONS = [
-    (SHOP.improve, ["width", "rounds", "seed", "work"]),
-    (SHOP.certify, ["width", "rounds", "seed", "work", "directions"]),
-    (SHOP.solve, ["depth", "budget", "version"]),
-    (Shop.generate, ["jobs", "machines", "seed"]),
+    (SHOP.improve, ["width", "rounds", "seed", "work"]), (Shop.generate, ["jobs", "machines", "seed"]),
+    (SHOP.certify, ["width", "rounds", "seed", "work", "directions"]), (SHOP.solve, ["depth", "budget", "version"]),
 ]
 NAMES = {"job_names": ["Shelf", "Door", "Table"], "machine_names": ["Cut", "Weld", "Paint"]}
 
 
-class Frame:
+def frame_of(values, index, columns):
     """A table with labels, as a frame has them, that knows nothing of arrays."""
-
-    def __init__(self, values, index, columns):
-        self.values, self.index, self.columns = values, index, columns
+    return types.SimpleNamespace(values=values, index=index, columns=columns)
 
 
-def read(path):
-    """The bytes of a file."""
-    with open(path, "rb") as file:
-        return file.read()
+def texts_of(drawing, name):
+    """The texts of the elements of a name in a picture."""
+    return [each.text for each in xml.etree.ElementTree.fromstring(drawing).iter(f"{SVG}{name}")]
 
 
 def run_examples():
     """Runs the examples in the package. Each public class has some, but for the errors below the base class, and so has
     each public call."""
     runner = doctest.DocTestRunner()
-    here = os.getcwd()
-    with tempfile.TemporaryDirectory() as folder:
-        os.chdir(folder)
+    with new_folder(is_here=True):
         tests = doctest.DocTestFinder(recurse=False).find(flowshop)
         for name in flowshop.__all__:
             found = getattr(flowshop, name)
-            globs = {**vars(flowshop), "shop": SHOP}
-            tests += doctest.DocTestFinder().find(found, name, module=False, globs=globs)
+            tests += doctest.DocTestFinder().find(found, name, False, globs={**vars(flowshop), "shop": SHOP})
             if not (inspect.isclass(found) and FlowshopError in found.__bases__):
                 equal(f"an example of {name}", ">>>" in found.__doc__, True)
             for member, value in vars(found).items():
@@ -88,57 +79,48 @@ def run_examples():
                     equal(f"an example of {name}.{member}", ">>>" in (getattr(found, member).__doc__ or ""), True)
         for test in tests:
             runner.run(test)
-        os.chdir(here)
-    equal("the examples", runner.failures, 0)
-    equal("that there are examples", runner.tries > 40, True)
+    equal("the examples, of which there are some", (runner.failures, runner.tries > 40), (0, True))
 
 
 def compare_header():
     """The version is that of the library and of the file VERSION; statuses and limits are those of the header."""
-    version = read(os.path.join(TOP, "VERSION")).decode().strip()
+    version = (TOP / "VERSION").read_text().strip()
     equal("the versions", (flowshop.__version__, _library.version()), (version, version))
-    equal("a library of another version", refused(lambda: _library.require("0.0.0")), ImportError)
-    header = read(os.path.join(TOP, "library", "flowshop.h")).decode()
-    numbers = {name: int(number) for name, number in re.findall(r"FLOWSHOP_(\w+) = (\d+)", header)}
-    listed = re.findall(r"FLOWSHOP_(\w+)", header.partition("enum flowshop_status {")[2].partition("};")[0])
-    statuses = {numbers[name]: name for name in listed}
-    equal("the statuses", {0: "DONE", **_library.STATUSES}, statuses)
-    named = re.findall(r'case FLOWSHOP_(\w+): return "(\w+)";', header)
+    equal("a library of another version", refused(_library.require, "0.0.0"), ImportError)
+    numbers = {name: int(number) for name, number in re.findall(r"FLOWSHOP_(\w+) = (\d+)", HEADER)}
+    listed = re.findall(r"FLOWSHOP_(\w+)", HEADER.partition("enum flowshop_status {")[2].partition("};")[0])
+    equal("the statuses", {0: "DONE", **_library.STATUSES}, {numbers[name]: name for name in listed})
+    named = re.findall(r'case FLOWSHOP_(\w+): return "(\w+)";', HEADER)
     equal("the names of the statuses", named, [(name, name) for name in listed])
     form = r"^(?:FLOWSHOP_CALL flowshop_outcome|uint32_t) flowshop_(\w+)\(([^)]*)\)\s+FLOWSHOP_NOEXCEPT;"
-    counts = {name: words.count(",") + (words != "void") for name, words in re.findall(form, header, re.MULTILINE)}
+    counts = {name: words.count(",") + (words != "void") for name, words in re.findall(form, HEADER, re.MULTILINE)}
     equal("the calls", counts, {name: len(types) for name, types in _library.CALLS.items()})
     equal("that no call has more than seven arguments", max(counts.values()), 7)
     for name, (least, most) in _options.LIMITS.items():
-        equal(f"the most of {name}", most, numbers[f"MAX_{name.upper()}"])
         wanted = numbers.get(f"MIN_{name.upper()}", 0 if name in ("width", "rounds", "work", "depth") else 1)
-        equal(f"the least of {name}", least, wanted)
-    equal("the most trees", _options.MOST_TREES, numbers["MAX_PREFIXES"])
-    equal("room for calls on a stack", _stack.STACK >= numbers["STACK"], True)
-    equal("the greatest time", _library.MOST_TIME, numbers["MAX_TIME"])
+        equal(f"the limits of {name}", (least, most), (wanted, numbers[f"MAX_{name.upper()}"]))
+    got = _options.MOST_TREES, _stack.STACK >= numbers["STACK"], _library.MOST_TIME
+    equal("trees, stack and time", got, (numbers["MAX_PREFIXES"], True, numbers["MAX_TIME"]))
 
 
 def make_shops():
     """Each way to make a shop, of each kind of table."""
-    columns = [list(column) for column in zip(*ROWS)]
-    equal("rows and columns", (Shop.from_machines(columns), SHOP.times), (SHOP, columns))
-    equal("that a table alone says nothing", refused(lambda: Shop(ROWS)), TypeError)
+    equal("rows and columns", (Shop.from_machines(COLUMNS), SHOP.times), (SHOP, COLUMNS))
+    equal("that a table alone says nothing", refused(Shop, ROWS), TypeError)
     equal("tuples, ranges and arrays", Shop.from_jobs((range(2), array.array("B", [3, 4]))).times, [[0, 3], [1, 4]])
     equal("a table with a method `columns`", Shop.from_jobs(SHOP.schedule([2, 1, 3])).times[3][-1], 13)
     equal("a table that is read once", Shop.from_jobs(iter(row) for row in ROWS), SHOP)
-    for kind in (ctypes.c_uint32, ctypes.c_int32, ctypes.c_int64, ctypes.c_uint8):
+    for kind in (ctypes.c_uint32, ctypes.c_int32, ctypes.c_int64, ctypes.c_uint8, ctypes.c_uint32.__ctype_be__):
         buffer = (kind * 3 * 2)((1, 2, 3), (4, 5, 6))
-        equal("a buffer of jobs", Shop.from_jobs(buffer).times, [[1, 4], [2, 5], [3, 6]])
-        equal("a buffer of machines", Shop.from_machines(memoryview(buffer)).times, [[1, 2, 3], [4, 5, 6]])
-    buffer = (ctypes.c_uint32.__ctype_be__ * 3 * 2)((1, 2, 3), (4, 5, 6))
-    equal("a buffer of the other order of bytes", Shop.from_jobs(buffer).times, [[1, 4], [2, 5], [3, 6]])
+        equal(f"jobs in a buffer of {kind}", Shop.from_jobs(buffer).times, [[1, 4], [2, 5], [3, 6]])
+        if kind != ctypes.c_uint32.__ctype_be__:
+            equal(f"machines in one of {kind}", Shop.from_machines(memoryview(buffer)).times, [[1, 2, 3], [4, 5, 6]])
     below = (ctypes.c_int32 * 2 * 2)((1, 2), (3, -4))
     wanted = "NotAShop", "TIME", (2, 2), "the time in row 2, column 2 is -4, and has to be from 0 to 999,999"
-    equal("a buffer with a number below 0", refused(lambda: Shop.from_jobs(below)), wanted)
+    equal("a buffer with a number below 0", refused(Shop.from_jobs, below), wanted)
     halves = memoryview((ctypes.c_double * 1 * 1)((1.0,)))
-    equal("a buffer of other numbers", refused(lambda: Shop.from_jobs(halves))[:3], ("NotAShop", "COUNT", 0))
-    lines = read(PUBLISHED).decode().splitlines()
-    times = [[int(word) for word in line.split()] for line in lines[3:8]]
+    equal("a buffer of other numbers", refused(Shop.from_jobs, halves)[:3], ("NotAShop", "COUNT", 0))
+    times = [[int(word) for word in line.split()] for line in PUBLISHED.read_text().splitlines()[3:8]]
     equal("the shop of a seed", Shop.generate(20, 5, 873_654_221), Shop.from_machines(times))
     great = Shop.generate(800, 26, 2_147_483_646)
     equal("the greatest shop", (great.jobs, great.machines, len(great.times[25])), (800, 26, 800))
@@ -151,91 +133,89 @@ def compare_shops():
     other, named = Shop.from_jobs(ROWS), Shop.from_jobs(ROWS, **NAMES)
     equal("two shops", (other == SHOP, hash(other) == hash(SHOP), len({other, SHOP})), (True, True, 1))
     equal("that names tell shops apart", (named == SHOP, named == Shop.from_jobs(ROWS, **NAMES)), (False, True))
-    equal("a shop of the same times in another shape", Shop.from_jobs([[1, 2]]) == Shop.from_jobs([[1], [2]]), False)
-    equal("another kind of thing", SHOP == ROWS, False)
+    others = Shop.from_jobs([[1, 2]]) == Shop.from_jobs([[1], [2]]), SHOP == ROWS
+    equal("a shop of the same times in another shape, and another kind of thing", others, (False, False))
     for kept in (pickle.loads(pickle.dumps(named)), copy.deepcopy(named)):
         equal("a copy", (kept, kept.job_names, kept.makespan([3, 1, 2])), (named, named.job_names, 12))
     for name in ("jobs", "machines", "times", "job_names", "other", "_parts"):
-        equal("a shop that is changed", refused(lambda name=name: setattr(SHOP, name, 5)), AttributeError)
-    equal("a shop with less", refused(lambda: delattr(SHOP, "_lent")), AttributeError)
+        equal(f"a shop whose {name} is changed", refused(setattr, SHOP, name, 5), AttributeError)
+    equal("a shop with less", refused(delattr, SHOP, "_lent"), AttributeError)
     SHOP.times[0][0] = 9
     equal("its times", SHOP.times[0], [4, 0, 0])
-    equal("what is shown of it", repr(Shop.generate(20, 5, 1)), "Shop(20 jobs, 5 machines)")
-    equal("with names", repr(named), "Shop(3 jobs: Shelf, Door, Table; 3 machines: Cut, Weld, Paint)")
-    commas = Shop.from_jobs(ROWS, job_names=["Shelf, large", 7, "Table"])
-    equal("with a comma in a name", repr(commas), "Shop(3 jobs: 'Shelf, large', 7, Table; 3 machines)")
-    some = Shop.from_jobs([[1]] * 4, job_names="abcd")
-    equal("with names of jobs", repr(some), "Shop(4 jobs: a, b, c, ..; 1 machine)")
+    for shop, wanted in [
+        (Shop.generate(20, 5, 1), "20 jobs, 5 machines"),
+        (named, "3 jobs: Shelf, Door, Table; 3 machines: Cut, Weld, Paint"),
+        (Shop.from_jobs(ROWS, job_names=["Shelf, large", 7, "Table"]), "3 jobs: 'Shelf, large', 7, Table; 3 machines"),
+        (Shop.from_jobs([[1]] * 4, job_names="abcd"), "4 jobs: a, b, c, ..; 1 machine"),
+        # A name with a comma stands in quotation marks, where Python writes it.
+        (Shop.from_jobs([[1]], job_names=["\x1b,"]), "1 job: '\\x1b,'; 1 machine"),
+    ]:
+        equal("what is shown of a shop", repr(shop), f"Shop({wanted})")
 
 
 def use_names():
     """Names of jobs and machines come back with each result."""
     named = Shop.from_jobs(ROWS, **NAMES)
-    for table in (Frame(ROWS, NAMES["job_names"], NAMES["machine_names"]), Frame(ROWS, [0, 1, 2], "abc")):
+    for table in (frame_of(ROWS, *NAMES.values()), frame_of(ROWS, [0, 1, 2], "abc")):
         shop = Shop.from_jobs(table)
         wanted = (1, 2, 3) if table.index == [0, 1, 2] else tuple(table.index)
         equal("the labels of a frame", (shop.job_names, shop.machine_names), (wanted, tuple(table.columns)))
-        turned = Shop.from_machines(Frame([list(row) for row in zip(*ROWS)], table.columns, table.index))
+        turned = Shop.from_machines(frame_of(COLUMNS, table.columns, table.index))
         equal("of one with machines as rows", turned, shop)
-    equal("names of a caller", Shop.from_jobs(Frame(ROWS, "abc", "def"), **NAMES), named)
-    equal("names that are numbers from 1", Shop.from_jobs(Frame(ROWS, [1, 2, 3], [1, 2, 3])), SHOP)
+    equal("names of a caller", Shop.from_jobs(frame_of(ROWS, "abc", "def"), **NAMES), named)
+    equal("names that are numbers from 1", Shop.from_jobs(frame_of(ROWS, [1, 2, 3], [1, 2, 3])), SHOP)
     start = named.neh()
-    equal("the names of a start", (start.sequence, start.names), ((2, 1, 3), ("Door", "Shelf", "Table")))
-    equal("what is shown of it", repr(start), "Start(makespan 13: Door, Shelf, Table)")
+    wanted = (2, 1, 3), ("Door", "Shelf", "Table"), "Start(makespan 13: Door, Shelf, Table)"
+    equal("the names of a start", (start.sequence, start.names, repr(start)), wanted)
     for found in (named.solve(), named.certify(**FEW), named.check(LEAST)):
         equal("the names of a certificate", found.names, tuple(NAMES["job_names"][job - 1] for job in found.sequence))
     equal("that they prove the same", named.check(LEAST), SHOP.check(LEAST))
     timetable = named.schedule([2, 1, 3])
     equal("an operation with names", timetable[7], Operation("Table", "Weld", 8, 10))
-    equal("a column of names", timetable.columns()["job"], ["Door"] * 3 + ["Shelf"] * 3 + ["Table"] * 3)
-    equal("the other column", timetable.columns()["machine"], ["Cut", "Weld", "Paint"] * 3)
-    picture = Shop.from_jobs(ROWS, job_names=["Shelf", "D", "<T&>\n"], machine_names=["Cut", "Wë", "Painting shop"])
-    drawing = xml.etree.ElementTree.fromstring(picture.gantt([2, 1, 3]))
-    titles = [element.text for element in drawing.iter("{http://www.w3.org/2000/svg}title")]
-    equal("the names in a picture", (titles[1], titles[4]), ("D, Wë, start 0, end 8", "<T&>\\n, Wë, start 8, end 10"))
-    labels = [element.text for element in drawing.iter("{http://www.w3.org/2000/svg}text")]
-    named = [label in labels for label in ("Cut", "Wë", "Painting shop", "machine 1")]
-    equal("before its rows", named, [True, True, True, False])
-    # Three jobs on three machines are 109,500 wide, of which 8,000 are before the rows; a character there has 700.
-    ground = drawing.find("{http://www.w3.org/2000/svg}path").get("d")
-    size = (drawing.get("width"), drawing.get("viewBox"), ground)
-    equal("room for a long name", size, ("1106", "-1100 0 110600 18300", "M-1100 0H109500V18300H-1100z"))
-    rows = [("a" * 11, "a" * 11, "0"), ("b" * 40, "b" * 40, "-20000"), ("c" * 41, "c" * 38 + "..", "-20000")]
-    for name, shown, left in rows:
-        text = Shop.from_jobs([[1]], machine_names=[name]).gantt([1])
-        equal("a name of a row", (f'text-anchor="end">{shown}<' in text, f'viewBox="{left} 0 ' in text), (True, True))
-    equal("in its bars", ["D" in labels, "Shelf" in labels, "3" in labels], [True, True, False])
-    # The bars of job 3 are 14,690 and 7,305 wide, and a character 670.
-    for length, bars in ((10, 2), (11, 1), (21, 1), (22, 0)):
-        name = "T" * length
-        drawing = Shop.from_jobs(ROWS, job_names=["Shelf", "Door", name]).gantt([2, 1, 3])
-        equal(f"bars with a name of {length} characters", drawing.count(f">{name}</text>"), bars)
-    with tempfile.TemporaryDirectory() as folder:
-        picture.gantt([2, 1, 3]).save(os.path.join(folder, "picture.svg"))
-        equal("one that is saved", "Wë" in read(os.path.join(folder, "picture.svg")).decode(), True)
+    columns = ["Door"] * 3 + ["Shelf"] * 3 + ["Table"] * 3, ["Cut", "Weld", "Paint"] * 3
+    equal("columns of names", (timetable.columns()["job"], timetable.columns()["machine"]), columns)
+    draw_names()
     for names, counted in (([], "0 names"), (["a"], "1 name"), ("abcd", "4 names")):
         wanted = "NotAShop", "COUNT", 0, f"the table has 3 machines, and machine_names has {counted}"
-        for table in (ROWS, Frame(ROWS, "abc", "def")):
-            got = refused(lambda table=table, names=names: Shop.from_jobs(table, machine_names=names))
-            equal(counted, got, wanted)
+        for table in (ROWS, frame_of(ROWS, "abc", "def")):
+            equal(counted, refused(Shop.from_jobs, table, machine_names=names), wanted)
     for kind, names, said in (
-        ("job", {"Bed"}, "{'Bed'}"),
-        ("machine", {"Cut"}, "{'Cut'}"),
-        ("job", frozenset(["Bed"]), "frozenset({'Bed'})"),
-        ("machine", {1: "Cut"}, "{1: 'Cut'}"),
-        ("job", 5, "5"),
-        ("machine", True, "True"),
+        ("job", {"Bed"}, "{'Bed'}"), ("machine", {"Cut"}, "{'Cut'}"), ("job", 5, "5"), ("machine", True, "True"),
+        ("job", frozenset(["Bed"]), "frozenset({'Bed'})"), ("machine", {1: "Cut"}, "{1: 'Cut'}"),
     ):
-        got = refused(lambda kind=kind, names=names: Shop.from_jobs(ROWS, **{f"{kind}_names": names}))
         wanted = "NotAShop", "COUNT", 0, f"the names of {kind}s are a list, and this is {said}"
-        equal(f"names that are {said}", got, wanted)
+        equal(f"names that are {said}", refused(Shop.from_jobs, ROWS, **{f"{kind}_names": names}), wanted)
+
+
+def draw_names():
+    """Pictures with names of all lengths."""
+    names = {"job_names": ["Shelf", "D", "<T&>\n"], "machine_names": ["Cut", "Wë", "Painting shop"]}
+    picture = Shop.from_jobs(ROWS, **names).gantt([2, 1, 3])
+    titles, labels = texts_of(picture, "title"), texts_of(picture, "text")
+    equal("the names in a picture", (titles[1], titles[4]), ("D, Wë, start 0, end 8", "<T&>\\n, Wë, start 8, end 10"))
+    shown = [label in labels for label in ("Cut", "Wë", "Painting shop", "machine 1", "D", "Shelf", "3")]
+    equal("names before its rows and in its bars", shown, [True, True, True, False, True, True, False])
+    # Three jobs on three machines are 109,500 wide, of which 8,000 are before the rows; a character there has 700.
+    drawing = xml.etree.ElementTree.fromstring(picture)
+    size = drawing.get("width"), drawing.get("viewBox"), drawing.find(f"{SVG}path").get("d")
+    equal("room for a long name", size, ("1106", "-1100 0 110600 18300", "M-1100 0H109500V18300H-1100z"))
+    for name, shown, left in [("a" * 11, "a" * 11, "0"), ("b" * 40, "b" * 40, "-20000"),
+                              ("c" * 41, "c" * 38 + "..", "-20000")]:
+        text = Shop.from_jobs([[1]], machine_names=[name]).gantt([1])
+        equal(f"the row {name}", (f'text-anchor="end">{shown}<' in text, f'viewBox="{left} 0 ' in text), (True, True))
+    # The bars of job 3 are 14,690 and 7,305 wide, and a character 670.
+    for length, bars in ((10, 2), (11, 1), (21, 1), (22, 0)):
+        drawing = Shop.from_jobs(ROWS, job_names=["Shelf", "Door", "T" * length]).gantt([2, 1, 3])
+        equal(f"bars with a name of {length} characters", drawing.count(f">{'T' * length}</text>"), bars)
+    with new_folder() as folder:
+        picture.save(folder / "picture.svg")
+        equal("one that is saved", "Wë" in (folder / "picture.svg").read_text("utf-8"), True)
 
 
 def use_arrays():
     """Arrays and frames as tables and sequences, and results as arrays and frames."""
     if numpy is None:
-        print("no numpy: its arrays were passed over")
-        return
+        return print("no numpy: its arrays were passed over")
     for kind in ("int64", "int32", "uint32", "uint64", "int16", "uint8", ">i8", "object"):
         rows = numpy.array(ROWS, dtype=kind)
         equal(f"an array of {kind}", (Shop.from_jobs(rows), Shop.from_machines(rows.T)), (SHOP, SHOP))
@@ -245,84 +225,79 @@ def use_arrays():
     equal("the makespans of an array", numpy.asarray(SHOP.makespans(many)).tolist(), [15, 13, 12])
     equal("the array of a timetable", numpy.asarray(SHOP.schedule(many[1]).ends).max(axis=1).tolist(), [8, 12, 13])
     for table, place, wrong in [
-        (numpy.array([[1, 2], [-3, 4]]), (2, 1), "is -3, and has to be from 0 to 999,999"),
-        (numpy.array([[1, 2], [3 - 2**32, 4]]), (2, 1), "is -4,294,967,293, and has to be from 0 to 999,999"),
-        (numpy.array([[1, 2**40], [3, 4]]), (1, 2), "is 1,099,511,627,776, and has to be from 0 to 999,999"),
-        (numpy.array([[1.0, 2.0], [numpy.nan, 4.0]]), (2, 1), "is missing (nan); write 0 where a job skips a machine"),
+        ([[1, 2], [-3, 4]], (2, 1), "is -3, and has to be from 0 to 999,999"),
+        ([[1, 2], [3 - 2**32, 4]], (2, 1), "is -4,294,967,293, and has to be from 0 to 999,999"),
+        ([[1, 2**40], [3, 4]], (1, 2), "is 1,099,511,627,776, and has to be from 0 to 999,999"),
+        ([[1.0, 2.0], [numpy.nan, 4.0]], (2, 1), "is missing (nan); write 0 where a job skips a machine"),
     ]:
-        sentence = f"the time in row {place[0]}, column {place[1]} {wrong}"
-        equal("an array", refused(lambda table=table: Shop.from_jobs(table)), ("NotAShop", "TIME", place, sentence))
+        wanted = "NotAShop", "TIME", place, f"the time in row {place[0]}, column {place[1]} {wrong}"
+        equal(f"an array of {table}", refused(Shop.from_jobs, numpy.array(table)), wanted)
     many[2, 1] = 3
-    wanted = "NotASequence", "TWICE", (3, 2)
-    equal("a row that is no sequence", refused(lambda: SHOP.makespans(many))[:3], wanted)
+    equal("a row that is no sequence", refused(SHOP.makespans, many)[:3], ("NotASequence", "TWICE", (3, 2)))
 
 
 def use_frames():
     """Frames of pandas."""
     if pandas is None:
-        print("no pandas: its frames were passed over")
-        return
+        return print("no pandas: its frames were passed over")
     frame = pandas.DataFrame(ROWS, index=NAMES["job_names"], columns=NAMES["machine_names"])
     shop = Shop.from_jobs(frame)
     equal("a frame", (shop, Shop.from_machines(frame.T)), (Shop.from_jobs(ROWS, **NAMES),) * 2)
     equal("one without labels", Shop.from_jobs(pandas.DataFrame(ROWS)), SHOP)
-    table = Shop.from_jobs(pandas.read_csv(os.path.join(TOP, "examples", "table.csv"), index_col=0))
+    table = Shop.from_jobs(pandas.read_csv(EXAMPLES / "table.csv", index_col=0))
     equal("a table that was read", (table.times, table.job_names[0]), (SHOP.times, "Shelf, large"))
     ends = shop.schedule(shop.neh()).to_frame().set_index(["job", "machine"]).end
     equal("a timetable as a frame", (ends["Table", "Paint"], len(ends)), (13, 9))
     equal("the rows of the frame in their order", frame.loc[list(shop.check(LEAST).names)].Cut.tolist(), [0, 4, 0])
     for kind in (None, "Int64"):
         frame = pandas.DataFrame({"Cut": [1, 2], "Weld": pandas.array([3, None], dtype=kind)}, index=["Shelf", "Door"])
-        got = refused(lambda frame=frame: Shop.from_jobs(frame))
+        got = refused(Shop.from_jobs, frame)
         equal("a blank cell", (got[2], got[3][:53]), ((2, 2), "the time in row 2 (Door), column 2 (Weld) is missing "))
-    wanted = "the time in row 2, column 2 (Weld) is 2.5, of type float, and has to be a whole number; choose a unit"
-    frame = pandas.DataFrame({"Cut": [1, 2], "Weld": [3, 2.5]})
-    equal("a time in parts", refused(lambda: Shop.from_jobs(frame))[3][: len(wanted)], wanted)
     equal("a frame of sequences", list(SHOP.makespans(pandas.DataFrame([[2, 1, 3], [3, 1, 2]]))), [13, 12])
     equal("a column as a sequence", SHOP.makespan(pandas.Series([2, 1, 3], name="order")), 13)
-    frame = pandas.DataFrame({"Job": ["Shelf"], "Cut": [1]})
-    wanted = "the time in row 1, column 1 (Job) is the text 'Shelf', and has to be a whole number; convert it to int"
-    equal("names in a column", refused(lambda: Shop.from_jobs(frame))[3].startswith(wanted), True)
+    for frame, wanted in [
+        ({"Cut": [1, 2], "Weld": [3, 2.5]},
+         "the time in row 2, column 2 (Weld) is 2.5, of type float, and has to be a whole number; choose a unit"),
+        ({"Job": ["Shelf"], "Cut": [1]},
+         "the time in row 1, column 1 (Job) is the text 'Shelf', and has to be a whole number; convert it to int"),
+    ]:
+        equal(f"a frame of {frame}", refused(Shop.from_jobs, pandas.DataFrame(frame))[3][: len(wanted)], wanted)
 
 
 def escape_names():
     """Of a name, what is not seen or moves what stands beside it is printed and drawn as in a text of Python; the rest
     as it is."""
-    svg = "{http://www.w3.org/2000/svg}"
     hidden = [chr(code) for code in (*range(32), *range(127, 160), *range(0x2028, 0x202F), *range(0x2066, 0x206A))]
     hidden += ["\ud800", "\udfff", "\ufffe", "\uffff"]
     for sign in [*hidden, " ", "\xa0", "\xad", "\u200d", "\u3000", "é", "𝓍", "\\"]:
         name, wanted = f"a{sign}b", f"a{repr(sign)[1:-1] if sign in hidden else sign}b"
         shop = Shop.from_jobs([[9, 9]], job_names=[name], machine_names=[name, 7])
-        equal(f"{name!r} of a shop", repr(shop), f"Shop(1 job: {wanted}; 2 machines: {wanted}, 7)")
-        results = [shop.neh(), shop.prove(19), Start((1,), 18, (name,))]
+        results = [shop, shop.neh(), shop.prove(19), Start((1,), 18, (name,))]
         said = [f"{kind}(makespan 18: {wanted})" for kind in ("Start", "Below", "Start")]
-        equal(f"{name!r} of a start", [*map(repr, results)], said)
-        drawing = xml.etree.ElementTree.fromstring(shop.gantt([1]))
-        titles = [each.text for each in drawing.iter(f"{svg}title")][1:]
+        said = [f"Shop(1 job: {wanted}; 2 machines: {wanted}, 7)", *said]
+        equal(f"{name!r} of a shop and a start", [*map(repr, results)], said)
         bars = [f"{wanted}, {wanted}, start 0, end 9", f"{wanted}, 7, start 9, end 18"]
-        equal(f"{name!r} in a picture", titles, bars)
-        labels = [each.text for each in drawing.iter(f"{svg}text")]
-        equal(f"{name!r} in bars and rows", labels.count(wanted), 3)
-    # A name with a comma stands in quotation marks, where Python writes it.
-    equal("with a comma", repr(Shop.from_jobs([[1]], job_names=["\x1b,"])), "Shop(1 job: '\\x1b,'; 1 machine)")
+        drawing = shop.gantt([1])
+        got = texts_of(drawing, "title")[1:], texts_of(drawing, "text").count(wanted)
+        equal(f"{name!r} in the titles, bars and rows of a picture", got, (bars, 3))
 
 
 def use_results():
     """What each call gives, and how it fits the next one."""
-    start = SHOP.neh()
+    start, better = SHOP.neh(), SHOP.improve([1, 2, 3])
     equal("a start", (start.sequence, start.value), ((2, 1, 3), 13))
-    better = SHOP.improve([1, 2, 3])
     equal("a better start", (better.value <= 15, SHOP.makespan(better)), (True, better.value))
     equal("one from that of neh", SHOP.improve(width=8, rounds=5, seed=7, work=1).value <= 13, True)
     found, timetable = SHOP.solve(), SHOP.schedule([3, 1, 2])
     equal("a least makespan", (found.lower, found.upper, found.sequence, found.optimal), (12, 12, (3, 1, 2), True))
     for result, value in [(start, 13), (found, 12), (timetable, 12)]:
-        equal("a result as a sequence", (SHOP.makespan(result), SHOP.schedule(result).makespan), (value, value))
+        got = SHOP.makespan(result), SHOP.schedule(result).makespan, SHOP.solve(result).upper
+        got += SHOP.certify(result, **FEW).upper, SHOP.improve(result).value
+        equal(f"{result!r} as a sequence", got, (value, value, 12, 12, 12))
         proved = "optimal" if result is found else "makespan"
         equal("its picture", f"<title>{proved} {value}, jobs 3, machines 3<" in SHOP.gantt(result), True)
-        equal("a search from it", (SHOP.solve(result).upper, SHOP.certify(result, **FEW).upper), (12, 12))
-        equal("an improvement of it", SHOP.improve(result).value, 12)
+        frozen = refused(setattr, result, "sequence", ())
+        equal("a frozen result", issubclass(frozen, AttributeError), True)
     equal("many results", SHOP.makespans([start, found, timetable, (1, 2, 3)]).tolist(), [13, 12, 12, 15])
     equal("no sequences", SHOP.makespans([]).tolist(), [])
     parts = [SHOP.prove(12), SHOP.prove(13), SHOP.prove(12, budget=1), flowshop.Progress(1, 10, 12, 3, 0.5)]
@@ -331,39 +306,35 @@ def use_results():
         kept = pickle.loads(pickle.dumps(result))
         equal("a result from elsewhere", (kept, type(kept), repr(kept)), (result, type(result), repr(result)))
     equal("results in a set", len({start, found, timetable, SHOP.neh(), SHOP.solve(), SHOP.schedule(found)}), 3)
-    for result in (start, found, timetable):
-        frozen = refused(lambda result=result: setattr(result, "sequence", ()))
-        equal("a frozen result", issubclass(frozen, AttributeError), True)
 
 
 def use_texts():
     """Texts in each form that a check takes, and certificates of both kinds."""
     checked = SHOP.check(BOUNDS)
-    equal("bounds", (checked.lower, checked.upper, checked.sequence, checked.text), (11, 13, (2, 1, 3), BOUNDS))
-    equal("that they differ", (checked.optimal, repr(checked)), (False, "Certificate(bounds 11 to 13, 1 direction)"))
-    equal("a least makespan", repr(SHOP.check(LEAST)), "Certificate(optimal 12, 2 directions)")
-    equal("one by a tree", repr(SHOP.check(TREE)), "Certificate(optimal 12, 1 tree)")
+    got = checked.lower, checked.upper, checked.sequence, checked.text, checked.optimal
+    equal("bounds", got, (11, 13, (2, 1, 3), BOUNDS, False))
     long = Certificate(1, 2, (1, 2), b"flowshop two-ended 1\n2 1\n1 2\n1 2\n" + b"+" * 10**7 + b"\nend\n")
-    equal("what is shown of a long one", repr(long), "Certificate(bounds 1 to 2, 10,000,000 directions)")
-    with tempfile.TemporaryDirectory() as folder:
-        path = pathlib.Path(folder, "certificate")
+    for found, wanted in [(checked, "bounds 11 to 13, 1 direction"), (SHOP.check(LEAST), "optimal 12, 2 directions"),
+                          (SHOP.check(TREE), "optimal 12, 1 tree"), (long, "bounds 1 to 2, 10,000,000 directions")]:
+        equal("what is shown of a certificate", repr(found), f"Certificate({wanted})")
+    with new_folder() as folder:
+        path = folder / "certificate"
         checked.save(path)
-        equal("a text that is saved", read(path), BOUNDS)
+        equal("a text that is saved", path.read_bytes(), BOUNDS)
         for text in (BOUNDS, bytearray(BOUNDS), memoryview(BOUNDS), BOUNDS.decode(), path, checked):
             equal(f"a text as {type(text).__name__}", SHOP.check(text), checked)
-        equal("a file that is not there", refused(lambda: SHOP.check(pathlib.Path(folder, "none"))), FileNotFoundError)
-    equal("what is no text", [refused(lambda text=text: SHOP.check(text)) for text in (5, None)], [TypeError] * 2)
-    certified = (SHOP.certify([2, 1, 3], **FEW), SHOP.certify(**FEW), SHOP.certify(width=8, rounds=5, seed=7, work=1))
-    for found in certified:
+        equal("a file that is not there", refused(SHOP.check, folder / "none"), FileNotFoundError)
+    equal("what is no text", [refused(SHOP.check, text) for text in (5, None)], [TypeError] * 2)
+    for found in (SHOP.certify([2, 1, 3], **FEW), SHOP.certify(**FEW), SHOP.certify(width=8, rounds=5, seed=7, work=1)):
         equal("a two-ended certificate", found.text.startswith(b"flowshop two-ended 1\n3 3\n12 12\n"), True)
-        equal("what it proves", (found.lower, found.optimal, SHOP.makespan(found.sequence)), (12, True, 12))
-        equal("a check of it", SHOP.check(found), found)
+        got = found.lower, found.optimal, SHOP.makespan(found.sequence), SHOP.check(found)
+        equal("what it proves", got, (12, True, 12, found))
     # Each sequence of this shop has the makespan 34. The bound of a node is 25 until job 14 is put at an end, so that a
     # thousand directions prove no more.
     long = Shop.from_machines([[1] * 13 + [10], [1] * 13 + [11]])
     found = long.certify(**FEW)
-    equal("bounds that are certified", (found.lower, found.upper, long.bound()), (25, 34, 25))
-    equal("a check of them", long.check(found.text), found)
+    got = found.lower, found.upper, long.bound(), long.check(found.text)
+    equal("bounds that are certified", got, (25, 34, 25, found))
 
 
 def draw_timetables():
@@ -378,20 +349,19 @@ def draw_timetables():
     equal("its columns", list(zip(*timetable.columns().values())), wanted)
     equal("that they can be written", json.loads(json.dumps(timetable.columns()))["start"][8], 12)
     drawing = SHOP.gantt([2, 1, 3])
-    bars = [bar[0].text for bar in xml.etree.ElementTree.fromstring(drawing).iter("{http://www.w3.org/2000/svg}rect")]
-    wanted = ["job 2, machine 2, start 0, end 8", "job 1, machine 1, start 0, end 4"]
-    wanted += ["job 1, machine 3, start 8, end 12", "job 3, machine 2, start 8, end 10"]
-    equal("a picture", bars, [*wanted, "job 3, machine 3, start 12, end 13"])
+    wanted = [f"job {job}, machine {machine}, start {start}, end {end}" for job, machine, start, end in wanted
+              if start < end]
+    equal("a picture", texts_of(drawing, "title")[1:], wanted)
     equal("one for a notebook", (drawing._repr_svg_(), type(drawing._repr_svg_())), (drawing, str))
     equal("one for a page of a notebook", drawing._repr_html_(), f"<div>{drawing}</div>")
-    shown = read(os.path.join(TOP, "docs", "schedule.svg")).decode()
+    shown = (TOP / "docs" / "schedule.svg").read_text()
     order = [int(job) for job in re.findall(r"job (\d+), machine 1,", shown)]
     published = Shop.read(PUBLISHED)[0].shop
     equal("the picture of docs/", published.gantt(published.certify(order, **FEW)), shown)
     foreign = Shop.from_jobs([[1, 1, 1]] * 3).certify()
     for call in (SHOP.schedule, SHOP.gantt, SHOP.report):
-        got = refused(lambda call=call: call(foreign))
-        equal(f"{call.__name__} of a certificate of another shop", got[:3], ("NotLawful", "NOT_ATTAINED", 4))
+        wanted = "NotLawful", "NOT_ATTAINED", 4
+        equal(f"{call.__name__} of a certificate of another shop", refused(call, foreign)[:3], wanted)
 
 
 def use_files():
@@ -401,25 +371,24 @@ def use_files():
     equal("the times of the third", blocks[2].shop.times[4], [74, 94, 17, 26, 95, 22, 89, 65, 81, 31])
     (published,) = Shop.read(PUBLISHED)
     equal("a published text", published, (Shop.generate(20, 5, 873_654_221), 873_654_221, 1286, 1232))
-    with tempfile.TemporaryDirectory() as folder:
-        path = pathlib.Path(folder, "shop.txt")
+    with new_folder() as folder:
+        path = folder / "shop.txt"
         Shop.generate(2, 2, 1).write(path, seed=1)
         # What docs/formats.md says that the program writes of this seed.
         wanted = "number of jobs, number of machines, initial seed, upper bound and lower bound :\n2 2 1 122 122\n"
-        equal("a text that is written", read(path).decode(), f"{wanted}processing times :\n1 14\n75 46\n")
+        equal("a text that is written", path.read_text(), f"{wanted}processing times :\n1 14\n75 46\n")
         SHOP.write(path, seed=7, upper=4_294_967_295, lower=0)
         equal("what is read of one", Shop.read(path), [(SHOP, 7, 4_294_967_295, 0)])
-        text = read(path) + b" \n\t\r\n" + read(PUBLISHED).replace(b"\n", b" \r\n")
+        text = path.read_bytes() + b" \n\t\r\n" + PUBLISHED.read_bytes().replace(b"\n", b" \r\n")
         path.write_bytes(text + b"\n~ 9\n1 1 0 0 0 \n\x0b\n7")
-        again = Shop.read(path)
-        equal("blocks of three texts", again[:2], [(SHOP, 7, 4_294_967_295, 0), published])
-        equal("the last of them", again[2], (Shop.from_jobs([[7]]), 0, 0, 0))
+        wanted = [(SHOP, 7, 4_294_967_295, 0), published, (Shop.from_jobs([[7]]), 0, 0, 0)]
+        equal("blocks of three texts", Shop.read(path), wanted)
         for change, number in [({"seed": -1}, "seed is -1"), ({"upper": 2**32}, "upper is 4,294,967,296")]:
             sentence = f"{number}, and has to be a whole number from 0 to 4,294,967,295"
-            got = refused(lambda change=change: SHOP.write(path, **change))
-            equal("a number that is not written", got, ("OptionError", number.split()[0].upper(), 0, sentence))
+            wanted = "OptionError", number.split()[0].upper(), 0, sentence
+            equal("a number that is not written", refused(SHOP.write, path, **change), wanted)
         equal("that the file is as it was", Shop.read(path)[0].seed, 7)
-    equal("a file that is not there", refused(lambda: Shop.read("/nothing")), FileNotFoundError)
+    equal("a file that is not there", refused(Shop.read, "/nothing"), FileNotFoundError)
 
 
 def use_labels():
@@ -427,51 +396,43 @@ def use_labels():
     lines = ["jobs\tShelf\tDoor", "2 1 0 0 0", "machines, times in 1/4, decimal comma, separator tab\tCut, saw", "5 7"]
     wanted = ("Shelf", "Door"), ("Cut, saw",), 4
     no_jobs, plain = ((1, 2), *wanted[1:]), ((1, 2), (1,), 1)
-    with tempfile.TemporaryDirectory() as folder:
-        path = pathlib.Path(folder, "shop.txt")
+
+    def labels(path):
+        return [(block.shop.job_names, block.shop.machine_names, block.shop.scale) for block in Shop.read(path)]
+
+    with new_folder() as folder:
+        path = folder / "shop.txt"
         for at, old, new, names in [
-            (0, "", "", wanted),
-            (0, "Shelf", " Schränke ", ((" Schränke ", "Door"), *wanted[1:])),
-            (0, "Shelf\tDoor", "1\t2", ((1, 2), *wanted[1:])),
-            (0, "Shelf\tDoor", "2\t1", (("2", "1"), *wanted[1:])),
-            (2, "Cut, saw", "1", (wanted[0], (1,), 4)),
-            (2, "1/4", "1/1000000", (*wanted[:2], 1_000_000)),
-            (0, "jobs", "Jobs", no_jobs),
-            (0, "jobs", " jobs", no_jobs),
-            (0, "jobs\tShelf\tDoor", "jobs", no_jobs),
+            (0, "", "", wanted), (0, "Shelf", " Schränke ", ((" Schränke ", "Door"), *wanted[1:])),
+            (0, "Shelf\tDoor", "1\t2", ((1, 2), *wanted[1:])), (0, "Shelf\tDoor", "2\t1", (("2", "1"), *wanted[1:])),
+            (2, "Cut, saw", "1", (wanted[0], (1,), 4)), (2, "1/4", "1/1000000", (*wanted[:2], 1_000_000)),
+            (0, "jobs", "Jobs", no_jobs), (0, "jobs", " jobs", no_jobs), (0, "jobs\tShelf\tDoor", "jobs", no_jobs),
             (0, "jobs\tShelf\tDoor", "jobs of plant A", no_jobs),
         ]:
             text = [line.replace(old, new, 1) if at == number else line for number, line in enumerate(lines)]
             for encoding, end_of_line in (("utf-8", "\n"), ("cp1252", "\r\n")):
                 path.write_bytes(end_of_line.join([*text, ""]).encode(encoding))
                 (shop,) = (block.shop for block in Shop.read(path))
-                equal(f"the labels {text[::2]}", (shop.job_names, shop.machine_names, shop.scale), names)
+                equal(f"the labels {text[::2]}", labels(path), [names])
                 shop.write(path)
-                equal("a shop that is written and read", [block.shop for block in Shop.read(path)], [shop])
-                equal("the scale of a copy", pickle.loads(pickle.dumps(shop)).scale, names[2])
+                got = [block.shop for block in Shop.read(path)], pickle.loads(pickle.dumps(shop)).scale
+                equal("a shop that is written and read", got, ([shop], names[2]))
         for first, second in [
-            ("words", "words"),
-            ("jobs", "times :"),
-            ("jobs\tShelf", "times :"),
-            ("jobs\tShelf\t", "times :"),
-            ("Jobs\tShelf\tDoor", "times :"),
-            ("times :", "machines"),
+            ("words", "words"), ("jobs", "times :"), ("jobs\tShelf", "times :"), ("jobs\tShelf\t", "times :"),
+            ("Jobs\tShelf\tDoor", "times :"), ("times :", "machines"),
             ("\ufeffnumber of jobs", "Machines, times in 1/4, decimal comma, separator tab\tCut"),
         ]:
             path.write_text(f"{first}\n2 1 0 0 0\n{second}\n5 7\n", encoding="utf-8")
-            (shop,) = (block.shop for block in Shop.read(path))
-            equal(f"the words {first!r}", (shop.job_names, shop.machine_names, shop.scale), plain)
+            equal(f"the words {first!r}", labels(path), [plain])
         path.write_bytes(codecs.BOM_UTF8 + "\r\n".join(lines).encode())
-        (shop,) = (block.shop for block in Shop.read(path))
-        equal("a byte order mark", (shop.job_names, shop.machine_names, shop.scale), wanted)
+        equal("a byte order mark", labels(path), [wanted])
         path.write_bytes("\n".join([*lines, "jobs\tBed", "1 1 0 0 0", lines[2].replace("/4", "/2"), "3"]).encode())
-        shops = [block.shop for block in Shop.read(path)]
-        equal("the names of two blocks", [shop.job_names for shop in shops], [("Shelf", "Door"), ("Bed",)])
-        equal("their scales", [shop.scale for shop in shops], [4, 2])
+        equal("names and scales of two blocks", labels(path), [wanted, (("Bed",), wanted[1], 2)])
+        shop = Shop.read(path)[0].shop
         whole = Shop.from_machines([[5, 7]], job_names=["Shelf", "Door"], machine_names=["Cut, saw"])
-        equal("that the scale tells shops apart", (shops[0] == whole, shops[0].times == whole.times), (False, True))
-        shops[0].write(path)
-        equal("label lines that are written", read(path).decode().split("\n")[:3:2], [lines[0], lines[2]])
+        equal("that the scale tells shops apart", (shop == whole, shop.times == whole.times), (False, True))
+        shop.write(path)
+        equal("label lines that are written", path.read_text().split("\n")[:3:2], [lines[0], lines[2]])
         named = Shop.from_jobs(ROWS, **NAMES)
         named.write(path, seed=3)
         equal("names of a table", Shop.read(path), [(named, 3, 13, 10)])
@@ -479,7 +440,7 @@ def use_labels():
         equal("names that are no text", Shop.read(path)[0].shop.job_names, ("Shelf", "7"))
         for name in ("", "a\tb", "a\n", "a\r"):
             sentence = f"the name of job 2 is {name!r}, and has to have a sign, no tab and no end of a line"
-            got = refused(lambda name=name: Shop.from_jobs([[1], [2]], job_names=["a", name]).write(path))
+            got = refused(Shop.from_jobs([[1], [2]], job_names=["a", name]).write, path)
             equal(f"the name {name!r}", got, ("TextError", "LABEL", 2, sentence))
         equal("that the file is as it was", Shop.read(path)[0].shop.jobs, 2)
 
@@ -522,34 +483,29 @@ def refuse_labels():
 
 def refuse_label(text, line, said):
     """A file with this text is refused with this line and this sentence, by the call and by the commands."""
-    with tempfile.TemporaryDirectory() as folder:
-        path = os.path.join(folder, "shop.txt")
-        pathlib.Path(path).write_text(text, encoding="utf-8")
+    with new_folder() as folder:
+        path = folder / "shop.txt"
+        path.write_text(text, encoding="utf-8")
         sentence = f"line {line} of {path} {said}"
-        equal(f"the labels of {text!r}", refused(lambda: Shop.read(path)), ("TextError", "LABEL", line, sentence))
-        block = "2" if line > 3 else "1"
-        for name, *words in [
-            ("certify", path, "--out", folder),
-            ("check", path, "--out", folder),
-            ("report", path, block, "--out", os.path.join(folder, "report.html")),
-        ]:
-            with contextlib.redirect_stderr(io.StringIO()) as errors, contextlib.redirect_stdout(io.StringIO()):
-                status = command.main([name, *words])
-            equal(f"{name} of {text!r}", (status, errors.getvalue()), (1, f"flowshop: {sentence}\n"))
+        equal(f"the labels of {text!r}", refused(Shop.read, str(path)), ("TextError", "LABEL", line, sentence))
+        for words in [("certify", path, "--out", folder), ("check", path, "--out", folder),
+                      ("report", path, "2" if line > 3 else "1", "--out", folder / "report.html")]:
+            status, _, errors = called(command.main, *words)
+            equal(f"{words[0]} of {text!r}", (status, errors), (1, f"flowshop: {sentence}\n"))
 
 
 def refuse_files():
     """The first fault of a benchmark text, with its line, and what to do. Certificates are no benchmark texts."""
-    with tempfile.TemporaryDirectory() as folder:
-        path = os.path.join(folder, "text")
+    with new_folder() as folder:
+        path = folder / "text"
         for text, fault, *said in refusals.TEXTS:
-            pathlib.Path(path).write_bytes(text)
-            for given in (path, pathlib.Path(path)):
-                error, name, place, sentence = refused(lambda given=given: Shop.read(given))
+            path.write_bytes(text)
+            for given in (str(path), path):
+                error, name, place, sentence = refused(Shop.read, given)
                 got = error, (name, place), *([sentence] * len(said))
-                wanted = "TextError", refusals.name_of(fault), *(each.replace("*", path) for each in said)
+                wanted = "TextError", refusals.name_of(fault), *(each.replace("*", str(path)) for each in said)
                 equal(f"the text {text!r}", got, wanted)
-        pathlib.Path(path).write_bytes(b"flowshop of a text book\n1 1 0 0 0\nb\n7\n")
+        path.write_bytes(b"flowshop of a text book\n1 1 0 0 0\nb\n7\n")
         equal("a label that begins as a certificate", Shop.read(path)[0].shop.times, [[7]])
 
 
@@ -559,8 +515,7 @@ def refuse_tables():
     machines = "one for each machine, and a shop has 1 to 26 machines"
     turn = "; if its rows are {0}, it is a table for Shop.from_{0}".format
     whole = "and has to be a whole number; choose a unit in which all are whole, and convert them to int"
-    skip = "write 0 where a job skips a machine"
-    limit = "and has to be from 0 to 999,999"
+    skip, limit = "write 0 where a job skips a machine", "and has to be from 0 to 999,999"
     for make, table, name, place, sentence in [  # of some sentences the first words
         (Shop.from_jobs, [], "JOBS", 0, f"this table has 0 rows, {jobs}"),
         (Shop.from_machines, [], "JOBS", 0, f"this table has 0 columns, {jobs}"),
@@ -591,38 +546,36 @@ def refuse_tables():
         (Shop.from_jobs, [[float("nan"), 1.5]], "TIME", (1, 1), f"is missing (nan); {skip}"),
         (Shop.from_jobs, [[1, "4"]], "TIME", (1, 2), "is the text '4', and has to be a whole number; convert"),
     ]:
-        got = refused(lambda make=make, table=table: make(table))
+        got = refused(make, table)
         at = f"the time in row {place[0]}, column {place[1]} " if name == "TIME" else ""
-        equal(f"the table of which is said: {sentence}", got[:3], ("NotAShop", name, place))
-        equal("what is said of a table", got[3][: len(at + sentence)], at + sentence)
-        equal("that no other advice follows", ("would fit" in got[3]) == ("would fit" in sentence), True)
+        # No other advice follows.
+        got = *got[:3], got[3][: len(at + sentence)], "would fit" in got[3]
+        wanted = "NotAShop", name, place, at + sentence, "would fit" in sentence
+        equal(f"the table of which is said: {sentence}", got, wanted)
 
 
 def refuse_sequences():
     """Lists that are no sequence, in each call that takes one."""
+    number, a_list = "and has to be a job number from 1 to 3", "a sequence is a list of job numbers, and this is"
     for jobs, name, place, sentence in [
         *refusals.SEQUENCES,
         ([1, 2, 65_536], "JOB", 3, "place 3 of the sequence is 65,536, and the jobs are 1 to 3"),
         ([1, -2, 3], "JOB", 2, "place 2 of the sequence is -2, and the jobs are 1 to 3"),
-        ([1, 2.0, 3], "JOB", 2, "place 2 of the sequence is 2.0, and has to be a job number from 1 to 3"),
-        (["Door"], "JOB", 1, "place 1 of the sequence is 'Door', and has to be a job number from 1 to 3"),
-        (5, "JOB", 0, "a sequence is a list of job numbers, and this is 5"),
-        ("123", "JOB", 0, "a sequence is a list of job numbers, and this is '123'"),
-        ({1: 3, 2: 2, 3: 1}, "JOB", 0, "a sequence is a list of job numbers, and this is {1: 3, 2: 2, 3: 1}"),
-        ({1, 2, 3}, "JOB", 0, "a sequence is a list of job numbers, and this is {1, 2, 3}"),
-        (frozenset([1, 2, 3]), "JOB", 0, "a sequence is a list of job numbers, and this is frozenset({1, 2, 3})"),
-        (b"\1\2\3", "JOB", 0, "a sequence is a list of job numbers, and this is b'\\x01\\x02\\x03'"),
+        ([1, 2.0, 3], "JOB", 2, f"place 2 of the sequence is 2.0, {number}"),
+        (["Door"], "JOB", 1, f"place 1 of the sequence is 'Door', {number}"),
+        *[(jobs, "JOB", 0, f"{a_list} {jobs!r}")
+          for jobs in (5, "123", {1: 3, 2: 2, 3: 1}, {1, 2, 3}, frozenset([1, 2, 3]), b"\1\2\3")],
     ]:
         for call in (SHOP.makespan, SHOP.schedule, SHOP.gantt, SHOP.improve, SHOP.solve, SHOP.certify):
-            got = refused(lambda call=call, jobs=jobs: call(jobs))
-            equal(f"{call.__name__} of {jobs!r}", got[:3], ("NotASequence", name, place))
-            equal(f"what {call.__name__} says of {jobs!r}", got[3][: len(sentence)], sentence)
-        got = refused(lambda jobs=jobs: SHOP.makespans([[1, 2, 3], jobs]))
-        equal(f"many with {jobs!r}", got[:3], ("NotASequence", name, (2, place)))
-        equal(f"what is said of many with {jobs!r}", got[3][: len(sentence) + 12], f"sequence 2: {sentence}")
-    for many, said in ((5, "5"), ({(1, 2, 3)}, "{(1, 2, 3)}"), ({"a": [1, 2, 3]}, "{'a': [1, 2, 3]}")):
-        wanted = "NotASequence", "JOB", 0, f"many sequences are a list of lists of job numbers, and this is {said}"
-        equal(f"many that are {said}", refused(lambda many=many: SHOP.makespans(many)), wanted)
+            got = refused(call, jobs)
+            got, wanted = (*got[:3], got[3][: len(sentence)]), ("NotASequence", name, place, sentence)
+            equal(f"{call.__name__} of {jobs!r}", got, wanted)
+        got = refused(SHOP.makespans, [[1, 2, 3], jobs])
+        wanted = "NotASequence", name, (2, place), f"sequence 2: {sentence}"
+        equal(f"many with {jobs!r}", (*got[:3], got[3][: len(sentence) + 12]), wanted)
+    for many in (5, {(1, 2, 3)}, {"a": [1, 2, 3]}):
+        wanted = "NotASequence", "JOB", 0, f"many sequences are a list of lists of job numbers, and this is {many!r}"
+        equal(f"many that are {many!r}", refused(SHOP.makespans, many), wanted)
 
 
 def check_bounds():
@@ -631,76 +584,63 @@ def check_bounds():
     low, root = (b"flowshop two-ended 1\n3 3\n%d 13\n2 1 3\n\nend\n" % lower for lower in (9, 10))
     less = "its lower bound is 9, and 10 takes no search; remove this file, and certify writes one that proves so much"
     simple = "its lower bound of 10 takes no search, and certify may prove a higher one"
-    with tempfile.TemporaryDirectory() as folder:
-        path, text = os.path.join(folder, "shop.txt"), pathlib.Path(folder, "shop.txt.1.certificate")
+    with new_folder() as folder:
+        path, text = folder / "shop.txt", folder / "shop.txt.1.certificate"
         SHOP.write(path)
         for name, given, lower, upper, said in [
-            ("a least makespan", LEAST, 12, 12, ""),
-            ("one with a tree", TREE, 12, 12, ""),
-            ("a bound that was raised", BOUNDS, 11, 13, ""),
-            ("a bound that was not", root, 10, 13, simple),
+            ("a least makespan", LEAST, 12, 12, ""), ("one with a tree", TREE, 12, 12, ""),
+            ("a bound that was raised", BOUNDS, 11, 13, ""), ("a bound that was not", root, 10, 13, simple),
             ("a lower one", low, 9, 13, less),
         ]:
             text.write_bytes(given)
-            row = [path, "1", "3", "3", str(lower), str(upper)]
-            refusal = f"refused bounds {lower} {upper}"
+            row = 0, [[str(path), "1", "3", "3", str(lower), str(upper)]], said
             for words, wanted in [
-                ([], (0, [row], said)),
-                (["--optimal"], (0, [row], said) if lower == upper else (1, [], refusal)),
+                ([], row), (["--optimal"], row if lower == upper else (1, [], f"refused bounds {lower} {upper}")),
             ]:
-                with contextlib.redirect_stderr(io.StringIO()) as errors:
-                    with contextlib.redirect_stdout(io.StringIO()) as out:
-                        status = command.main(["check", path, "--out", folder, *words])
-                rows = [line.split()[:6] for line in out.getvalue().splitlines()[1:]]
-                got = status, rows, errors.getvalue()
+                status, out, errors = called(command.main, "check", path, "--out", folder, *words)
+                got = status, [line.split()[:6] for line in out.splitlines()[1:2]], errors
                 equal(f"{name}, with {words}", got, (*wanted[:2], wanted[2] and f"{text}: {wanted[2]}\n"))
         # A table that would lack a row is not written.
-        table = os.path.join(folder, "table.csv")
-        with contextlib.redirect_stderr(io.StringIO()), contextlib.redirect_stdout(io.StringIO()):
-            command.main(["check", path, "--out", folder, "--optimal", "--csv", table])
-        equal("a table of bounds where an optimum is asked for", os.path.exists(table), False)
+        called(command.main, "check", path, "--out", folder, "--optimal", "--csv", folder / "table.csv")
+        equal("a table of bounds where an optimum is asked for", (folder / "table.csv").exists(), False)
 
 
 def refuse_texts():
     """Texts that are no lawful certificate, with the line at fault; and lawful ones of other shops."""
     lines = {"HEADER": 1, "SIZE": 2, "VALUE": 3, "SEQUENCE": 4, "NOT_ATTAINED": 4}
     for rows, text, line, sentence in refusals.checks():
-        got = refused(lambda rows=rows, text=text: Shop.from_jobs(rows).check(text))
-        if not isinstance(got, tuple):
+        got = refused(Shop.from_jobs(rows).check, text)
+        if isinstance(got, tuple):
+            name, place = refusals.name_of(line)
+            got, wanted = (*got[:3], got[3][: len(sentence)]), ("NotLawful", name, lines.get(name, place), sentence)
+        else:
             _, lower, *upper = line.split()
-            equal(f"a check of {text[:99]}", (got.lower, got.upper), (int(lower), int(*upper or [lower])))
-            continue
-        name, place = refusals.name_of(line)
-        equal(f"a check of {text[:99]}", got[:3], ("NotLawful", name, lines.get(name, place)))
-        equal(f"what is said of {text[:99]}", got[3][: len(sentence)], sentence)
+            got, wanted = (got.lower, got.upper), (int(lower), int(*upper or [lower]))
+        equal(f"a check of {text[:99]}", got, wanted)
     advice = "; a str is the text itself, and a file is named by pathlib.Path"
-    equal("the name of a file", refused(lambda: SHOP.check("shop.certificate"))[3].endswith(advice), True)
-    equal("a text with other signs", refused(lambda: SHOP.check("\ud800é"))[:2], ("NotLawful", "HEADER"))
+    equal("the name of a file", refused(SHOP.check, "shop.certificate")[3].endswith(advice), True)
+    equal("a text with other signs", refused(SHOP.check, "\ud800é")[:2], ("NotLawful", "HEADER"))
 
 
 def pass_options():
     """Each number comes to the argument, or to the field of a record, that is named as the option is."""
-    header = read(os.path.join(TOP, "library", "flowshop.h")).decode()
     numbers = {"jobs": 2, "machines": 3, "width": 4, "rounds": 5, "seed": 6, "work": 1, "directions": 7, "depth": 1}
     numbers.update(budget=1000, version=2)
     for call, options in OPTIONS:
         name = call.__name__
         if name == "certify":
             continue  # tests/cluster.py traces its steps
-        words = [word.split()[-1] for word in re.search(rf"flowshop_{name}\(([^)]*)\)", header)[1].split(",")]
+        words = [word.split()[-1] for word in re.search(rf"flowshop_{name}\(([^)]*)\)", HEADER)[1].split(",")]
         keep = mock.Mock(side_effect=_library._CALLS[name])
         with mock.patch.dict(_library._CALLS, {name: keep}):
             call(**{option: numbers[option] for option in options})
         given = keep.call_args[0]
-        records = [word for word in given if isinstance(word, ctypes.Structure)]
-
-        def came(option):
-            if option in words:
-                return given[words.index(option)]
-            return next(getattr(record, option) for record in records if hasattr(record, option))
-
+        came = dict(zip(words, given))
+        for record in given:
+            if isinstance(record, ctypes.Structure):
+                came.update({field: getattr(record, field) for field, *_ in record._fields_ if field not in words})
         wanted = [numbers[option] for option in options]
-        equal(f"the numbers of {name}", [came(option) for option in options], wanted)
+        equal(f"the numbers of {name}", [came.get(option) for option in options], wanted)
         equal(f"the arguments of {name}", len(given), len(words))
 
 
@@ -712,51 +652,47 @@ def refuse_options():
             for value, shown in [(least - 1, f"{least - 1}"), (most + 1, f"{most + 1:,}"), (2**32, "4,294,967,296"),
                                  (1.5, "1.5"), (None, "None"), ("3", "'3'")]:
                 sizes = {"jobs": 1, "machines": 1, "seed": 1} if call == Shop.generate else {}
-                got = refused(lambda: call(**{**sizes, name: value}))
                 sentence = f"{name} is {shown}, and has to be a whole number from {least:,} to {most:,}"
-                equal(f"{name} as {value!r}", got, ("OptionError", name.upper(), 0, sentence))
+                wanted = "OptionError", name.upper(), 0, sentence
+                equal(f"{name} as {value!r}", refused(call, **{**sizes, name: value}), wanted)
     equal("a search that tells nothing", SHOP.certify(progress=False), SHOP.certify())
     executor = "that of an executor, or of a pool, such as pool.map, or None"
     told = "True, or a function that takes a Progress, or None"
-    rows = ("map", 5, executor), ("map", True, executor), ("progress", 1, told), ("progress", "yes", told)
-    for name, value, wanted in rows:
-        got = refused(lambda name=name, value=value: SHOP.certify(**{name: value}))
-        sentence = f"{name} is {value!r}, and has to be {wanted}"
-        equal(f"{name} as {value!r}", got, ("OptionError", name.upper(), 0, sentence))
     one, hundred = Shop.from_jobs([[5]]), Shop.from_jobs([[5]] * 100)
-    wanted = "OptionError", "PLAN_DEPTH", 0, "depth is 2, and the shop has 1 job"
-    equal("a great depth", refused(lambda: one.solve(depth=2)), wanted)
-    wanted = "OptionError", "PLAN_PREFIXES", 0, "depth is 3, which makes 970,200 trees, and there are 100,000 at most"
-    equal("many trees", refused(lambda: hundred.solve(depth=3)), wanted)
-    got = refused(lambda: SHOP.solve(depth=1, budget=1))
-    equal("a small budget", got[:3], ("OverBudget", "OVER_BUDGET", 2))
+    trees = "depth is 3, which makes 970,200 trees, and there are 100,000 at most"
+    for call, words, name, sentence in [
+        *[(SHOP.certify, {name: value}, name.upper(), f"{name} is {value!r}, and has to be {wanted}") for
+          name, value, wanted in (("map", 5, executor), ("map", True, executor), ("progress", 1, told),
+                                  ("progress", "yes", told))],
+        (one.solve, {"depth": 2}, "PLAN_DEPTH", "depth is 2, and the shop has 1 job"),
+        (hundred.solve, {"depth": 3}, "PLAN_PREFIXES", trees),
+    ]:
+        equal(f"{call.__name__} with {words}", refused(call, **words), ("OptionError", name, 0, sentence))
+    got = refused(SHOP.solve, depth=1, budget=1)
     sentence = "tree 2 of 3, counted from 0, is longer than the budget of 1 byte; give a larger one, or call certify"
-    equal("what is said of it", got[3][: len(sentence)], sentence)
+    equal("a small budget", (*got[:3], got[3][: len(sentence)]), ("OverBudget", "OVER_BUDGET", 2, sentence))
 
 
 def compare_page():
-    """The sentences of docs/library.md are those of refusals, and it names each call on a shop."""
-    page = read(os.path.join(TOP, "docs", "library.md")).decode()
-    part = page[page.index("## From Python") : page.index("## From Rattle")]
-    nan = float("nan")
-    with tempfile.TemporaryDirectory() as folder:
-        pathlib.Path(folder, "shop.csv").write_bytes(b"a\n1;2\n")
-        for call in [
-            lambda: Shop.from_jobs([[1, 2, 3], [4, 5, nan], [6, 7, 8]], **NAMES),
-            lambda: Shop.from_machines([[1] * 5] * 60),
-            lambda: SHOP.makespan([2, 0, 1]),
-            lambda: SHOP.check(BOUNDS.replace(b"3 3", b"3 2")),
-            lambda: Shop.read(os.path.join(folder, "shop.csv")),
-            lambda: SHOP.improve(width=70_000),
-            lambda: SHOP.solve(depth=1, budget=1),
+    """The sentences of docs/python.md are those of refusals, and it names each call on a shop."""
+    page = (TOP / "docs" / "python.md").read_text()
+    with new_folder() as folder:
+        (folder / "shop.csv").write_bytes(b"a\n1;2\n")
+        for error, _, _, sentence in [
+            refused(Shop.from_jobs, [[1, 2, 3], [4, 5, float("nan")], [6, 7, 8]], **NAMES),
+            refused(Shop.from_machines, [[1] * 5] * 60),
+            refused(SHOP.makespan, [2, 0, 1]),
+            refused(SHOP.check, BOUNDS.replace(b"3 3", b"3 2")),
+            refused(Shop.read, str(folder / "shop.csv")),
+            refused(SHOP.improve, width=70_000),
+            refused(SHOP.solve, depth=1, budget=1),
         ]:
-            error, _, _, sentence = refused(call)
-            said = re.search(rf"^\| `{error}` \|((?:.*\n\| \|)?.*)$", part, re.MULTILINE)[1]
-            wanted = [sentence.replace(folder + os.sep, ""), sentence.split(", which")[0] + ", .."]
+            said = re.search(rf"^\| `{error}` \|((?:.*\n\| \|)?.*)$", page, re.MULTILINE)[1]
+            wanted = [sentence.replace(f"{folder}/", ""), sentence.split(", which")[0] + ", .."]
             equal(f"the sentence of {error}", any(f"`{each}`" in said for each in wanted), True)
     for name in vars(Shop):
         if not name.startswith("_") and callable(getattr(Shop, name)):
-            equal(f"that the page names {name}", re.search(rf"`(Shop|shop)\.{name}\(", part) is not None, True)
+            equal(f"that the page names {name}", re.search(rf"`(Shop|shop)\.{name}\(", page) is not None, True)
 
 
 def keep_rooms():
@@ -768,22 +704,19 @@ def keep_rooms():
         ctypes.memset(ctypes.addressof(room.bytes.contents) + 70_000_000, 65, 1)
         room.length = 70_000_001
 
-    text = _texts.written(1 << 32, fill)
-    equal("a long text", (len(text), text[-1:], rooms), (70_000_001, b"A", [1 << 32]))
-
     def refuse(room):
         rooms.append(room.bytes_count)
         raise _library.Refused("ROOM", 1 << 50)
 
-    equal("a text without room", refused(lambda: _texts.written(1 << 20, refuse)), MemoryError)
-    equal("that it was written once", rooms[1:], [1 << 20])
+    text = _texts.written(1 << 32, fill)
+    equal("a long text", (len(text), text[-1:], rooms), (70_000_001, b"A", [1 << 32]))
+    equal("a text without room", refused(_texts.written, 1 << 20, refuse), MemoryError)
     small, real = mmap.mmap(-1, 1 << 16), _library._CALLS["solve"]
-    large = Shop.read(os.path.join(TOP, "examples", "large_tree.txt"))[0].shop
-    with mock.patch.object(_texts, "_room", lambda wanted: small), mock.patch.dict(
-        _library._CALLS, solve=lambda *words: (rooms.append("solve"), real(*words))[1]
-    ):
-        equal("a search without room", refused(lambda: large.solve(depth=2)), MemoryError)
-    equal("that it was made once", rooms[2:], ["solve"])
+    large = Shop.read(EXAMPLES / "large_tree.txt")[0].shop
+    keep = mock.patch.dict(_library._CALLS, solve=lambda *words: (rooms.append("solve"), real(*words))[1])
+    with mock.patch.object(_texts, "_room", lambda wanted: small), keep:
+        equal("a search without room", refused(large.solve, depth=2), MemoryError)
+    equal("that each was made once", rooms[1:], [1 << 20, "solve"])
     with mock.patch.dict(_library._CALLS, neh=lambda *words: _library.Outcome(1, 0)):
         equal("a call that memory does not suffice for", refused(SHOP.neh), MemoryError)
     # The greatest lengths of the header.
@@ -796,10 +729,9 @@ def keep_rooms():
 def search_parts():
     """A part of a search for directions, a beam and rounds, as the library gives them."""
     signs = SHOP.certify().text.split(b"\n")[4]
+    below, over = SHOP.prove(13, budget=100), SHOP.prove(12, budget=1)
     equal("directions", SHOP.prove(12, budget=2).directions, signs)
-    below = SHOP.prove(13, budget=100)
     equal("a sequence below the number", (below.sequence, below.value), ((3, 1, 2), 12))
-    over = SHOP.prove(12, budget=1)
     equal("a search over its budget", (over.directions, len(over.parts) > 0), (signs[:1], True))
     node = SHOP.prove(14, front=[2, 1], back=[3], budget=0)
     equal("a node of three jobs", (node.sequence, node.value, node.directions), ((2, 1, 3), 13, b""))
@@ -813,66 +745,55 @@ def search_parts():
 def compare_random_shops():
     """Random shops beside plain code."""
     draw = random.Random(1)
-    for _ in range(50):
+    for _ in range(100):
         rows = [[draw.choice([0, draw.randint(1, 99), 999_999]) for _ in range(draw.randint(1, 6))]]
         rows += [[draw.randint(0, 99) for _ in rows[0]] for _ in range(draw.randint(0, 6))]
-        shop = Shop.from_jobs(rows)
+        shop, plain = Shop.from_jobs(rows), of_rows(rows)
         many = [draw.sample(range(1, len(rows) + 1), len(rows)) for _ in range(4)]
-        values = [makespan(of_rows(rows), sequence) for sequence in many]
-        equal("random makespans", list(shop.makespans(many)), values)
-        equal("random timetables", [shop.schedule(sequence).makespan for sequence in many], values)
-        equal("a random bound", shop.bound(), root_bound(of_rows(rows)))
+        values = [makespan(plain, sequence) for sequence in many]
         found = shop.solve(depth=1, version=2)
-        equal("a random certificate", shop.check(found.text), found)
-        equal("that none is below it", min(values) >= found.upper == makespan(of_rows(rows), found.sequence), True)
+        got = list(shop.makespans(many)), [shop.schedule(jobs).makespan for jobs in many], shop.bound(), found.upper
+        wanted = values, values, root_bound(plain), makespan(plain, found.sequence)
+        equal(f"makespans, timetables, bound and certificate of {rows}", got, wanted)
+        equal(f"that it is lawful, and the least, of {rows}", (shop.check(found.text), min(values) >= found.upper),
+              (found, True))
 
 
 def keep_stacks():
     """Calls on the greatest shop end well in threads with little stack, and where the system gives little; and calls of
     the library with as much as its header says. What threads of others are to have stays as it was."""
-    limit = resource.getrlimit(resource.RLIMIT_STACK)[1]
-    said = []
+    limit, said = resource.getrlimit(resource.RLIMIT_STACK)[1], []
     for word, stack in [("caller", 1 << 23), ("caller", 1 << 18), ("library", 1 << 23)]:
-        run = subprocess.run(
-            [sys.executable, os.path.join(TOP, "tests", "stacks.py"), word],
-            preexec_fn=lambda stack=stack: resource.setrlimit(resource.RLIMIT_STACK, (stack, limit)),
-            stdout=subprocess.PIPE,
-        )
+        words = [sys.executable, TOP / "tests" / "stacks.py", word]
+        run = subprocess.run(words, stdout=subprocess.PIPE, check=False,
+                             preexec_fn=lambda: resource.setrlimit(resource.RLIMIT_STACK, (stack, limit)))
         said.append(run.stdout.decode().splitlines())
-        equal(f"calls by {word} with {stack} bytes", (run.returncode, "True" in said[-1]), (0, True))
+        got = run.returncode, "True" in said[-1], len(said[-1])
+        equal(f"status, stack and lines of calls by {word} with {stack} bytes", got, (0, True, 7))
     equal("what they give with little stack", said[0], said[1])
-    equal("how many lines they print", [*map(len, said)], [7, 7, 7])
 
 
 def keep_errors():
-    """Each class of errors is a FlowshopError and a ValueError, says a sentence, and comes back from pickle."""
+    """Each class of errors is a FlowshopError and a ValueError, says a sentence, and comes back from pickle; so does an
+    interrupt with a result."""
     for name in ("NotAShop", "NotASequence", "NotLawful", "TextError", "OptionError", "OverBudget", "FlowshopError"):
         error = getattr(flowshop, name)("JOB", (2, 3), "a sentence")
         kept = pickle.loads(pickle.dumps(error))
-        got = type(kept), str(kept), kept.name, kept.place
-        equal(f"a kept {name}", got, (type(error), "a sentence", "JOB", (2, 3)))
-        equal(f"the base of {name}", (isinstance(error, FlowshopError), isinstance(error, ValueError)), (True, True))
-
-
-def keep_interrupts():
-    """An interrupt with a result, which comes back from pickle."""
-    error = flowshop.Interrupted(SHOP.neh())
-    kept = pickle.loads(pickle.dumps(error))
+        got = type(kept), str(kept), kept.name, kept.place, isinstance(error, FlowshopError)
+        equal(f"a kept {name}", got, (type(error), "a sentence", "JOB", (2, 3), True))
+        equal(f"the base of {name}", isinstance(error, ValueError), True)
+    kept = pickle.loads(pickle.dumps(flowshop.Interrupted(SHOP.neh())))
     got = type(kept), kept.result, str(kept), isinstance(kept, KeyboardInterrupt)
     equal("an interrupt", got, (flowshop.Interrupted, SHOP.neh(), "Start(makespan 13: 2, 1, 3)", True))
 
 
-def main():
-    """Runs all, and ends. A warning of the package is an error."""
+if __name__ == "__main__":
+    # A warning of the package is an error.
     warnings.filterwarnings("error", module="flowshop")
     for part in (run_examples, compare_header, make_shops, compare_shops, use_names, escape_names, use_arrays,
                  use_frames, use_results, use_texts, draw_timetables, use_files, use_labels, refuse_labels,
                  refuse_files, refuse_tables, refuse_sequences, check_bounds, refuse_texts, pass_options,
-                 refuse_options, compare_page, keep_rooms, search_parts, keep_stacks, keep_errors, keep_interrupts,
-                 compare_random_shops):
+                 refuse_options, compare_page, keep_rooms, search_parts, keep_stacks, keep_errors,
+                 compare_random_shops, *package_input.PARTS):
         part()
     end("the package for Python")
-
-
-if __name__ == "__main__":
-    main()

@@ -2,13 +2,13 @@
 reference.py, and what a reading says is the line of the program, on standard output or on standard error."""
 
 import itertools
-import os
 import re
 import sys
 
+from counts import EXAMPLES
 from reference import fronts, makespan, rows_of
 
-sys.path.insert(0, os.path.join(os.path.dirname(os.path.dirname(os.path.abspath(__file__))), "examples", "python"))
+sys.path.insert(0, str(EXAMPLES / "python"))
 import check_two_ended  # noqa: E402
 
 GREATEST = 2**64 - 1
@@ -17,7 +17,6 @@ BLANKS = b" \t\r"
 
 class Refused(Exception):
     """The line of a text that is refused."""
-
 
 # --- Certificates ---
 
@@ -60,21 +59,17 @@ def numbers(line, count):
 
 
 def heading_of(shop, text):
-    """The depth, the value, the sequence and the rest of a certificate; or the name of the first fault of lines 2 to
-    4."""
-    lines = text.split(b"\n", 4)[1:]
-    lines, rest = lines[:-1], lines[-1]
-    sizes = numbers(lines[0], 3) if lines else None
+    """The depth, the value, the sequence and the rest of a certificate. Refused with the first fault of lines 2 to 4."""
+    *lines, rest = text.split(b"\n", 4)[1:]
+    sizes, value, jobs = (numbers(line, count) for line, count in zip([*lines, b"", b"", b""], (3, 1, shop[0])))
     if not sizes or sizes[:2] != list(shop[:2]) or sizes[2] > min(3, shop[0]):
-        return "Size"
-    value = numbers(lines[1], 1) if len(lines) > 1 else None
+        raise Refused("refused certificate Size")
     if not value:
-        return "Value"
-    jobs = numbers(lines[2], shop[0]) if len(lines) > 2 else None
+        raise Refused("refused certificate Value")
     if not jobs or sorted(jobs) != list(range(1, shop[0] + 1)):
-        return "Sequence"
+        raise Refused("refused certificate Sequence")
     if makespan(shop, jobs) != value[0]:
-        return "NotAttained"
+        raise Refused("refused certificate NotAttained")
     return sizes[2], value[0], jobs, rest
 
 
@@ -83,16 +78,11 @@ def proved_by_trees(shop, text):
     first = re.match(rb"flowshop certificate ([12])\n", text)
     if not first:
         raise Refused("refused certificate Header")
-    heading = heading_of(shop, text)
-    if isinstance(heading, str):
-        raise Refused(f"refused certificate {heading}")
-    depth, value, sequence, rest = heading
+    depth, value, sequence, rest = heading_of(shop, text)
     for line, jobs in enumerate(itertools.permutations(range(1, shop[0] + 1), depth), 5):
         rest = tree_end(shop, int(first[1]), value, list(jobs), rest)
-        if isinstance(rest, str):
-            raise Refused(f"refused certificate {rest} {line}")
-        if rest[:1] != b"\n":
-            raise Refused(f"refused certificate Tree {line}")
+        if isinstance(rest, str) or rest[:1] != b"\n":
+            raise Refused(f"refused certificate {rest if isinstance(rest, str) else 'Tree'} {line}")
         rest = rest[1:]
     if rest != b"end\n":
         raise Refused("refused certificate End")
@@ -121,7 +111,6 @@ def reading(shop, text):
         return bounds_line(*proved(shop, text)[:2])
     except Refused as refused:
         return str(refused)
-
 
 # --- Benchmark texts and starts ---
 
@@ -214,10 +203,8 @@ def plain_start(shop, text):
     if not jobs:
         raise Refused(f"refused start {found[0][0] if found else len(lines) + 1}")
     stated = start_line(found[1][1], b"makespan", 4_294_967_295) if len(found) > 1 else [0]
-    if not stated or len(stated) != 1:
-        raise Refused(f"refused start {found[1][0]}")
-    if len(found) > 2:
-        raise Refused(f"refused start {found[2][0]}")
+    if not stated or len(stated) != 1 or len(found) > 2:
+        raise Refused(f"refused start {found[1 if not stated or len(stated) != 1 else 2][0]}")
     if len(jobs) != shop[0]:
         raise Refused("refused sequence Length")
     for place, job in enumerate(jobs, 1):

@@ -7,12 +7,10 @@ import os
 import resource
 import subprocess
 import sys
-import threading
 import time
 
-from counts import end, equal
-
-from flowshop import FlowshopError, NotASequence, Shop
+from counts import end, equal, refused
+from flowshop import NotASequence, Shop
 
 SMALL = Shop.from_jobs([[4, 0, 4], [0, 8, 0], [0, 2, 1]], job_names=["Shelf", "Door", "Table"])
 # Sequences of it, of which the third is none, and their makespans, worked out in docs/formats.md.
@@ -53,35 +51,27 @@ def compare_refusal(method, error):
 
 def use_threads():
     """One shop in eight threads at once, and shops of each thread."""
-    wanted = [solved(seed) for seed in range(1, 9)]
     shop = Shop.generate(30, 10, 3)
-    sequence = shop.neh()
+    sequence, seeds = shop.neh(), range(1, 9)
     texts = [str(shop.gantt(sequence)), list(shop.schedule(sequence)), sequence]
-    got = [[] for _ in wanted]
 
-    def work(number):
+    def work(seed):
+        found = []
         for _ in range(5):
-            found = Shop.generate(8, 3, number + 1).solve()
             same = [str(shop.gantt(sequence)), list(shop.schedule(sequence)), shop.neh()] == texts
-            try:
-                shop.makespan([number] * 30)
-            except FlowshopError as error:
-                got[number].append((found == wanted[number], same, error.name))
+            # Job 0 is none; every other one stands there twice.
+            found.append((solved(seed), same, refused(shop.makespan, [seed - 1] * 30)[1]))
+        return found
 
-    threads = [threading.Thread(target=work, args=[number]) for number in range(8)]
-    for thread in threads:
-        thread.start()
-    for thread in threads:
-        thread.join()
-    # Job 0 is none; every other one stands there twice.
-    equal("eight threads", got, [[(True, True, "TWICE" if number else "JOB")] * 5 for number in range(8)])
+    wanted = [[(solved(seed), True, "TWICE" if seed > 1 else "JOB")] * 5 for seed in seeds]
+    with concurrent.futures.ThreadPoolExecutor(8) as pool:
+        equal("eight threads", list(pool.map(work, seeds)), wanted)
 
 
 def measure_small_calls():
     """A search on a small shop takes a few milliseconds at most, and no memory to speak of."""
-    few = {"width": 0, "rounds": 0, "work": 0}
     held = resource.getrusage(resource.RUSAGE_SELF).ru_maxrss
-    for name, call in (("solve", SMALL.solve), ("certify", lambda: SMALL.certify(**few))):
+    for name, call in (("solve", SMALL.solve), ("certify", lambda: SMALL.certify(width=0, rounds=0, work=0))):
         least = 1.0
         for _ in range(5):
             begun = time.process_time()
@@ -101,8 +91,8 @@ def say(code, **environment):
 
 def use_little_memory():
     """A search where a process may have few addresses: the room for its text is what is left."""
-    limit = "import resource; resource.setrlimit(resource.RLIMIT_AS, (600 << 20,) * 2)\n"
-    code = f"{limit}from flowshop import Shop\nprint(Shop.generate(8, 3, 1).solve(depth=3, budget=100_000_000).optimal)"
+    code = ("import resource; resource.setrlimit(resource.RLIMIT_AS, (600 << 20,) * 2)\nfrom flowshop import Shop\n"
+            "print(Shop.generate(8, 3, 1).solve(depth=3, budget=100_000_000).optimal)")
     equal("a search with few addresses", say(code), (0, "True"))
 
 
@@ -114,16 +104,12 @@ def miss_library():
         equal(f"an import with {path}", (status, line.startswith(wanted), line.endswith(ends)), (1, True, True))
 
 
-def main():
-    """Runs all, and ends. Pools come before threads, which a fork would not copy."""
+if __name__ == "__main__":
+    # Pools come before threads, which a fork would not copy.
     measure_small_calls()
-    for method in ("fork", "spawn"):
-        use_pool(method)
+    for way in ("fork", "spawn"):
+        use_pool(way)
     use_threads()
     use_little_memory()
     miss_library()
     end("processes and threads from Python")
-
-
-if __name__ == "__main__":
-    main()

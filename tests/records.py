@@ -9,12 +9,10 @@ import counts
 from counts import TOP
 
 LIBRARY = ctypes.CDLL(os.environ.get("FLOWSHOP_LIBRARY", os.path.join(TOP, "out", "libflowshop.so")))
-with open(os.path.join(TOP, "library", "flowshop.h"), encoding="ascii") as _header:
-    HEADER = _header.read()
+HEADER = (TOP / "library" / "flowshop.h").read_text()
 STATUSES = re.findall(r"FLOWSHOP_(\w+) = (\d+)", HEADER.partition("enum flowshop_status {")[2].partition("};")[0])
 NAMES = {int(number): name for name, number in STATUSES}
 U8, U16, U32, U64, SIZE = ctypes.c_uint8, ctypes.c_uint16, ctypes.c_uint32, ctypes.c_uint64, ctypes.c_size_t
-
 
 last = threading.local()
 
@@ -78,6 +76,12 @@ def lent(kind, numbers):
     return (kind * max(1, len(numbers)))(*numbers), len(numbers)
 
 
+def given(kind, numbers):
+    """The same as two arguments."""
+    array, count = lent(kind, numbers)
+    return array, SIZE(count)
+
+
 def shop_of(shop):
     """The record of a shop: its jobs, its machines, and its times, machine by machine."""
     jobs, machines, times = shop
@@ -85,11 +89,10 @@ def shop_of(shop):
 
 
 class Room:
-    """A slice for results, filled with sevens, and one more entry."""
+    """A slice for results, filled with sevens, and one more entry; or a number, which has no count."""
 
-    def __init__(self, kind, count):
-        self.array = (kind * (count + 1))(*[7] * (count + 1))
-        self.count = count
+    def __init__(self, kind, count, is_slice=True):
+        self.array, self.count, self.is_slice = (kind * (count + 1))(*[7] * (count + 1)), count, is_slice
 
     def words(self):
         return [self.array, self.count]
@@ -103,16 +106,41 @@ class Room:
         return list(self.array[:count])
 
 
+def results(kind, *rooms):
+    """A record that a call writes: of these slices, and of numbers that are sevens."""
+    words = iter([word for room in rooms for word in room.words()])
+    slices = {name for name, _ in kind._fields_ if f"{name}_count" in dir(kind) or name.endswith("_count")}
+    made = kind(*[next(words) if name in slices else 7 for name, _ in kind._fields_])
+    made.rooms, made.numbers = rooms, [name for name, _ in kind._fields_ if name not in slices]
+    return made
+
+
+def arguments(words):
+    """The arguments of a call: a record by its place, and a slice for results with its count."""
+    for word in words:
+        if isinstance(word, Room):
+            yield from [word.array, SIZE(word.count)] if word.is_slice else [word.array]
+        else:
+            yield ctypes.byref(word) if isinstance(word, ctypes.Structure) else word
+
+
 def call(name, *words):
-    """Makes a call: None where it is done, else the name of the status and the place. Slices stay where they are."""
+    """Makes a call: None where it is done, else the name of the status and the place. Slices stay where they are, and
+    a call that is refused leaves all results as they were."""
     last.call = name, words
     made = getattr(LIBRARY, f"flowshop_{name}")
     made.restype = Outcome
     records = [word for word in words if isinstance(word, ctypes.Structure)]
     before = [slices(word) for word in records]
-    outcome = made(*[ctypes.byref(word) if isinstance(word, ctypes.Structure) else word for word in words])
+    outcome = made(*arguments(words))
     equal("where the slices are", [slices(word) for word in records], before)
     if outcome.status:
+        rooms = [word for word in words if isinstance(word, Room)]
+        for record_ in records:
+            rooms += getattr(record_, "rooms", ())
+            kept = [getattr(record_, number) for number in getattr(record_, "numbers", ())]
+            equal("numbers that are kept", set(kept) <= {7}, True)
+        equal("slices that are kept", all(room.untouched() for room in rooms), True)
         return NAMES[outcome.status], outcome.place
     equal("the place of a call that is done", outcome.place, 0)
     return None
@@ -120,8 +148,14 @@ def call(name, *words):
 
 def slices(word):
     """Where the slices of a record are, and how many entries they have."""
-    return [
-        ctypes.cast(getattr(word, name), ctypes.c_void_p).value if name + "_count" in dir(word) else getattr(word, name)
-        for name, *_ in word._fields_
-        if name + "_count" in dir(word) or name.endswith("_count")
-    ]
+    names = [name for name, *_ in word._fields_ if f"{name}_count" in dir(word) or name.endswith("_count")]
+    return [getattr(word, name) if name.endswith("_count") else
+            ctypes.cast(getattr(word, name), ctypes.c_void_p).value for name in names]
+
+
+def block(text, index, room=20_800):
+    """A block of a benchmark text, and the numbers that it states."""
+    times = Room(U32, room)
+    found = results(Block, times)
+    return call("block", *given(U8, text), U32(index), found) or (
+        (found.jobs, found.machines, times.taken(found.jobs * found.machines)), found.seed, found.upper, found.lower)

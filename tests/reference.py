@@ -6,7 +6,6 @@ jobs, its machines, and its times, machine by machine; jobs are counted from 1."
 import collections
 import itertools
 
-
 # --- Shops and sequences ---
 
 
@@ -73,8 +72,6 @@ def start(shop):
 
 
 # --- The search for directions ---
-
-
 Node = collections.namedtuple("Node", "first last front back owed")
 
 

@@ -1,5 +1,5 @@
 """The report of a schedule: its sentences, times, tables and picture, beside values worked out by hand and plain code
-that shares nothing with it; the command that writes it; and three tables that become reports in three commands."""
+that shares nothing with it; the command that writes it; and a table that becomes a report in three commands."""
 
 import datetime
 import decimal
@@ -8,20 +8,16 @@ import os
 import pathlib
 import random
 import re
-import shutil
 import subprocess
-import sys
-import tempfile
 import time
 
 import refusals
-from counts import TOP, end, equal, refused
-from reference import of_rows, spans as spans_of
+from counts import FLOWSHOP, PROGRAM, command, end, equal, new_folder, refused
+from reference import makespan, of_rows, spans as spans_of
 from refusals import THREE as ROWS
 
 from flowshop import Certificate, Report, Shop
 
-PROGRAM = os.environ.get("FLOWSHOP_PROGRAM", os.path.join(TOP, "crates", "flow_tool", "out", "flow_tool"))
 SHOP = Shop.from_jobs(ROWS)
 # Texts of the shop, of which the last states less than is so.
 LEAST, BOUNDS = refusals.LEAST.decode(), refusals.BOUNDS.decode()
@@ -88,12 +84,11 @@ def read(report):
     root = reader.root
     equal("the form of a page", reader.faults, [])
     equal("its language", [element.attributes for element in root.all("html")], [{"lang": "en"}])
-    heads = [element.attributes.get("scope") for element in root.all("th")]
-    equal("that each head of a table says of what", set(heads) <= {"row", "col"}, True)
+    heads = {element.attributes.get("scope") for element in root.all("th")}
+    equal("that each head of a table says of what", heads <= {"row", "col"}, True)
     names = [element.attributes["id"] for element in root.all("section") if "id" in element.attributes]
     links = [element.attributes["href"] for element in root.all("a")]
-    equal("where its links lead", links, [f"#{name}" for name in names])
-    equal("that no two have one name", len(set(names)), len(names))
+    equal("where its links lead, and that no two have one name", links, [f"#{name}" for name in dict.fromkeys(names)])
     for name in ("script", "link", "img", "iframe", "object"):
         equal(f"elements {name}", list(root.all(name)), [])
     style = "".join(element.text() for element in root.all("style"))
@@ -125,10 +120,9 @@ def shop_of(rows, scale=1, sign="point", job_names=None, machine_names=None):
     unit = f"machines, times in 1/{scale}, decimal {sign}, separator semicolon"
     lines.append("\t".join([unit, *map(str, machine_names)]))
     lines += [" ".join(map(str, column)) for column in zip(*rows)]
-    with tempfile.TemporaryDirectory() as folder:
-        path = pathlib.Path(folder, "shop.txt")
-        path.write_text("\n".join([*lines, ""]), encoding="utf-8")
-        return Shop.read(path)[0].shop
+    with new_folder() as folder:
+        (folder / "shop.txt").write_text("\n".join([*lines, ""]), encoding="utf-8")
+        return Shop.read(folder / "shop.txt")[0].shop
 
 
 def in_unit(scale, sign="."):
@@ -239,32 +233,24 @@ def say_what_is_proved():
         equal("the picture as words", drawing.attributes["aria-label"].endswith(proved), True)
     wanted = "Not modelled are due dates, set-up times, shifts and breaks; every machine takes the jobs in the same "
     equal("what is not modelled", line_of(root, "Not").partition("order. Made")[0], wanted)
-    other = Shop.from_jobs([[1, 2, 4]] * 3)
-    got = refused(lambda: other.report(SHOP.check(LEAST)))[:3]
+    got = refused(Shop.from_jobs([[1, 2, 4]] * 3).report, SHOP.check(LEAST))[:3]
     equal("a certificate of another shop", got, ("NotLawful", "NOT_ATTAINED", 4))
-    equal("a sequence of another shop", refused(lambda: SHOP.report([1, 2]))[:2], ("NotASequence", "LENGTH"))
+    equal("a sequence of another shop", refused(SHOP.report, [1, 2])[:2], ("NotASequence", "LENGTH"))
 
 
 def show_times():
     """When a job of this time ends, and how long the machine works, in each unit. All were worked out by hand."""
     for number, scale, sign, start, unit, at, lasting in [
-        (29, 4, "point", None, None, "7.25", "7.25"),
-        (29, 4, "comma", None, None, "7,25", "7,25"),
-        (28, 4, "point", None, None, "7", "7"),
-        (1, 1_000_000, "point", None, None, "0.000001", "0.000001"),
-        (10, 100, "comma", None, None, "0,1", "0,1"),
-        (999_999, 1, "point", None, None, "999999", "999999"),
-        (29, 1, "point", "23:30", "1min", "23:59", "0:29"),
-        (30, 1, "point", "23:30", "1min", "day 2, 00:00", "0:30"),
+        (29, 4, "point", None, None, "7.25", "7.25"), (29, 4, "comma", None, None, "7,25", "7,25"),
+        (28, 4, "point", None, None, "7", "7"), (1, 1_000_000, "point", None, None, "0.000001", "0.000001"),
+        (10, 100, "comma", None, None, "0,1", "0,1"), (999_999, 1, "point", None, None, "999999", "999999"),
+        (29, 1, "point", "23:30", "1min", "23:59", "0:29"), (30, 1, "point", "23:30", "1min", "day 2, 00:00", "0:30"),
         (90, 1, "point", "23:30", "1min", "day 2, 01:00", "1:30"),
         (49, 1, "point", "7:30", "1h", "day 3, 08:30", "49:00"),
-        (2, 1, "point", "00:00", "12h", "day 2, 00:00", "24:00"),
-        (3, 1, "point", "08:00", "15 min", "08:45", "0:45"),
+        (2, 1, "point", "00:00", "12h", "day 2, 00:00", "24:00"), (3, 1, "point", "08:00", "15 min", "08:45", "0:45"),
         (1, 4, "point", "08:00", "15min", "08:03:45", "0:03:45"),
-        (29, 4, "comma", "07:30", "1min", "07:37:15", "0:07:15"),
-        (4, 4, "comma", "07:30", "1h", "08:30", "1:00"),
-        (5, 10, "point", "08:00", "1,5min", "08:00:45", "0:00:45"),
-        (5, 10, "point", "08:00", "1.5 h", "08:45", "0:45"),
+        (29, 4, "comma", "07:30", "1min", "07:37:15", "0:07:15"), (4, 4, "comma", "07:30", "1h", "08:30", "1:00"),
+        (5, 10, "point", "08:00", "1,5min", "08:00:45", "0:00:45"), (5, 10, "point", "08:00", "1.5 h", "08:45", "0:45"),
         (3, 1, "point", "23:59", "0.5s", "23:59:02", "0:00:02"),
         (119, 1, "point", "23:59", "0.5s", "day 2, 00:00:00", "0:01:00"),
         (999_999, 1, "point", "00:00", "24h", "day 1000000, 00:00", "23999976:00"),
@@ -292,7 +278,7 @@ def show_times():
           for unit in ("", "15", "min", "0min", "0.0h", "-1h", "1d", "1e3s", "1h30min", "1.h", 60, 0, 0.5, b"1h",
                        datetime.timedelta(0, 900), pathlib.Path("1h"))],
     ]:
-        got = refused(lambda words=words: SHOP.report([1, 2, 3], **words))
+        got = refused(SHOP.report, [1, 2, 3], **words)
         equal(f"a report with {words}", got, ("OptionError", name, 0, sentence))
 
 
@@ -306,11 +292,10 @@ def show_names():
     equal("a strange title", [next(root.all(name)).text() for name in ("title", "h1")], [STRANGE, STRANGE])
     equal("what is shown of it", repr(shop.report([2, 1, 3], title=STRANGE)), f"Report({STRANGE})")
     wanted = [
-        f"{STRANGE}. Machine 1 of 3: 1 job; 2 jobs skip it.",
-        f"{STRANGE}. Machine 2 of 3: 2 jobs; 1 job skips it.",
+        f"{STRANGE}. Machine 1 of 3: 1 job; 2 jobs skip it.", f"{STRANGE}. Machine 2 of 3: 2 jobs; 1 job skips it.",
     ]
     equal("the lines of its sheets", [line for _, line, _ in sheets_of(root)][:2], wanted)
-    root = read(Shop.from_jobs(ROWS, job_names=["Bed", "Door", "Bed"]).report([2, 1, 3]))
+    root = read(shop_of(ROWS, job_names=["Bed", "Door", "Bed"]).report([2, 1, 3]))
     equal("two jobs of one name", [item.text() for item in root.all("li")], ["Door", "Bed (job 1)", "Bed (job 3)"])
     equal("their sheet", [row[1] for row in sheets_of(root)[2][2]], ["Bed (job 1)", "Bed (job 3)"])
     # What steers a terminal, or turns the direction of writing, is seen.
@@ -323,7 +308,7 @@ def show_names():
     equal("those in a picture", bars, [f"{seen}, {seen}, start 0, end 4"])
     # Label lines with the names of another shop.
     for job_names, machine_names, line in [(["Bed"], None, 1), (None, ["Cut", "Weld"], 3), ("abcd", "Cut", 1)]:
-        got = refused(lambda names=(job_names, machine_names): shop_of(ROWS, 1, "point", *names))
+        got = refused(shop_of, ROWS, 1, "point", job_names, machine_names)
         got = isinstance(got, tuple) and got[:3]
         equal(f"names of another shop {job_names} {machine_names}", got, ("TextError", "LABEL", line))
     equal("a title of its own", next(root.all("h1")).text(), "Schedule of 3 jobs on 3 machines")
@@ -352,10 +337,8 @@ def draw_pictures():
     equal("the titles of a picture alone", titles, wanted)
     # What is proved stands in the title, and over the picture.
     for order, words, head in [
-        (SHOP.check(LEAST), {}, "optimal 12"),
-        (SHOP.check(BOUNDS), {}, "makespan 13, lower bound 11"),
-        (SHOP.check(NOTHING), {}, "makespan 13, lower bound 10"),
-        ([2, 1, 3], {}, "makespan 13, lower bound 10"),
+        (SHOP.check(LEAST), {}, "optimal 12"), (SHOP.check(BOUNDS), {}, "makespan 13, lower bound 11"),
+        (SHOP.check(NOTHING), {}, "makespan 13, lower bound 10"), ([2, 1, 3], {}, "makespan 13, lower bound 10"),
         (SHOP.check(BOUNDS), {"start": "07:30", "unit": "15min"}, "makespan 3:15, lower bound 2:45"),
     ]:
         (drawing,) = read(SHOP.report(order, **words)).all("svg")
@@ -367,16 +350,18 @@ def draw_pictures():
 
 
 def label_bars():
-    """The names of jobs in the bars, or where a third of these has no room for one, the places in the order. Bars take
-    8, 4, 4, 2 and 1 of 13; 96,000 are the whole time, and a character has 670."""
-    says = "A number in a bar is the place of its job in the order."
-    for length, labels in [(8, "BAACC"), (20, "BAAC"), (30, "12233"), (60, "12233")]:
+    """In a bar stands the name of the job, or where that has no room its place in the order. Bars take 8, 4, 4, 2 and 1
+    of 13; 96,000 are the whole time, and a character has 670."""
+    says = "In a bar, #7 stands for the job at place 7 of the order."
+    for length, labels in [(8, "B A A C C"), (20, "B A A C #3"), (30, "B A A #3 #3"), (60, "B #2 #2 #3 #3")]:
         names = [name * length for name in "ABC"]
-        root = read(Shop.from_jobs(ROWS, job_names=names).report([2, 1, 3]))
+        shop = Shop.from_jobs(ROWS, job_names=names)
+        root = read(shop.report([2, 1, 3]))
         (drawing,) = root.all("svg")
-        wanted = [label if label.isdigit() else label * length for label in labels]
+        wanted = [label if label[0] == "#" else label * length for label in labels.split()]
         equal(f"bars of names of {length} characters", [bar[2] for bar in bars_of(drawing) if bar[2]], wanted)
-        equal("what is said of them", line_of(root, "A number"), says if labels[0] == "1" else None)
+        equal("what is said of them", line_of(root, "In a bar"), says if "#" in labels else None)
+        equal("the same in a picture alone", re.findall(r"<text [^>]*>(#\d|[ABC]+)<", shop.gantt([2, 1, 3])), wanted)
 
 
 def bars_of(drawing):
@@ -521,11 +506,10 @@ def keep_reports():
     frame = Reader(report._repr_html_())
     shown = [(each.attributes["title"], each.attributes["srcdoc"]) for each in frame.root.all("iframe")]
     equal("one for a notebook", (frame.faults, shown), ([], [("Öl", report)]))
-    with tempfile.TemporaryDirectory() as folder:
-        path = os.path.join(folder, "report.html")
-        report.save(path)
-        equal("one that is saved", pathlib.Path(path).read_text(encoding="utf-8"), report)
-        equal("one that is not", refused(lambda: report.save(folder)), IsADirectoryError)
+    with new_folder() as folder:
+        report.save(folder / "report.html")
+        equal("one that is saved", (folder / "report.html").read_text(encoding="utf-8"), report)
+        equal("one that is not", refused(report.save, folder), IsADirectoryError)
 
 
 def name_files():
@@ -538,50 +522,38 @@ def name_files():
         ("report", SHOP.report([2, 1, 3]), "HTML: give it the suffix .html", "pdf png jpg jpeg svg docx xlsx",
          ["a.html", "a.htm", "a.gif", "c.pdf/a"]),
     ]:
-        with tempfile.TemporaryDirectory() as folder:
-            os.mkdir(os.path.join(folder, "c.pdf"))
+        with new_folder() as folder:
+            (folder / "c.pdf").mkdir()
             for suffix in suffixes.split():
                 for name in (f"a.{suffix}", f"a b.{suffix.upper()}", f"a.svg.html.{suffix.title()}"):
                     sentence = f"the file is {name!r}, and a {kind} is written as {written}"
-                    for path in (os.path.join(folder, name), pathlib.Path(folder, name)):
-                        got = refused(lambda page=page, path=path: page.save(path))
-                        equal(f"a {kind} as {name}", got, ("OptionError", "PATH", 0, sentence))
+                    for path in (str(folder / name), folder / name):
+                        equal(f"a {kind} as {name}", refused(page.save, path), ("OptionError", "PATH", 0, sentence))
             equal(f"that no {kind} is written", os.listdir(folder), ["c.pdf"])
             for name in taken + names:
-                path = pathlib.Path(folder, name)
-                equal(f"a {kind} as {name}", refused(lambda page=page, path=path: page.save(path)), None)
-                equal(f"that {name} is written", path.exists() and path.read_text(encoding="utf-8"), page)
+                equal(f"a {kind} as {name}", refused(page.save, folder / name), None)
+                got = (folder / name).exists() and (folder / name).read_text(encoding="utf-8")
+                equal(f"that {name} is written", got, page)
 
 
 def run(*words, out=subprocess.PIPE):
     """Runs the command, and gives its status, and what it wrote; nothing of what it wrote to an `out` of its own."""
-    done = subprocess.run([sys.executable, "-m", "flowshop", "report", *words], stdout=out, stderr=subprocess.PIPE)
-    return done.returncode, (done.stdout or b"").decode(), done.stderr.decode()
+    streams = {"stdout": out, "stderr": subprocess.PIPE, "capture_output": False, "encoding": "utf-8"}
+    done = command("report", *words, **streams)
+    return done.returncode, done.stdout or "", done.stderr
 
 
 # What files the command is called with, beside shop.txt, one.txt with a shop of one job, and two.txt with both.
 FILES = {
-    "least": LEAST,
-    "bounds": BOUNDS,
-    "best": "sequence 3 1 2\nmakespan 12\n",
-    "spaced": "\r\n sequence 03\t1 2 \r\n\n",
-    "worse": "\nsequence 3 1 2\nmakespan 11\n",
-    "many": "sequence 1 2 3\n\nmakespan 15\nsequence 1\n",
-    "more": "sequence 3 1 2\nmakespan 12\nmakespan 11\n",
-    "wrong": "sequence 1 x 3\n",
-    "short": "sequence 1 2\nmakespan 2\n",
-    "other": "sequence 1 2 3\n12\n",
-    "table.csv": "Job;Cut\nA;1\n",
+    "least": LEAST, "bounds": BOUNDS, "best": "sequence 3 1 2\nmakespan 12\n", "spaced": "\r\n sequence 03\t1 2 \r\n\n",
+    "worse": "\nsequence 3 1 2\nmakespan 11\n", "many": "sequence 1 2 3\n\nmakespan 15\nsequence 1\n",
+    "more": "sequence 3 1 2\nmakespan 12\nmakespan 11\n", "wrong": "sequence 1 x 3\n",
+    "short": "sequence 1 2\nmakespan 2\n", "other": "sequence 1 2 3\n12\n", "table.csv": "Job;Cut\nA;1\n",
     "pairs": "1 2\n0 5 1 7\n",
     "plant": "jobs of plant A\n2 1 0 0 0\nmachines, times in 1/4, decimal comma, separator tab\tCut\n43 43\n",
-    "both": "sequence 1 2\nmakespan 86\n",
-    "numbers": "\n 3 1\t2 \n",
-    "many_numbers": f"{' '.join(map(str, range(1, 100)))}\n",
-    "commas": "3, 1, 2\n",
-    "colon": "sequence: 3 1 2\n",
-    "blank": " \n\n",
-    "empty": "",
-    "old": " flowshop two-ended 1\n",
+    "both": "sequence 1 2\nmakespan 86\n", "numbers": "\n 3 1\t2 \n",
+    "many_numbers": f"{' '.join(map(str, range(1, 100)))}\n", "commas": "3, 1, 2\n", "colon": "sequence: 3 1 2\n",
+    "blank": " \n\n", "empty": "", "old": " flowshop two-ended 1\n",
 }
 
 
@@ -595,8 +567,7 @@ def write_by_the_command():
         (["shop.txt", "1", "least"], SHOP.report(least, **title)),
         (["shop.txt", "bounds"], SHOP.report(SHOP.check(BOUNDS), **title)),
         (["shop.txt", "1", "best"], SHOP.report([3, 1, 2], **title)),
-        (["shop.txt", "spaced", "--title", STRANGE], SHOP.report([3, 1, 2], title=STRANGE)),
-        (["plant", "both"], plant),
+        (["shop.txt", "spaced", "--title", STRANGE], SHOP.report([3, 1, 2], title=STRANGE)), (["plant", "both"], plant),
         (["shop.txt"], SHOP.report(SHOP.certify(width=1, work=1), **title)),
         (["two.txt", "1", "least"], SHOP.report(least, title="Schedule of two.txt")),
         (["two.txt", "2"], one.report(one.certify(work=1), title="Schedule of two.txt, block 2")),
@@ -614,8 +585,8 @@ def refuse_by_the_command():
     head = "the head of a block is five numbers: jobs, machines, seed, upper bound and lower bound"
     orders, give = "that of a certificate, such as 'flowshop two-ended 1', or the line", "give the report another name"
     html = "and a report is written as HTML: give it the suffix .html"
-    converters = "examples/from_csv.awk makes such a file of a table, and examples/from_pairs.awk of pairs of machine "
-    converters += "and time"
+    converters = "python3 -m flowshop shop makes such a file of a table, and examples/from_pairs.awk in the clone one "
+    converters += "of pairs of machine and time; in Python read_table takes the table itself"
     os.symlink("shop.txt", "linked")
     shop = pathlib.Path("shop.txt").read_text(encoding="utf-8")
     for words, status, said in [
@@ -625,8 +596,7 @@ def refuse_by_the_command():
         ("table.csv", 1, f"line 2 of table.csv is 'A;1': {head}; {converters}"),
         ("pairs", 1, f"line 1 of pairs is '1 2': a line of words is wanted before the head of a block, and before its "
          f"times; {converters}"),
-        ("two.txt", 2, blocks),
-        ("two.txt least", 2, blocks),
+        ("two.txt", 2, blocks), ("two.txt least", 2, blocks),
         ("two.txt 3", 2, "INDEX is '3', and two.txt has 2 blocks"),
         ("shop.txt 0", 2, "INDEX is '0', and shop.txt has 1 block"),
         ("shop.txt least 1", 2, "INDEX is 'least', and shop.txt has 1 block"),
@@ -676,8 +646,7 @@ def refuse_by_the_command():
 
 def call_the_command():
     """The command `report`, in a folder with some files."""
-    with tempfile.TemporaryDirectory() as folder:
-        os.chdir(folder)
+    with new_folder(is_here=True):
         for name, text in FILES.items():
             pathlib.Path(name).write_text(text, encoding="utf-8")
         SHOP.write("shop.txt")
@@ -685,96 +654,47 @@ def call_the_command():
         pathlib.Path("two.txt").write_text("".join(pathlib.Path(name).read_text() for name in ("shop.txt", "one.txt")))
         write_by_the_command()
         refuse_by_the_command()
-        os.chdir(TOP)
 
 
-class Planned:
-    """A table of a planner: whole times, by what they are divided in the table, how a time and a line are written
-    there, and the names."""
-
-    def __init__(self, rows, scale, form, sign, job_names, machine_names):
-        self.rows, self.scale, self.sign = rows, scale, sign
-        self.job_names, self.machine_names = job_names, machine_names
-        self.form = form
-        self.separator = ";" if sign == "," else ","
-
-    def line(self, name, times):
-        """A line of the table."""
-        fields = [self.form.format(decimal.Decimal(number) / self.scale).replace(".", self.sign) for number in times]
-        return self.separator.join([f'"{name}"' if self.separator in name else name, *fields])
-
-    def text(self, corner, *more):
-        """The table, with more lines behind it."""
-        heads = self.separator.join([corner, *self.machine_names])
-        return "\n".join([heads, *map(self.line, self.job_names, self.rows), *more, ""])
-
-
-def three_commands(what, planned, table, words=(), clock=False):
-    """Writes a table, and calls from_csv.awk with these words, certify and report. What has to stand in the report is
-    computed from the whole times."""
-    pathlib.Path("table.csv").write_text(table, encoding="utf-8")
-    convert = ["awk", "-f", os.path.join(TOP, "examples", "from_csv.awk"), *words, "table.csv"]
-    certify = [PROGRAM, "certify", "shop.txt", "1", "--work", "10", "--directions", "10000"]
-    for command, file in ((convert, "shop.txt"), (certify, "certificate")):
+def three_commands(clock):
+    """A table with semicolons, decimal commas and a line of totals becomes a report by shop, certify and
+    report. What has to stand in it is computed from the whole times."""
+    draw = random.Random(11)
+    rows = [[draw.randint(0, 999) for _ in range(12)] for _ in range(120)]
+    jobs, machines = [f"Schränkchen {job}" for job in range(1, 121)], [f"Säge {machine}" for machine in range(1, 13)]
+    sums = ["Summe", *map(sum, zip(*rows))]
+    lines = [["Auftrag", *machines], *([name, *times] for name, times in zip(jobs, rows)), sums]
+    shown = [[cell if isinstance(cell, str) else f"{cell // 10},{cell % 10}" for cell in line] for line in lines]
+    pathlib.Path("table.csv").write_text("".join(";".join(line) + "\n" for line in shown), encoding="utf-8")
+    for file, words in [("shop.txt", [*FLOWSHOP, "shop", "table.csv", "--totals", "drop"]),
+                        ("text", [PROGRAM, *"certify shop.txt 1 --work 10 --directions 10000".split()])]:
         with open(file, "wb") as out:
-            subprocess.run(command, stdout=out, stderr=subprocess.PIPE, check=True)
+            subprocess.run(words, stdout=out, stderr=subprocess.PIPE, check=True)
     options = ["--start", "06:00", "--unit", "1min"] if clock else []
-    equal(f"{what}: report", run("shop.txt", "1", "certificate", "--out", "report.html", *options), (0, "", ""))
-    report = pathlib.Path("report.html").read_text(encoding="utf-8")
-    lines = pathlib.Path("certificate").read_text(encoding="ascii").split("\n")
-    (lower, upper), sequence = map(int, lines[2].split()), [int(job) for job in lines[3].split()]
-    scale, rows = planned.scale, planned.rows
-    shown = by_clock("06:00", 60 / scale, scale > 1) if clock else in_unit(scale, planned.sign)
-    root = compare(what, report, rows, sequence, shown, (planned.job_names, planned.machine_names))
-    at, how = shown[0], "finish at" if clock else "take"
-    proved = f"No order can finish before {at(lower)}; this one finishes at {at(upper)}."
-    if lower == upper:
-        proved = f"No order finishes earlier than {at(upper)}: this one is optimal."
-    listed = spans_of(of_rows(rows), range(1, len(rows) + 1))[-1][-1][1]
-    equal(f"{what}: what is proved", line_of(root, "No order"), proved)
+    equal("a table as a report", run("shop.txt", "1", "text", "--out", "report.html", *options), (0, "", ""))
+    bounds, sequence = (list(map(int, line.split())) for line in pathlib.Path("text").read_text().split("\n")[2:4])
+    shown = by_clock("06:00", 6, True) if clock else in_unit(10, ",")
+    page = pathlib.Path("report.html").read_text(encoding="utf-8")
+    root = compare("a table as a report", page, rows, sequence, shown, (jobs, machines))
+    (lower, upper), listed = map(shown[0], bounds), shown[0](makespan(of_rows(rows), range(1, 121)))
+    proved = f"No order can finish before {lower}; this one finishes at {upper}."
+    proved = f"No order finishes earlier than {upper}: this one is optimal." if lower == upper else proved
     beside = next(each.text() for each in root.all("p") if "the table it would" in each.text())
-    wanted = f"In the order of the table it would {how} {at(listed)}."
-    equal(f"{what}: the order of the table", beside[-len(wanted) :], wanted)
+    wanted = f"In the order of the table it would {'finish at' if clock else 'take'} {listed}."
+    equal("what is proved of it", (line_of(root, "No order"), beside[-len(wanted) :]), (proved, wanted))
 
 
 def plan_tables():
-    """Three tables become reports: 8 x 4 with names; 60 x 6 with decimals; and 120 x 12 with semicolons, decimal commas
-    and a line of totals, about which from_csv.awk asks, in a sentence that says what to do."""
-    if not os.path.exists(PROGRAM) or not shutil.which("awk"):
-        print("no program or no awk: tables that become reports were passed over")
-        return
-    draw = random.Random(11)
-    orders = ["Bed", "Door", "Shelf, large", "Table", "Desk", "Bench", "Chair & stool", "Rack"]
-    rows = [[draw.choice([0, draw.randint(1, 90)]) for _ in range(4)] for _ in range(8)]
-    eight = Planned(rows, 1, "{:.0f}", ".", orders, ["Saw", "Mill", "Drill", "Paint"])
-    rows = [[draw.randint(0, 399) for _ in range(6)] for _ in range(60)]
-    jobs, machines = [f"Job {job}" for job in range(1, 61)], [f"M{machine}" for machine in range(1, 7)]
-    sixty = Planned(rows, 4, "{:.2f}", ".", jobs, machines)
-    rows = [[draw.randint(0, 999) for _ in range(12)] for _ in range(120)]
-    jobs, machines = [f"Schränkchen {job}" for job in range(1, 121)], [f"Säge {machine}" for machine in range(1, 13)]
-    many = Planned(rows, 10, "{:.1f}", ",", jobs, machines)
-    table = many.text("Auftrag", many.line("Summe", [sum(column) for column in zip(*rows)]))
-    with tempfile.TemporaryDirectory() as folder:
-        os.chdir(folder)
-        three_commands("8 x 4", eight, eight.text("Order"), clock=True)
-        three_commands("60 x 6", sixty, sixty.text("Job"))
-        pathlib.Path("table.csv").write_text(table, encoding="utf-8")
-        convert = ["awk", "-f", os.path.join(TOP, "examples", "from_csv.awk"), "table.csv"]
-        done = subprocess.run(convert, capture_output=True, check=False)
-        doubt = "table.csv: line 122 (Summe) looks like totals: write totals=drop or totals=keep before the name of"
-        equal("what is asked about totals", (done.returncode, done.stderr.decode()), (1, f"{doubt} the table\n"))
-        three_commands("120 x 12", many, table, ["totals=drop"])
-        three_commands("120 x 12 by the clock", many, table, ["totals=drop"], clock=True)
-        os.chdir(TOP)
+    """A table becomes a report in three commands, in the unit of the table and by the clock."""
+    if not os.path.exists(PROGRAM):
+        return print("no program: tables that become reports were passed over")
+    for clock in (False, True):
+        with new_folder(is_here=True):
+            three_commands(clock)
 
 
-def main():
-    """Runs all, and ends."""
+if __name__ == "__main__":
     for part in (say_what_is_proved, show_times, show_names, draw_pictures, label_bars, cut_for_paper,
                  compare_drawn_shops, write_the_greatest, keep_reports, name_files, call_the_command, plan_tables):
         part()
     end("reports")
-
-
-if __name__ == "__main__":
-    main()

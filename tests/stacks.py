@@ -4,15 +4,13 @@ thread. With the word `library` they are those of the library, in threads with t
 states."""
 
 import array
-import os
 import re
 import sys
-import tempfile
 import threading
 
-from flowshop import OverBudget, Shop, _library, _parts, _spread
+from counts import TOP, new_folder, refused
+from flowshop import Shop, _library, _parts, _spread
 
-TOP = os.path.dirname(os.path.dirname(os.path.abspath(__file__)))
 FEW = {"width": 2, "rounds": 1, "work": 1}
 SHOP = Shop.generate(800, 26, 5)
 START = SHOP.neh()
@@ -36,14 +34,10 @@ def call_package():
     found = SHOP.certify(START, **FEW, directions=20_000, workers=2)
     print(found, SHOP.check(found), SHOP.bound(), SHOP.makespan(found), SHOP.schedule(found), repr(SHOP.gantt(found)))
     print(SHOP.improve(START, **FEW), SHOP.neh(), repr(SHOP.report(found, title="greatest")))
-    try:
-        SHOP.solve(START, budget=1_000)
-    except OverBudget as error:
-        print(error)
-    with tempfile.TemporaryDirectory() as folder:
-        path = os.path.join(folder, "shop")
-        SHOP.write(path)
-        print(Shop.read(path)[0].shop == Shop.from_machines(SHOP.times) == Shop.generate(800, 26, 5))
+    print(refused(SHOP.solve, START, budget=1_000))
+    with new_folder() as folder:
+        SHOP.write(folder / "shop")
+        print(Shop.read(folder / "shop")[0].shop == Shop.from_machines(SHOP.times) == Shop.generate(800, 26, 5))
 
 
 def search():
@@ -80,17 +74,11 @@ def with_stack(size, call):
     print(threading.stack_size() == size)
 
 
-def main():
-    """Makes the calls of a word."""
+if __name__ == "__main__":
     if sys.argv[1] == "caller":
         with_stack(1 << 15, call_package)
         search_by_package()
     else:
-        with open(os.path.join(TOP, "library", "flowshop.h"), encoding="ascii") as header:
-            stack = int(re.search(r"FLOWSHOP_STACK = (\d+)", header.read())[1])
+        stack = int(re.search(r"FLOWSHOP_STACK = (\d+)", (TOP / "library" / "flowshop.h").read_text())[1])
         with_stack(stack, search)
         with_stack(stack, call_library)
-
-
-if __name__ == "__main__":
-    main()

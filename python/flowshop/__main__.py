@@ -8,14 +8,15 @@ import sys
 import time
 from typing import Any, List, NoReturn, Optional
 
-from . import __version__, _command_certify, _command_check, _report
+from . import __version__, _command_certify, _command_check, _command_gap, _command_plan, _command_shop, _report
 from ._errors import FlowshopError, OptionError, readable
 from ._files import WordError
+from ._remarks import NotATable
 from ._saving import end_writing
 from ._streams import Printed, let_go, open_closed
 from ._waiting import PATIENCE, Lines, Running
 
-_COMMANDS = (_command_certify, _command_check, _report)
+_COMMANDS = (_command_certify, _command_check, _command_gap, _report, _command_shop, _command_plan)
 # What main gives at an interrupt: the status that a shell has then.
 _INTERRUPTED = 130
 
@@ -65,6 +66,9 @@ def main(words: Optional[List[str]] = None) -> int:
     except (WordError, OptionError) as error:
         _say(f"flowshop: {error}")
         return 2
+    except NotATable as error:
+        _say(*f"flowshop: {error}".split("\n"))
+        return 1
     except FlowshopError as error:
         _say(f"flowshop: {error}")
         return 1
@@ -117,6 +121,11 @@ def end(status: int) -> None:
     os._exit(status)  # also where the signal is masked
 
 
-if __name__ == "__main__":
+def run() -> None:
+    """Runs a command as a process of its own."""
     open_closed()
     end(main())
+
+
+if __name__ == "__main__":
+    run()

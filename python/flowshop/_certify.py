@@ -134,7 +134,7 @@ class Run:
                     self._prove_more()
             self._early = None
 
-        watch.run(steps, self._progress)
+        watch.run(workers.measured(steps), self._progress)
 
     def found(self) -> Known:
         """What is given where the run is stopped now, or is over: what is known, or was found early where it goes on

@@ -5,12 +5,12 @@ from dataclasses import dataclass
 from fractions import Fraction
 from typing import Optional, Union
 
+from ._calendar import Dated
 from ._errors import OptionError, shown
+from ._headings import seconds_of, spaced
 from ._labels import Unit
 
 _START = re.compile(r"([01]?\d|2[0-3]):([0-5]\d)", re.ASCII)
-_UNIT = re.compile(r"(\d{1,9}(?:[.,]\d{1,9})?) ?(s|min|h)", re.ASCII)
-_SECONDS = {"s": 1, "min": 60, "h": 3600}
 _DAY = 86_400
 
 
@@ -20,8 +20,12 @@ class Plain:
 
     unit: Unit
 
+    def begin_at(self, time: int) -> str:
+        """When something begins."""
+        return self.unit.shown(time)
+
     def at(self, time: int) -> str:
-        """When something is."""
+        """When something ends."""
         return self.unit.shown(time)
 
     def lasting(self, time: int) -> str:
@@ -61,8 +65,12 @@ class Clock:
         text = f"{seconds // 3600:{form}}:{seconds // 60 % 60:02}"
         return f"{text}:{seconds % 60:02}" if self.has_seconds else text
 
+    def begin_at(self, time: int) -> str:
+        """When something begins: as when something ends, since the clock runs on."""
+        return self.at(time)
+
     def at(self, time: int) -> str:
-        """When something is: the time of day, with the day after the first one."""
+        """When something ends: the time of day, with the day after the first one."""
         days, seconds = divmod(self.start + self._seconds(time), _DAY)
         text = self._written(seconds, "02")
         return f"day {days + 1}, {text}" if days else text
@@ -85,12 +93,7 @@ class Clock:
         return "hours:minutes:seconds" if self.has_seconds else "hours:minutes"
 
 
-Times = Union[Plain, Clock]
-
-
-def _match(form: "re.Pattern[str]", given: object) -> Optional["re.Match[str]"]:
-    """The match of a text; None where it has another form, or is no text."""
-    return form.fullmatch(given) if isinstance(given, str) else None
+Times = Union[Plain, Clock, Dated]
 
 
 def times_of(unit: Unit, start: Optional[str], length: Optional[str]) -> Times:
@@ -102,13 +105,13 @@ def times_of(unit: Unit, start: Optional[str], length: Optional[str]) -> Times:
         raise OptionError("UNIT", 0, "start needs unit: how long one unit of the table is, as 15min")
     if start is None:
         raise OptionError("START", 0, "unit needs start: the time of day when the first job starts, as 07:30")
-    begun, found = _match(_START, start), _match(_UNIT, length)
+    begun = _START.fullmatch(start) if isinstance(start, str) else None
     if not begun:
         raise OptionError("START", 0, f"start is {shown(start)}, and has to be a time of day, as 07:30")
-    seconds = Fraction(found[1].replace(",", ".")) * _SECONDS[found[2]] if found else Fraction(0)
-    if not found or not seconds:
+    seconds = seconds_of(length) if isinstance(length, str) else Fraction(0)
+    if not seconds:
         sentence = f"unit is {shown(length)}, and has to be how long one unit of the table is, as 15min, 1h or 30s"
         raise OptionError("UNIT", 0, sentence)
     step = seconds / unit.scale
     since_midnight = int(begun[1]) * 3600 + int(begun[2]) * 60
-    return Clock(since_midnight, step, f"{found[1]} {found[2]}", step % 60 != 0, step % 1 != 0)
+    return Clock(since_midnight, step, spaced(length), step % 60 != 0, step % 1 != 0)

@@ -10,16 +10,20 @@ import threading
 import time
 from concurrent.futures import BrokenExecutor, ProcessPoolExecutor
 from contextlib import closing, contextmanager
+from pathlib import Path
 from typing import Any, Dict, Iterator, List, NamedTuple, Optional, Tuple
 
 from ._certify import Effort
 from ._errors import NotLawful, OptionError
 from ._files import (
-    Row, Table, WordError, Work, make_folder, place_of_old, row_of, save_certificate, words_of_blocks, works_of
+    PROVED, WordError, Work, make_folder, place_of_old, row_of, save_certificate, words_of_blocks, works_of
 )
+from ._meter import Meter
 from ._options import LIMITS, OF_PARTS, option
+from ._rows import Row, Table
 from ._saving import target_of
 from ._spread import Workers
+from ._starts import sequences_of
 from ._threads import Threads
 from ._waiting import Lines, Running, Watch
 
@@ -29,9 +33,10 @@ _SIGNAL_AT_END_OF_PARENT = 1
 # How many seconds a table may take at an interrupt.
 _PATIENCE = 2.0
 _ABOUT = """Certifies all blocks of files. Each certificate is written to a file of the folder --out, and a line says
-what it proves, with seconds that are by the clock, while several blocks share the workers. A block whose certificate is
-there and lawful is not searched again, also where its bounds differ, so that a run that was stopped goes on with the
-blocks that are left."""
+what it proves: the gap is (upper - lower) / upper, in percent; cpu_seconds are those of the processor, of all workers,
+and seconds are by the clock, while several blocks share the workers. A block whose certificate is there and lawful is
+not searched again, also where its bounds differ, so that a run that was stopped goes on with the blocks that are
+left."""
 
 
 def words(parsers: "argparse._SubParsersAction[argparse.ArgumentParser]") -> None:
@@ -39,12 +44,19 @@ def words(parsers: "argparse._SubParsersAction[argparse.ArgumentParser]") -> Non
     parser = parsers.add_parser("certify", help="certify shops", description=_ABOUT)
     words_of_blocks(parser)
     count = len(os.sched_getaffinity(0))
-    parser.add_argument("--workers", type=int, metavar="K", help=f"how many share the searches; else {count}")
+    about = f"how many share the searches; else, and for -1, {count}"
+    parser.add_argument("--workers", type=int, metavar="K", help=about)
     executors = "threads|processes|mpi|dask:ADDRESS"
     parser.add_argument("--executor", default="threads", metavar=executors, help="who they are; else threads")
-    limit = "the most seconds of each block, with --work 100 --directions 1000000 beside it if these are few; "
-    limit += "else no limit"
+    limit = "the most seconds of each block; else no limit"
     parser.add_argument("--time-limit", type=float, metavar="S", help=limit)
+    start = "begin with the sequence in a file: of a certificate, of what the program prints, or of numbers alone, as "
+    start += "3 1 2; for one block"
+    begun = parser.add_mutually_exclusive_group()
+    begun.add_argument("--start", metavar="FILE", help=start)
+    starts = "the same for all blocks: a folder that has such a file for each, of the name of its certificate; or one "
+    starts += "file with a line of jobs for each"
+    begun.add_argument("--starts", metavar="FOLDER|FILE", help=starts)
     for name, default in _EFFORT.items():
         about = f"as of Shop.certify; else {default}"
         parser.add_argument(f"--{name}", type=int, default=default, metavar="N", help=about)
@@ -52,9 +64,11 @@ def words(parsers: "argparse._SubParsersAction[argparse.ArgumentParser]") -> Non
 
 
 class _Search(NamedTuple):
-    """How blocks are searched: by whom, with which numbers, and the lines that say how far it has come."""
+    """How blocks are searched: by whom, from which starts, by the path of the certificate, with which numbers, and the
+    lines that say how far it has come."""
 
     workers: Workers
+    starts: Dict[Path, bytes]
     effort: Effort
     directions: int
     time_limit: Optional[float]
@@ -107,17 +121,19 @@ def _certified(work: Work, search: _Search) -> Row:
         kept = work.shop.check(work.path)
         if not kept.optimal:
             search.lines.keep(f"{work.path}: its bounds differ; remove this file, and the block is searched anew")
-        return row_of(work, kept, None)
+        return row_of(work, kept)
     except FileNotFoundError:
         pass
     except NotLawful as error:
         again = f"the block is searched again, and this text is kept as {place_of_old(work.path).name}"
         search.lines.keep(f"{work.path}: {error}; {again}")
-    begun = time.monotonic()
+    begun, meter = time.monotonic(), Meter()
     watch = Watch(search.time_limit, lambda progress: search.lines(f"{work.file} {work.block}: {progress}"))
-    found = work.shop._certify(None, search.effort, search.directions, search.workers, watch)
+    start, workers = search.starts.get(work.path), search.workers._replace(meter=meter)
+    found = work.shop._certify(start, search.effort, search.directions, workers, watch)
+    times = meter.seconds(), time.monotonic() - begun
     save_certificate(work.path, found.text)
-    return row_of(work, found, time.monotonic() - begun)
+    return row_of(work, found, times)
 
 
 @contextmanager
@@ -184,7 +200,7 @@ def _all_certified(works: List[Work], table: Table, search: _Search) -> None:
         for place, _ in enumerate(threads.map(certify, range(len(works)))):
             with search.lines.taken_back():
                 table.add(done[place])
-        table.write()
+        table.end()
     except KeyboardInterrupt:
         table.rows = [done[place] for place in sorted(done)]
         _stop(table, len(works), search.lines)
@@ -201,22 +217,36 @@ def _number(name: str, value: int, limits: Dict[str, Tuple[int, int]] = LIMITS) 
         raise WordError(f"--{error}") from None
 
 
+def _starts(works: List[Work], start: Optional[str], starts: Optional[str]) -> Dict[Path, bytes]:
+    """The sequences from which searches begin, by the paths of certificates. WordError where there is not one for each
+    block, and where one start is given for several."""
+    if starts is not None:
+        return {work.path: sequence for work, sequence in sequences_of(works, starts, "--starts", may_be_many=False)}
+    if start is None:
+        return {}
+    if len(works) != 1:
+        raise WordError(f"--start is for one block, and there are {len(works)}; --starts is for several")
+    return {works[0].path: works[0].shop._packed(Path(start), None)}
+
+
 def run(options: argparse.Namespace) -> int:
     """Runs the command."""
     *numbers, directions = (_number(name, getattr(options, name)) for name in _EFFORT)
-    count = None if options.workers is None else _number("workers", options.workers, OF_PARTS)
+    effort = Effort(*numbers)
+    count = None if options.workers in (None, -1) else _number("workers", options.workers, OF_PARTS)
     limit = options.time_limit
     if limit is not None and not limit >= 0:
         raise WordError(f"--time-limit is {limit:g}, and has to be a number of seconds from 0 on")
     works = works_of(options)
+    starts = _starts(works, options.start, options.starts)
     if not all(work.path.is_file() for work in works):
         make_folder(options.out)
     for work in works:
         target_of(str(work.path))  # OSError where a link of another user stands there
     try:
         with _one_interrupt(), _workers(options.executor, count) as workers, closing(Lines(sys.stderr)) as lines:
-            table = Table(works, options, sys.stdout)
-            _all_certified(works, table, _Search(workers, Effort(*numbers), directions, limit, lines))
+            table = Table(PROVED, options.files, options, sys.stdout)
+            _all_certified(works, table, _Search(workers, starts, effort, directions, limit, lines))
     except BrokenExecutor as error:
         Lines(sys.stderr).keep(f"flowshop: a worker has ended: {error}")
         return 1

@@ -6,8 +6,9 @@ import sys
 from typing import Optional
 
 from ._errors import FlowshopError
-from ._files import Table, WordError, Work, row_of, words_of_blocks, works_of
+from ._files import PROVED, WordError, Work, row_of, words_of_blocks, works_of
 from ._results import Certificate
+from ._rows import Table, tables_of
 from ._waiting import Lines
 
 
@@ -49,12 +50,12 @@ def run(options: argparse.Namespace) -> int:
     works = works_of(options)
     if not os.path.isdir(options.out):
         raise WordError(f"--out is {options.out}, and there is no such folder")
-    table, lines = Table(works, options, sys.stdout), Lines(sys.stderr)
+    table, lines = Table(PROVED, options.files, options, sys.stdout), Lines(sys.stderr)
     status = 0
     for work in works:
         try:
             found = _found(work, options.optimal)
-            table.add(row_of(work, found, None))
+            table.add(row_of(work, found))
             worth = _worth(work, found)
             if worth:
                 lines.keep(f"{work.path}: {worth}")
@@ -65,7 +66,8 @@ def run(options: argparse.Namespace) -> int:
             lines.keep(f"{work.path}: {error}")
             status = 1
     if status == 0:
-        table.write()
-    elif options.csv or options.json:
-        lines.keep(f"{options.csv or options.json}: it is not written, since a row would be missing")
+        table.end()
+        return 0
+    for _, path in tables_of(options):
+        lines.keep(f"{path}: it is not written, since a row would be missing")
     return status

@@ -3,13 +3,15 @@
 import re
 from typing import Any, Tuple, Union
 
+from ._brief import Brief
+
 # Where a fault is: one number, or a row and a column, or the number of a sequence and a place in it. All from 1.
 Place = Union[int, Tuple[int, int]]
 # What a name may have that steers a terminal, breaks a line, turns the direction of writing, or stands in no page.
 _CONTROLS = re.compile(r"[\x00-\x1f\x7f-\x9f\u2028-\u202e\u2066-\u2069\ud800-\udfff\ufffe\uffff]")
 
 
-class FlowshopError(ValueError):
+class FlowshopError(ValueError, metaclass=Brief):
     """What was refused, and why: the base of all errors of this package.
 
     `str` of it is a sentence with the value at fault and its limit. `name` is that of a status of library/flowshop.h,
@@ -37,11 +39,12 @@ class FlowshopError(ValueError):
 
 
 class NotAShop(FlowshopError):
-    """A table that is no shop: JOBS, MACHINES, COUNT or TIME."""
+    """A table that is no shop: JOBS, MACHINES, COUNT or TIME; or a name that is none: NAME."""
 
 
 class NotASequence(FlowshopError):
-    """A list that is no sequence of the shop: LENGTH, JOB or TWICE."""
+    """A list that is no sequence of the shop: LENGTH, JOB, TWICE, or NAME where it has names; or BY, where it can be
+    read in two ways."""
 
 
 class NotLawful(FlowshopError):
@@ -57,16 +60,16 @@ class TextError(FlowshopError):
 
 class OptionError(FlowshopError):
     """A number that a call does not take: JOBS, MACHINES, SEED, DEPTH, BUDGET, VERSION, WIDTH, ROUNDS, WORK,
-    DIRECTIONS, UPPER, LOWER, BOUND, WORKERS or TIME_LIMIT; what is no function, as MAP or PROGRESS; PLAN_DEPTH or
-    PLAN_PREFIXES, where the shop has no lists of so many jobs, or too many; START or UNIT of a report, PATH where it or
-    a picture is saved, and to the command `report` INDEX."""
+    DIRECTIONS, UPPER, LOWER, BOUND, WORKERS, TIME_LIMIT or BY; what is no function, as MAP or PROGRESS; PLAN_DEPTH or
+    PLAN_PREFIXES, where the shop has no lists of so many jobs, or too many; SCALE of a table; START or UNIT of a
+    report, PATH where it or a picture is saved, and to the command `report` INDEX."""
 
 
 class OverBudget(FlowshopError):
     """A search whose tree is longer than the budget: OVER_BUDGET."""
 
 
-class Interrupted(KeyboardInterrupt):
+class Interrupted(KeyboardInterrupt, metaclass=Brief):
     """A KeyboardInterrupt of a search. `result` is the best so far: of `certify` a Certificate, of `improve` a Start.
 
     >>> try:

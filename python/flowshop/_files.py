@@ -1,23 +1,18 @@
-"""Blocks of files that a command is given, the texts of their certificates, and tables of what these prove."""
+"""Blocks of files that a command is given, the texts of their certificates, and the table of what these prove."""
 
 import argparse
-import csv
-import errno
 import hashlib
-import json
 import os
 import re
 import tempfile
-from dataclasses import asdict, dataclass, fields
 from functools import partial
 from pathlib import Path
-from typing import Any, Collection, Dict, List, NamedTuple, Optional, TextIO, Tuple
+from typing import Collection, Dict, List, NamedTuple, Optional, Sequence, Tuple
 
-from ._errors import readable
 from ._results import Certificate
+from ._rows import OTHER, Form, Row, columns, is_other, is_replaced, tables_of, words_of_tables
 from ._saving import names_folder, save, stream_of, target_of
-from ._shop import Shop
-from ._streams import Printed
+from ._shop import Block, Shop
 
 # How the names of certificates end, and of texts that these replaced.
 _OF_CERTIFICATE = re.compile(r"\.certificate(\.old(\.\d+)?)?$")
@@ -28,44 +23,54 @@ class WordError(Exception):
 
 
 class Work(NamedTuple):
-    """A block of a file, and the path of its certificate."""
+    """A block of a file, what its head says, and the path of its certificate."""
 
     file: str
     block: int
-    shop: Shop
+    head: Block
     path: Path
 
-
-@dataclass(frozen=True)
-class Row:
-    """What a certificate proves of a block; how many directions it has, in how many seconds by the clock it was found
-    where that was now, to three decimals, and the SHA-256 of its text."""
-
-    file: str
-    block: int
-    jobs: int
-    machines: int
-    lower: int
-    upper: int
-    directions: int
-    seconds: Optional[float]
-    sha256: str
+    @property
+    def shop(self) -> Shop:
+        """The shop of the block."""
+        return self.head.shop
 
 
-_NAMES = [field.name for field in fields(Row)]
-# How a table begins in a file, as CSV and as JSON.
-_BEGINNINGS = (f"{','.join(_NAMES)}\n".encode(), f'[\n {{\n  "{_NAMES[0]}": '.encode())
-_OTHER = "a file that is no table of this command and would be replaced"
-_WIDTHS = [len("directions") if name not in ("block", "jobs") else 5 for name in _NAMES[1:-1]]
+def _sums(rows: Sequence[Row]) -> Row:
+    """The last line of a table: how many blocks there are, how many of them are proved, and what adds up."""
+    added = {name: columns(rows, name) for name in ("directions", "cpu_seconds", "seconds")}
+    sums = {name: sum(known) if known else None for name, known in added.items()}
+    return {"file": "sum", "block": len(rows), "optimal": sum(columns(rows, "optimal")), **sums}
 
 
-def row_of(work: Work, found: Certificate, seconds: Optional[float]) -> Row:
-    """The row of a certificate."""
-    directions = len(found.text.split(b"\n", 5)[4])
-    digest = hashlib.sha256(found.text).hexdigest()
-    sizes = work.shop.jobs, work.shop.machines
-    rounded = None if seconds is None else round(seconds, 3)
-    return Row(work.file, work.block, *sizes, found.lower, found.upper, directions, rounded, digest)
+_PRINTED = "file block jobs machines lower upper gap optimal directions cpu_seconds seconds sha256"
+# The table of what certificates prove.
+PROVED = Form(
+    ("file", "block", "seed", "jobs", "machines", "lower", "upper", "gap", "optimal", "kind", "directions", "sequence",
+     "cpu_seconds", "seconds", "sha256"),
+    tuple(_PRINTED.split()), _sums,
+)
+
+
+def percent(part: int, whole: int) -> float:
+    """How much of a whole a part is, in percent."""
+    return 100.0 * part / whole if part else 0.0
+
+
+def row_of(work: Work, found: Certificate, times: Tuple[Optional[float], Optional[float]] = (None, None)) -> Row:
+    """What a certificate proves of a block: the gap is (upper - lower) / upper, in percent; `kind` is how the text
+    begins, and `directions` how many signs it has, where it is a two-ended one. The times are the seconds of the
+    processor and by the clock in which it was found, where that was now."""
+    kind = found.text.split(b"\n", 1)[0].decode().partition(" ")[2]
+    return {
+        "file": work.file, "block": work.block, "seed": work.head.seed,
+        "jobs": work.shop.jobs, "machines": work.shop.machines,
+        "lower": found.lower, "upper": found.upper, "gap": percent(found.upper - found.lower, found.upper),
+        "optimal": found.optimal, "kind": kind,
+        "directions": found._directions() if kind.startswith("two-ended") else None,
+        "sequence": list(found.sequence), "cpu_seconds": times[0], "seconds": times[1],
+        "sha256": hashlib.sha256(found.text).hexdigest(),
+    }
 
 
 def words_of_blocks(parser: argparse.ArgumentParser) -> None:
@@ -73,9 +78,7 @@ def words_of_blocks(parser: argparse.ArgumentParser) -> None:
     parser.add_argument("files", metavar="FILE", nargs="+", help="a benchmark text")
     parser.add_argument("--blocks", default="all", metavar="all|1,3-5", help="which blocks of each file; else all")
     parser.add_argument("--out", default=".", metavar="DIR", help="the folder of the certificates; else this one")
-    table = parser.add_mutually_exclusive_group()
-    table.add_argument("--csv", metavar="FILE", help="write the table to a file, as CSV")
-    table.add_argument("--json", metavar="FILE", help="write the table to a file, as JSON")
+    words_of_tables(parser)
 
 
 def _numbers(words: str, file: str, count: int) -> Collection[int]:
@@ -96,9 +99,9 @@ def _numbers(words: str, file: str, count: int) -> Collection[int]:
     return numbers
 
 
-def _tables(options: argparse.Namespace) -> List[Tuple[str, str]]:
-    """The words that name a file for the table, with that file."""
-    return [(word, table) for word, table in (("--csv", options.csv), ("--json", options.json)) if table is not None]
+def _words_of(options: argparse.Namespace) -> List[Tuple[str, str]]:
+    """The words that name a file for a table, with that file."""
+    return [(f"--{kind}", table) for kind, table in tables_of(options)]
 
 
 def _refuse_same_names(works: List[Work]) -> None:
@@ -113,17 +116,12 @@ def _refuse_same_names(works: List[Work]) -> None:
             raise WordError(f"{clash}; give each a run with a folder --out of its own")
 
 
-def _is_replaced(table: str) -> bool:
-    """Whether a table would be a file of its own, and not go to a device, a pipe or a stream that is open."""
-    return stream_of(table) is None and (os.path.isfile(table) or not os.path.exists(table))
-
-
 def _refuse_no_place(options: argparse.Namespace) -> None:
     """WordError where the file of the table could not be written at the end: it has no name, or is a folder, or stands
     in none, nor in one that is made for the certificates, or in one without leave. OSError where a link of another user
     leads there."""
     made = os.path.join(os.path.realpath(options.out), "")
-    for word, table in _tables(options):
+    for word, table in _words_of(options):
         folder = os.path.dirname(os.path.realpath(table))
         if not table:
             raise WordError(f"{word} is empty, and has to be the name of a file")
@@ -134,7 +132,7 @@ def _refuse_no_place(options: argparse.Namespace) -> None:
             raise WordError(f"{word} is {table}, and there is no folder {folder}")
         if stream_of(table) is None:
             target_of(table)
-        if _is_replaced(table):
+        if is_replaced(table):
             _refuse_no_leave(word, table, folder)
 
 
@@ -155,7 +153,7 @@ def _refuse_to_overwrite(works: List[Work], options: argparse.Namespace) -> None
             where = f"{work.path}, a file that is {'read' if path in read else 'open'}"
             sentence = f"the certificate of block {work.block} of {work.file} would be {where}"
             raise WordError(f"{sentence}; give --out another folder")
-    for word, table in _tables(options):
+    for word, table in _words_of(options):
         path = os.path.realpath(table)
         if table == "-":
             raise WordError(f"{word} is -, and has to be a file; the table is printed anyway")
@@ -164,20 +162,15 @@ def _refuse_to_overwrite(works: List[Work], options: argparse.Namespace) -> None
             raise WordError(f"{word} is {table}, {what}; the table has to have a file of its own")
 
 
-def _is_other(table: str) -> bool:
-    """Whether a file would be replaced that is neither a table of these commands nor empty."""
-    if not _is_replaced(table) or not os.path.exists(table):
-        return False
-    with open(table, "rb") as file:
-        begun = file.read(max(map(len, _BEGINNINGS)))
-    return begun != b"" and not begun.startswith(_BEGINNINGS)
-
-
-def _refuse_other(options: argparse.Namespace) -> None:
-    """WordError where the table would replace a file that is no such table."""
-    for word, table in _tables(options):
-        if _is_other(table):
-            raise WordError(f"{word} is {table}, {_OTHER}; name another file, or remove this one")
+def _refuse_other(options: argparse.Namespace, form: Form) -> None:
+    """WordError where a table would replace a file that is no such table, or another table of the same run."""
+    seen: Dict[str, str] = {}
+    for kind, table in tables_of(options):
+        if is_other(form, table):
+            raise WordError(f"--{kind} is {table}, {OTHER}; name another file, or remove this one")
+        other = seen.setdefault(os.path.realpath(table), kind)
+        if other != kind and is_replaced(table):
+            raise WordError(f"--{kind} and --{other} are one file, {table}; give each a file of its own")
 
 
 def _refuse_out(out: str) -> None:
@@ -188,9 +181,9 @@ def _refuse_out(out: str) -> None:
         raise WordError(f"--out is {out}, a folder that you may not enter; name another one")
 
 
-def works_of(options: argparse.Namespace) -> List[Work]:
+def works_of(options: argparse.Namespace, form: Form = PROVED) -> List[Work]:
     """The blocks that the words name, in their order. TextError or OSError where a file is not read, WordError where
-    one would be overwritten, or none could be written, or a word is none."""
+    one would be overwritten, or none could be written, or a word is none. Tables are of this form."""
     _refuse_out(options.out)
     works = []
     for file in options.files:
@@ -198,11 +191,11 @@ def works_of(options: argparse.Namespace) -> List[Work]:
             raise WordError(f"there is no file {file}; --blocks {file} is block {file} of the files")
         for number, block in Shop._picked(file, partial(_numbers, options.blocks, file)):
             path = Path(options.out, f"{Path(file).name}.{number}.certificate")
-            works.append(Work(file, number, block.shop, path))
+            works.append(Work(file, number, block, path))
     _refuse_same_names(works)
     _refuse_no_place(options)
     _refuse_to_overwrite(works, options)
-    _refuse_other(options)
+    _refuse_other(options, form)
     return works
 
 
@@ -241,48 +234,3 @@ def save_certificate(path: Path, text: bytes) -> None:
     if path.is_file() and (path.stat().st_size != len(text) or path.read_bytes() != text):
         _keep_old(path)
     save(path, text)
-
-
-class Table:
-    """Rows, which are printed as they come, and at the end are written to a file where the words name one. What is
-    printed is for a terminal: signs of a name that steer one are escaped, and the file has the name as it is."""
-
-    def __init__(self, works: List[Work], options: argparse.Namespace, stream: TextIO) -> None:
-        self._printed, self._csv, self._json = Printed(stream), options.csv, options.json
-        self._width = max(len("file"), *(len(readable(work.file)) for work in works)) if works else 4
-        self.rows: List[Row] = []
-        self._print(_NAMES)
-
-    def _print(self, cells: List[Any]) -> None:
-        """Prints a line of the table."""
-        numbers = " ".join(f"{cell:>{width}}" for cell, width in zip(cells[1:-1], _WIDTHS))
-        self._printed(f"{readable(cells[0]):<{self._width}} {numbers} {cells[-1]}\n")
-
-    def add(self, row: Row) -> None:
-        """Takes the next row."""
-        self.rows.append(row)
-        seconds = "-" if row.seconds is None else f"{row.seconds:.1f}"
-        self._print([seconds if name == "seconds" else getattr(row, name) for name in _NAMES])
-
-    def write(self) -> None:
-        """Writes the file. OSError where that fails, or where what was printed is lost."""
-        table = self._csv or self._json
-        if table and _is_other(table):
-            raise FileExistsError(errno.EEXIST, _OTHER, table)
-        rows = [asdict(row) for row in self.rows]
-        if self._json:
-            save(self._json, (json.dumps(rows, indent=1) + "\n").encode(), is_behind=True)
-        if self._csv:
-            lines: List[str] = []
-            writer = csv.DictWriter(_Lines(lines), _NAMES, lineterminator="\n")
-            writer.writeheader()
-            writer.writerows(rows)
-            save(self._csv, "".join(lines).encode("utf-8", "backslashreplace"), is_behind=True)
-        self._printed.test()
-
-
-class _Lines:
-    """A stream that keeps what is written."""
-
-    def __init__(self, lines: List[str]) -> None:
-        self.write = lines.append

@@ -3,6 +3,7 @@
 from dataclasses import dataclass
 from typing import Iterator, Tuple
 
+from ._brief import Brief
 from ._errors import counted
 from ._parts import FRONT, PackedPart
 from ._results import Start, listed
@@ -16,7 +17,7 @@ def numbers_of(jobs: bytes) -> Numbers:
 
 
 @dataclass(frozen=True, repr=False)
-class Proved:
+class Proved(metaclass=Brief):
     """A bound that is proved: no sequence has a smaller makespan. `directions` are those of line 5 of a two-ended
     certificate.
 
@@ -48,7 +49,7 @@ class Below(Start):
 
 
 @dataclass(frozen=True, repr=False)
-class Part:
+class Part(metaclass=Brief):
     """A part of a search: the node of the jobs `front` that begin the sequence and the jobs `back` that end it. Or some
     children of that node, where `end` is "front" or "back": those that put these `jobs`, one after the other, behind
     the front or before the back.
@@ -88,7 +89,7 @@ def part_of(packed: PackedPart) -> Part:
 
 
 @dataclass(frozen=True, repr=False)
-class Over:
+class Over(metaclass=Brief):
     """A search that is over its budget: its first directions, as many as the budget, and the parts that are left, in
     order. What a search of a part comes to does not depend on the others. So the directions of the parts, one after
     the other behind these, are those of the whole search, and a sequence below the bound is the first one that they

@@ -2,9 +2,9 @@
 
 import re
 from dataclasses import dataclass, field
-from typing import List, NamedTuple, Optional, Tuple
+from typing import Any, Dict, List, NamedTuple, Optional, Tuple
 
-from ._errors import TextError, counted, readable, shown
+from ._errors import NotAShop, TextError, counted, readable, shown
 from ._results import Names, Path
 
 Labels = Tuple[str, str]
@@ -48,6 +48,19 @@ class Unit:
             return str(whole)
         decimals = f"{rest * (1_000_000 // self.scale):06}".rstrip("0")
         return f"{whole}{',' if self.decimal == 'comma' else '.'}{decimals}"
+
+
+def unit_of(fields: Dict[str, Any]) -> Unit:
+    """The unit that its fields state. NotAShop where there is none with these."""
+    form = "1/{scale}, decimal {decimal}, separator {separator}"
+    try:
+        words = f"{_BEGIN}{form.format(**fields)}"
+    except (KeyError, IndexError):
+        words = ""
+    found = _FORM.fullmatch(words)
+    if not found or 1_000_000 % int(found[1]):
+        raise NotAShop("JSON", 0, f"'unit' of the text is {shown(fields)}; it has to be what Shop.to_json gives")
+    return Unit(int(found[1]), found[2], found[3])
 
 
 def _decoded(lines: bytes) -> str:

@@ -1,5 +1,6 @@
 """The numbers that a call takes beside a shop and a sequence."""
 
+import os
 from operator import index
 from typing import Any, Dict, Optional, SupportsIndex, Tuple
 
@@ -42,6 +43,25 @@ def option(name: str, value: SupportsIndex, limits: Dict[str, Tuple[int, int]] =
         return number
     sentence = f"{name} is {shown(value)}, and has to be a whole number from {least:,} to {most:,}"
     raise OptionError(name.upper(), 0, sentence)
+
+
+def scale_of(value: SupportsIndex) -> int:
+    """The number by which the times of a table are multiplied. OptionError where it does not divide 1,000,000, so that
+    a time in the unit of the table may have no end as a decimal number."""
+    try:
+        number = index(value)
+    except TypeError:
+        number = 0
+    if number > 0 and 1_000_000 % number == 0:
+        return number
+    sentence = f"scale is {shown(value)}, and has to be a whole number that divides 1,000,000, as 10, 100 or 1,000"
+    raise OptionError("SCALE", 0, sentence)
+
+
+def workers_of(value: SupportsIndex) -> int:
+    """How many workers there are; -1 stands for one of each processor that this process may use. OptionError where it
+    is no such number."""
+    return len(os.sched_getaffinity(0)) if value == -1 else option("workers", value, OF_PARTS)
 
 
 def time_limit_of(value: Any) -> Optional[float]:

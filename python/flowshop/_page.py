@@ -2,9 +2,10 @@
 
 import html
 from collections import Counter
-from dataclasses import dataclass
+from dataclasses import dataclass, field
 from typing import Any, Hashable, Iterable, List, NamedTuple, Optional, Tuple
 
+from ._calendar import Dated
 from ._clock import Times
 from ._drawing import drawn
 from ._errors import counted, readable
@@ -14,8 +15,8 @@ from ._results import Timetable
 # How many bars a picture has at most, to be of use on a page.
 MOST_BARS = 4000
 # Up to so many jobs the sheets of several machines share a page of paper; above so many the rows of a sheet stand in
-# columns.
-_MOST_SHARED, _MOST_IN_LINE = 12, 28
+# columns; and above so many they are small, so that the sheet of a machine has some 300 jobs.
+_MOST_SHARED, _MOST_IN_LINE, _MOST_MANY = 12, 28, 150
 _STYLE = """
 body { font: 11pt/1.4 system-ui, "Segoe UI", "Liberation Sans", Arial, sans-serif; color: #000; background: #fff;
   max-width: 1110px; margin: 1.5em auto; padding: 0 1em; }
@@ -25,7 +26,7 @@ p { margin: .3em 0; }
 .proved { font-size: 1.15em; font-weight: bold; }
 .small { font-size: .85em; }
 ol { columns: 12em auto; column-gap: 2em; margin: .3em 0; padding-left: 2.6em; font-variant-numeric: tabular-nums; }
-li { break-inside: avoid; overflow-wrap: anywhere; }
+li { break-inside: avoid; overflow-wrap: break-word; }
 figure { margin: .5em 0; overflow-x: auto; }
 svg { display: block; min-width: 100%; height: auto; }
 table { border-collapse: collapse; font-variant-numeric: tabular-nums; }
@@ -33,8 +34,10 @@ th, td { padding: .15em .6em; border-bottom: 1px solid #888; text-align: right; 
   white-space: nowrap; }
 thead th { border-bottom: 2px solid #000; vertical-align: bottom; white-space: normal; }
 tbody th { font-weight: normal; }
-th.name { text-align: left; white-space: normal; min-width: 6em; overflow-wrap: anywhere; }
+th.name { text-align: left; white-space: normal; min-width: 6em; overflow-wrap: break-word; }
 tr { break-inside: avoid; }
+.day th { font-weight: bold; }
+.day { break-after: avoid; }
 a { color: inherit; }
 .shared, .rows { overflow-x: auto; }
 .rows table { width: 100%; max-width: 45em; }
@@ -49,7 +52,7 @@ a { color: inherit; }
   a { text-decoration: none; }
   .whole, .cut { display: none; }
   .parts { display: block; }
-  .part { margin-bottom: 4mm; }
+  .part { margin-bottom: 1.5mm; }
   .picture, .shared, .part { break-inside: avoid; }
   .across { page: across; break-inside: auto; }
   .first, .own { break-before: page; }
@@ -59,6 +62,11 @@ a { color: inherit; }
   .shared, .rows { overflow: visible; }
   .many { font-size: 8.5pt; }
   .many th, .many td { padding: .1em .4em; }
+  .dense { font-size: 7pt; line-height: 1.1; }
+  .dense h2, .dense p { margin: 0 0 .3em; }
+  .dense th, .dense td { padding: 0 .2em; border-bottom-width: .5px; }
+  .dense .rows { column-gap: 1.2em; }
+  ol.dense { columns: 13em auto; }
 }
 """
 _NAME = ' class="name"'
@@ -68,7 +76,7 @@ _NAME = ' class="name"'
 class Facts:
     """What a page says of a schedule: its timetable; a number below which no order has a makespan, as a text proves it,
     or None where there is no text; such a number that takes no search; the makespan of the jobs in the order of the
-    table; a picture without names, or nothing; and how times are shown."""
+    table; a picture without names, or nothing; how times are shown; and lines that stand behind what is proved."""
 
     title: str
     timetable: Timetable
@@ -77,6 +85,7 @@ class Facts:
     listed: int
     picture: str
     times: Times
+    more: List[str] = field(default_factory=list)
 
     @property
     def lower(self) -> int:
@@ -141,7 +150,7 @@ def _machines(timetable: Timetable) -> List[_Machine]:
     return machines
 
 
-def _proved(facts: Facts) -> str:
+def proved(facts: Facts) -> str:
     """What the bound means, in a sentence."""
     upper, at = facts.timetable.makespan, facts.times.at
     if facts.lower == upper:
@@ -194,7 +203,7 @@ def _of_machines(machines: List[_Machine], makespan: int, times: Times) -> List[
         working = machine.working()
         cells = ["–", "–"]
         if machine.turns:
-            cells = [times.at(machine.turns[0].start), times.at(machine.turns[-1].end)]
+            cells = [times.begin_at(machine.turns[0].start), times.at(machine.turns[-1].end)]
         cells += map(times.lasting, (working, makespan - working, machine.between()))
         cells.append(f"{(200 * working + makespan) // (2 * makespan) if makespan else 0}%")
         head = f'<th scope="row"{_NAME}><a href="#machine{machine.number}">{machine.name}</a></th>'
@@ -210,6 +219,21 @@ def _of_machines(machines: List[_Machine], makespan: int, times: Times) -> List[
     ]
 
 
+def _rows(turns: List[_Turn], times: Times) -> List[str]:
+    """The rows of a sheet; by the calendar, below the day on which each begins."""
+    rows, day = [], ""
+    for turn in turns:
+        start, end = times.begin_at(turn.start), times.at(turn.end)
+        if isinstance(times, Dated):
+            if times.day(turn.start) != day:
+                day = times.day(turn.start)
+                rows.append(f'<tr class="day"><td></td><th class="name" colspan="3">{day}</th></tr>')
+            start, end = times.within(turn.start, turn.end)
+        name = f'<th scope="row" class="name">{turn.job}</th>'
+        rows.append(f"<tr><td>{turn.place}</td>{name}<td>{start}</td><td>{end}</td></tr>")
+    return rows
+
+
 def _sheet(machine: _Machine, facts: Facts, title: str) -> List[str]:
     """The sheet of a machine: its jobs in order, with start and end of each."""
     jobs, count = len(facts.timetable.names), len(facts.timetable.machine_names)
@@ -217,6 +241,7 @@ def _sheet(machine: _Machine, facts: Facts, title: str) -> List[str]:
     kinds = ["sheet", "shared" if jobs <= _MOST_SHARED else "own"]
     kinds += ["first"] if machine.number == 1 else []
     kinds += ["many"] if jobs > _MOST_IN_LINE else []
+    kinds += ["dense"] if jobs > _MOST_MANY else []
     rest = jobs - len(turns)
     skipped = f"; {counted(rest, 'job')} {'skips' if rest == 1 else 'skip'} it" if rest else ""
     lines = [
@@ -225,12 +250,9 @@ def _sheet(machine: _Machine, facts: Facts, title: str) -> List[str]:
         f"<p>{title}. Machine {machine.number} of {count}: {counted(len(turns), 'job')}{skipped}.</p>",
     ]
     if turns:
-        rows = [
-            f'<tr><td>{turn.place}</td><th scope="row" class="name">{turn.job}</th>'
-            f"<td>{times.at(turn.start)}</td><td>{times.at(turn.end)}</td></tr>"
-            for turn in turns
-        ]
-        width = max(10, *(len(turn.job) for turn in turns)) + 2 * max(5, len(times.at(turns[-1].end))) + 6
+        rows = _rows(turns, times)
+        widest = 7 if isinstance(times, Dated) else max(5, len(times.at(turns[-1].end)))
+        width = max(10, *(len(turn.job) for turn in turns)) + 2 * widest + 6
         columns = f' style="--width: {width}ch"' if jobs > _MOST_IN_LINE else ""
         job = f"Job on {machine.name}" if jobs > _MOST_IN_LINE else "Job"
         heads = [("", "Place"), (_NAME, job), ("", "Start"), ("", "End")]
@@ -245,15 +267,20 @@ def _picture(facts: Facts) -> List[str]:
         python, command = 'shop.gantt(order).save("shop.svg")', "flowshop schedule"
         anyway = f"In Python <code>{python}</code> draws it anyway, and so does <code>{command}</code> with"
         return [f'<p class="small">{left_out} {anyway} <code>--form svg</code>.</p>']
-    label = f"A row for each machine, with a bar for each job from its start to its end. {_proved(facts)}"
+    label = f"A row for each machine, with a bar for each job from its start to its end. {proved(facts)}"
     picture, parts, has_places = drawn(facts.picture, facts.timetable, facts.times)
     picture = picture.rstrip("\n").replace("<svg ", f'<svg role="img" aria-label="{label}" ', 1)
-    places = ['<p class="small">A number in a bar is the place of its job in the order.</p>'] if has_places else []
+    places = ['<p class="small">In a bar, #7 stands for the job at place 7 of the order.</p>'] if has_places else []
     figure, paper, kinds = "<figure>", [], "picture"
     if parts:
         figure, paper, kinds = '<figure class="whole">', ['<div class="parts">', *parts, "</div>"], "picture across"
     lines = [f'<section class="{kinds}">', "<h2>Picture</h2>", *places, figure, picture, "</figure>", *paper]
     return [*lines, "</section>"]
+
+
+def _shifts(times: Times) -> str:
+    """What else is not modelled, behind due dates."""
+    return " and set-up times" if isinstance(times, Dated) else ", set-up times, shifts and breaks"
 
 
 def page(facts: Facts) -> str:
@@ -271,16 +298,17 @@ def page(facts: Facts) -> str:
         "</head>",
         "<body>",
         f"<h1>{title}</h1>",
-        f'<p class="proved">{_proved(facts)}</p>',
+        f'<p class="proved">{proved(facts)}</p>',
         f"<p>{_beside(facts)}</p>",
         f"<p>{facts.times.sentence()}</p>",
+        *facts.more,
         "<h2>Order</h2>",
-        "<ol>",
+        '<ol class="dense">' if len(timetable.names) > _MOST_MANY else "<ol>",
         *(f"<li>{job}</li>" for job in _jobs(timetable)),
         "</ol>",
         *_of_machines(machines, timetable.makespan, facts.times),
-        '<p class="small">Not modelled are due dates, set-up times, shifts and breaks; every machine takes the jobs in '
-        f"the same order. Made by flowshop {version()}.</p>",
+        f'<p class="small">Not modelled are due dates{_shifts(facts.times)}; every machine takes the jobs in the same '
+        f"order. Made by flowshop {version()}.</p>",
         *_picture(facts),
     ]
     for machine in machines:

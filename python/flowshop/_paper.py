@@ -87,15 +87,22 @@ def _window(x: int, sides: Sides, heights: Sides, texts: str) -> str:
     return f'<svg {place} viewBox="{left} {top} {right - left} {bottom - top}"><use href="#drawing"/>{texts}</svg>'
 
 
-def _ends(left: int, right: int, wide: int, step: int) -> List[int]:
-    """Where the parts of a picture end: half of the way between two marks, and all but the last after equal times."""
+def _ends(sides: Sides, wide: int, marks: List[int]) -> List[int]:
+    """Where the parts of a picture end: half of the way between two marks, so that all parts are about as wide, and the
+    first one and the others with the names of machines before them have room on a sheet."""
+    left, right = sides
     if right - left <= wide:
         return [right]
-    most = max(1, (wide - (_NAMES_END - left)) // step) * step
-    reach = right - _BEGIN + step // 2
-    count = -(-reach // most)
-    length = -(-reach // (count * step)) * step
-    return [*(_BEGIN - step // 2 + length * number for number in range(1, count)), right]
+    between = [(before + after) // 2 for before, after in zip(marks, marks[1:]) if before < after]
+    most = wide - (_NAMES_END - left)
+    ends: List[int] = []
+    begin = _BEGIN
+    while right - begin > most:
+        length = (right - begin) / -(-(right - begin) // most)
+        fitting = [end for end in between if begin < end <= begin + most] or [begin + most]
+        begin = min(fitting, key=lambda end: abs(end - begin - length))
+        ends.append(begin)
+    return [*ends, right]
 
 
 def in_parts(picture: str) -> Tuple[str, List[str]]:
@@ -108,7 +115,7 @@ def in_parts(picture: str) -> Tuple[str, List[str]]:
         return picture, []
     left, right, height = int(head[1]), int(head[1]) + int(head[2]), int(head[3])
     wide, word = int(max(_WIDE, _FOR_HEIGHT * height)), "time" if ">time</text>" in picture else ""
-    ends = _ends(left, right, wide, marks[1].at - marks[0].at)
+    ends = _ends((left, right), wide, [mark.at for mark in marks if mark.text])
     sheet = _Sheet(left, height, wide, head[4], word, marks, ends, [])
 
     def label(found: "re.Match[str]") -> str:

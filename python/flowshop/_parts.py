@@ -2,7 +2,7 @@
 
 import ctypes
 import struct
-from typing import Any, Iterable, List, NamedTuple, Tuple
+from typing import Any, Callable, Iterable, List, NamedTuple, Tuple
 
 from ._library import BeamOptions, NodeLists, PartRooms, ReachedRoom, RoundsOptions, ShopNumbers
 from ._library import call, out, u8, u16
@@ -148,9 +148,9 @@ class Rooms:
         self.written += self._rooms.directions_length
         return int(self._rooms.found)
 
-    def directions(self) -> bytes:
-        """The directions that were written."""
-        return ctypes.string_at(self._begun, self.written)
+    def directions(self, begin: int = 0) -> bytes:
+        """The directions that were written, from a place on."""
+        return ctypes.string_at(self._begun + begin, self.written - begin)
 
     def rest(self) -> bytes:
         """The parts that the last search has left."""
@@ -159,3 +159,42 @@ class Rooms:
     def reached(self) -> bytes:
         """The sequence that the last search reached."""
         return bytes(self._sequence)
+
+
+class Pieces:
+    """A search of a node below a number with a budget of directions, in pieces of some hundredths of a second, between
+    which it can be stopped. What it comes to is what one call comes to."""
+
+    def __init__(self, instance: Instance, lists: Tuple[bytes, bytes], number: int, budget: int) -> None:
+        self._instance, self._number, self._budget = instance, number, budget
+        self._piece = 1 + 15_000_000 // (instance.jobs * instance.machines + 450)
+        self._written: List[bytes] = []
+        # What was found so far: the kind, how many directions, the parts that are left, the sequence and its makespan.
+        self._found: Tuple[int, int, List[PackedPart], bytes, int] = OVER, 0, [PackedPart(*lists, 0, b"")], b"", 0
+
+    def search(self, pause: Callable[[], None]) -> None:
+        """Makes the pieces until the search ends, or what is called between them raises."""
+        count, rooms = 0, Rooms(self._instance, min(self._piece, self._budget))
+        while self._found[2] and self._found[0] == OVER:
+            pause()
+            if rooms.left == 0 and count < self._budget:
+                rooms = Rooms(self._instance, min(self._piece, self._budget - count))
+            part, *others = self._found[2]
+            begin, left = rooms.written, [*part.after(1), *others]
+            kind = rooms.search(*part.nodes()[0], self._number)
+            self._written.append(rooms.directions(begin))
+            count += len(self._written[-1])
+            if kind == BELOW:
+                self._found = BELOW, count, [], rooms.reached(), rooms.makespan
+            elif kind == OVER:
+                self._found = OVER, count, [*parts_of(rooms.rest()), *left], b"", 0
+                if count == self._budget:
+                    return
+            else:
+                self._found = OVER if left else PROVED, count, left, b"", 0
+
+    def found(self) -> Tuple[int, bytes, List[PackedPart], bytes, int]:
+        """What the search has come to: PROVED, BELOW or OVER, its directions, the parts that are left where it is OVER,
+        and the sequence of BELOW with its makespan."""
+        kind, count, parts, sequence, makespan = self._found
+        return kind, b"".join(self._written)[:count], parts, sequence, makespan

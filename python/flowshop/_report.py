@@ -22,7 +22,7 @@ def words(parsers: "argparse._SubParsersAction[argparse.ArgumentParser]") -> Non
         help="write a schedule as one file of HTML, for screen and paper",
         description="Writes a schedule as one file of HTML: the order of the jobs, what is proved of it, when each "
         "machine works and is idle, a picture, and a sheet for each machine with start and end of each job. Names and "
-        "unit are those that examples/from_csv.awk keeps in the file of the shop.",
+        "unit are those that the command shop keeps in the file of the shop.",
         epilog="example: python3 -m flowshop report shop.txt 1 certificate --start 07:30 --unit 1min --out report.html",
     )
     parser.add_argument("shop", metavar="SHOP", help="the file of the shop, a benchmark text")
@@ -55,23 +55,15 @@ def _picked(path: str, index: Optional[str]) -> Shop:
     return Shop._picked(path, choose)[0][1].shop
 
 
-def _sequence(shop: Shop, text: bytes) -> Jobs:
-    """The sequence in a text. TextError where it has another makespan than the text says."""
-    jobs, stated, line = sequence_of(text)
-    makespan = shop.makespan(jobs)
-    if stated not in (None, makespan):
-        sentence = f"line {line} says that the makespan is {stated:,}, and that of these jobs is {makespan:,}"
-        raise TextError("NOT_ATTAINED", line, sentence)
-    return jobs
-
-
 def _order(shop: Shop, path: Optional[str]) -> Jobs:
     """The sequence in a file, or its text as that of a certificate, which is not checked yet; or else a certificate
     that is searched for."""
     if path is None:
         return shop.certify(work=100, directions=1_000_000)
     text = order_of(path)
-    return Certificate(0, 0, (), text) if text.split(None, 1)[:1] == [b"flowshop"] else _sequence(shop, text)
+    if text.split(None, 1)[:1] == [b"flowshop"]:
+        return Certificate(0, 0, (), text)
+    return shop._attained(*sequence_of(text))
 
 
 def _are_one(path: str, other: str) -> bool:

@@ -1,13 +1,15 @@
 """What the calls on a shop give. All of it is frozen, and can be compared, hashed and pickled."""
 
 import html
-import importlib
 import os
 import re
 from dataclasses import dataclass, field
-from typing import Any, Dict, Hashable, Iterator, List, NamedTuple, Optional, Sequence, Tuple, Union, overload
+from typing import Any, Dict, Hashable, Iterator, List, NamedTuple, Sequence, Tuple, Union, overload
 
-from ._errors import OptionError, counted, readable, shown
+from . import _json
+from ._bounded import Bounded, needed
+from ._brief import BriefABC
+from ._errors import FlowshopError, NotLawful, OptionError, counted, readable, shown
 from ._saving import save
 
 Names = Tuple[Hashable, ...]
@@ -35,11 +37,56 @@ def listed(names: Sequence[Hashable], most: int = _MOST_SHOWN) -> str:
     return ", ".join([*map(readable, quoted), *([".."] if len(names) > most else [])])
 
 
+class _Ordered(Bounded):
+    """A sequence of a shop that may be known, with its makespan and a lower bound."""
+
+    sequence: Tuple[int, ...]
+    names: Names
+    _shop: Any
+
+    @property
+    def positions(self) -> List[int]:
+        """The jobs of the sequence, counted from 0, as lists, arrays and frames count their rows.
+
+        >>> [["Shelf", "Door", "Table"][place] for place in shop.neh().positions]
+        ['Door', 'Shelf', 'Table']
+        """
+        return [job - 1 for job in self.sequence]
+
+    def plot(self, ax: Any = None) -> Any:
+        """The timetable of the sequence as a Gantt chart of matplotlib, in `ax`, or in a figure of its own. Gives the
+        axes. ImportError where there is no matplotlib, FlowshopError where the result comes from another process or
+        from a text, and so has no shop.
+
+        >>> shop.neh().plot().get_title()  # doctest: +SKIP
+        'makespan 13'
+        """
+        if self._shop is None:
+            advice = "shop.schedule(..).plot() draws its sequence"
+            raise FlowshopError("SHOP", 0, f"this result came without its shop: {advice}")
+        return self._shop.schedule(self).plot(ax)
+
+    def _repr_html_(self) -> str:
+        """Makespan, lower bound, gap and order, and a small picture where the shop is known, for a notebook."""
+        this: Any = self
+        number = str if self._shop is None else self._shop._in_unit
+        said = f"Makespan {number(this.upper)}; no order takes less than {number(this.lower)}, a gap of {self.gap:.1%}."
+        if this.lower == this.upper:
+            said = f"Makespan {number(this.upper)}, and no order takes less."
+        order = html.escape(listed(self.names or self.sequence))
+        picture = "" if self._shop is None else self._shop._small_picture(self.sequence, this.lower)
+        return f"<div><p>{said} Order: {order}</p>{picture}</div>"
+
+    def __getstate__(self) -> Dict[str, Any]:
+        """What pickle and copy keep: all but the shop."""
+        return {**vars(self), "_shop": None}
+
+
 @dataclass(frozen=True, repr=False)
-class Start:
+class Start(_Ordered):
     """A sequence of a shop, as job numbers from 1, and its makespan `value` in the unit of the times. `names` has the
-    names of the jobs in this order, or their numbers where the shop has no names. A Start is taken wherever a sequence
-    is.
+    names of the jobs in this order, or their numbers where the shop has no names. `lower` is the `bound` of the shop. A
+    Start is taken wherever a sequence is.
 
     >>> shop.neh()
     Start(makespan 13: 2, 1, 3)
@@ -48,19 +95,25 @@ class Start:
     sequence: Tuple[int, ...]
     value: int
     names: Names = field(default=(), compare=False)
+    lower: int = field(default=0, compare=False)
+    _shop: Any = field(default=None, compare=False)
+
+    @property
+    def upper(self) -> int:
+        """The same as `value`: the least makespan is not above it.
+
+        >>> shop.neh().upper
+        13
+        """
+        return self.value
 
     def __repr__(self) -> str:
         """The makespan, and the first jobs by their names."""
         return f"Start(makespan {self.value}: {listed(self.names or self.sequence)})"
 
 
-class Operation(NamedTuple):
-    """What a job does on a machine: when it starts and when it ends there, in the unit of the times. Job and machine
-    are names, or numbers from 1 where the shop has no names. A job whose time there is 0 ends as it starts.
-
-    >>> shop.schedule([2, 1, 3])[-1].end
-    13
-    """
+class _Operation(NamedTuple):
+    """The fields of an operation."""
 
     job: Hashable
     machine: Hashable
@@ -68,10 +121,22 @@ class Operation(NamedTuple):
     end: int
 
 
+class Operation(_Operation, metaclass=BriefABC):
+    """What a job does on a machine: when it starts and when it ends there, in the unit of the times. Job and machine
+    are names, or numbers from 1 where the shop has no names. A job whose time there is 0 ends as it starts.
+
+    >>> shop.schedule([2, 1, 3])[-1].end
+    13
+    """
+
+    __slots__ = ()
+
+
 @dataclass(frozen=True, repr=False)
-class Timetable(Sequence[Operation]):
+class Timetable(_Ordered, Sequence[Operation], metaclass=BriefABC):
     """When each job of a sequence starts and ends on each machine: an Operation for each job in the order of the
-    sequence, and for each machine. A Timetable is taken wherever a sequence of jobs is.
+    sequence, and for each machine. `lower` is a number below which no sequence has a makespan: that of a Certificate,
+    or the `bound` of the shop. A Timetable is taken wherever a sequence of jobs is.
 
     >>> timetable = shop.schedule([2, 1, 3])
     >>> timetable
@@ -87,10 +152,13 @@ class Timetable(Sequence[Operation]):
     machine_names: Names
     _starts: bytes
     _ends: bytes
+    lower: int = field(default=0, compare=False)
+    scale: int = field(default=1, compare=False)
+    _shop: Any = field(default=None, compare=False)
 
     def _array(self, numbers: bytes) -> memoryview:
         """Numbers of 64 bits as rows and columns."""
-        return memoryview(numbers).cast("Q", [len(self.names), len(self.machine_names)])
+        return memoryview(numbers).cast("q", [len(self.names), len(self.machine_names)])
 
     @property
     def starts(self) -> memoryview:
@@ -118,7 +186,25 @@ class Timetable(Sequence[Operation]):
         >>> shop.schedule([2, 1, 3]).makespan
         13
         """
-        return memoryview(self._ends).cast("Q")[-1]
+        return memoryview(self._ends).cast("q")[-1]
+
+    @property
+    def value(self) -> int:
+        """The same as `makespan`.
+
+        >>> shop.schedule([2, 1, 3]).value
+        13
+        """
+        return self.makespan
+
+    @property
+    def upper(self) -> int:
+        """The same as `makespan`: the least makespan is not above it.
+
+        >>> shop.schedule([2, 1, 3]).upper
+        13
+        """
+        return self.makespan
 
     def columns(self) -> Dict[str, List[Any]]:
         """The operations as columns, which pandas, polars and csv take: `pandas.DataFrame(timetable.columns())`.
@@ -130,8 +216,8 @@ class Timetable(Sequence[Operation]):
         return {
             "job": [name for name in self.names for _ in range(machines)],
             "machine": list(self.machine_names) * len(self.names),
-            "start": memoryview(self._starts).cast("Q").tolist(),
-            "end": memoryview(self._ends).cast("Q").tolist(),
+            "start": memoryview(self._starts).cast("q").tolist(),
+            "end": memoryview(self._ends).cast("q").tolist(),
         }
 
     def to_frame(self) -> Any:
@@ -140,7 +226,32 @@ class Timetable(Sequence[Operation]):
         >>> shop.schedule([2, 1, 3]).to_frame().end.max()  # doctest: +SKIP
         13
         """
-        return importlib.import_module("pandas").DataFrame(self.columns())
+        return needed("pandas", "columns() gives the same as a dict of lists").DataFrame(self.columns())
+
+    def plot(self, ax: Any = None) -> Any:
+        """A Gantt chart of matplotlib, in `ax`, or in a figure of its own, with times in the unit of the table. Gives
+        the axes. ImportError where there is no matplotlib.
+
+        >>> shop.schedule([2, 1, 3]).plot().get_title()  # doctest: +SKIP
+        'makespan 13'
+        """
+        if ax is None:
+            pyplot = needed("matplotlib.pyplot", "shop.gantt(..) draws the same as SVG")
+            size = 10, 1.2 + 0.4 * len(self.machine_names)
+            ax = pyplot.subplots(figsize=size, constrained_layout=True)[1]
+        spans: Any = [*zip(self.starts.tolist(), self.ends.tolist())]
+        for row in range(len(self.machine_names)):
+            times = [(starts[row] / self.scale, (ends[row] - starts[row]) / self.scale) for starts, ends in spans]
+            bars = [(time, f"C{place % 10}") for place, time in enumerate(times) if time[1]]
+            ax.broken_barh([time for time, _ in bars], (row - 0.4, 0.8), facecolors=[colour for _, colour in bars])
+        ax.set_yticks(range(len(self.machine_names)))
+        ax.set_yticklabels([readable(name).replace("$", r"\$") for name in self.machine_names])
+        ax.set_ylim(len(self.machine_names) - 0.5, -0.5)
+        ax.set_xlim(0, max(1, self.makespan) / self.scale)
+        ax.set_xlabel("time")
+        ax.set_ylabel("machine")
+        ax.set_title(f"makespan {self.makespan / self.scale:.10g}")
+        return ax
 
     def __len__(self) -> int:
         """How many operations there are."""
@@ -158,7 +269,7 @@ class Timetable(Sequence[Operation]):
             return [self[at] for at in range(len(self))[place]]
         at = range(len(self))[place]
         job, machine = divmod(at, len(self.machine_names))
-        start, end = memoryview(self._starts).cast("Q")[at], memoryview(self._ends).cast("Q")[at]
+        start, end = memoryview(self._starts).cast("q")[at], memoryview(self._ends).cast("q")[at]
         return Operation(self.names[job], self.machine_names[machine], start, end)
 
     def __iter__(self) -> Iterator[Operation]:
@@ -171,7 +282,7 @@ class Timetable(Sequence[Operation]):
         return f"Timetable(makespan {self.makespan}, {sizes})"
 
 
-class Picture(str):
+class Picture(str, metaclass=BriefABC):
     """A Gantt chart of a sequence, as SVG text. A notebook shows it as a picture.
 
     >>> shop.gantt([2, 1, 3])
@@ -201,7 +312,7 @@ class Picture(str):
         save(path, self.encode())
 
 
-class Report(str):
+class Report(str, metaclass=BriefABC):
     """A schedule on one page of HTML, for screen and paper. A notebook shows it in a frame.
 
     >>> shop.report([2, 1, 3])
@@ -244,11 +355,13 @@ _BAR = re.compile(
 _IN_BAR, _BEFORE_ROW, _ROOM_BEFORE, _MOST_BEFORE = 670, 700, 8000, 40
 
 
-def with_names(picture: str, jobs: Names, machines: Names, in_bars: Optional[Names] = None) -> str:
-    """A picture with the names of jobs and machines in the place of their numbers. It is wider where the name of a
-    machine is long, and a very long one is cut; the name of a job stands in a bar where it has room, or what stands for
-    it in `in_bars`."""
-    of_jobs, of_machines, of_bars = (tuple(map(readable, names)) for names in (jobs, machines, in_bars or jobs))
+def with_names(picture: str, sequence: Tuple[int, ...], names: Names, machines: Names) -> str:
+    """A picture with the names of machines and of jobs, those in the order of the sequence, in the place of their
+    numbers. It is wider where the name of a machine is long, and a very long one is cut. In a bar stands the name of
+    the job where it has room; else the place of the job in the order, behind the sign #."""
+    by_job = sorted(zip(sequence, names, range(1, len(names) + 1)), key=lambda each: each[0])
+    of_jobs, of_machines = ([*map(readable, each)] for each in ([name for _, name, _ in by_job], machines))
+    places = [f"#{place}" for _, _, place in by_job]
     labels = [name if len(name) <= _MOST_BEFORE else f"{name[: _MOST_BEFORE - 2]}.." for name in of_machines]
     more = max(0, _BEFORE_ROW * max(map(len, labels)) - _ROOM_BEFORE)
 
@@ -262,9 +375,9 @@ def with_names(picture: str, jobs: Names, machines: Names, in_bars: Optional[Nam
     def bar(found: "re.Match[str]") -> str:
         job, machine = int(found[3]) - 1, int(found[4]) - 1
         title = html.escape(f"{of_jobs[job]}, {of_machines[machine]}", quote=False)
-        label = of_bars[job]
-        has_room = found[6] and _IN_BAR * len(label) <= int(found[2])
-        text = f"{found[6]}{html.escape(label, quote=False)}{found[7]}" if has_room else ""
+        fits = (label for label in (of_jobs[job], places[job]) if found[6] and _IN_BAR * len(label) <= int(found[2]))
+        label = next(fits, "")
+        text = f"{found[6]}{html.escape(label, quote=False)}{found[7]}" if label else ""
         return f"{found[1]}{title}{found[5]}{text}"
 
     picture = _HEAD.sub(head, picture, count=1) if more else picture
@@ -272,7 +385,7 @@ def with_names(picture: str, jobs: Names, machines: Names, in_bars: Optional[Nam
 
 
 @dataclass(frozen=True, repr=False)
-class Certificate:
+class Certificate(_Ordered):
     """What a text proves of a shop: no sequence has a makespan below `lower`, in the unit of the times, and `sequence`,
     as job numbers from 1, has the makespan `upper`. `names` has the names of the jobs in this order, or their numbers
     where the shop has no names. A Certificate is taken wherever a sequence or a text is.
@@ -286,11 +399,21 @@ class Certificate:
     sequence: Tuple[int, ...]
     text: bytes
     names: Names = field(default=(), compare=False)
+    _shop: Any = field(default=None, compare=False)
+
+    @property
+    def value(self) -> int:
+        """The same as `upper`: the makespan of the sequence.
+
+        >>> shop.certify().value
+        12
+        """
+        return self.upper
 
     @property
     def optimal(self) -> bool:
         """Whether the bounds are equal, so that no sequence has a smaller makespan than this one. So it is with every
-        certificate of `solve`.
+        certificate of `solve` without a time limit.
 
         >>> shop.certify().optimal
         True
@@ -318,3 +441,40 @@ class Certificate:
         >>> shop.certify().save("certificate")
         """
         save(path, self.text)
+
+    def to_dict(self) -> Dict[str, Any]:
+        """The bounds, the sequence, the names and the text, as json takes them.
+
+        >>> shop.certify().to_dict()["sequence"]
+        [3, 1, 2]
+        """
+        return {
+            "lower": self.lower,
+            "upper": self.upper,
+            "sequence": list(self.sequence),
+            "names": _json.plain_names(self.names),
+            "text": self.text.decode("latin-1"),
+        }
+
+    def to_json(self) -> str:
+        """The same as JSON.
+
+        >>> Certificate.from_json(shop.certify().to_json()) == shop.certify()
+        True
+        """
+        return _json.written(self.to_dict())
+
+    @classmethod
+    def from_json(cls, text: _json.Json) -> "Certificate":
+        """A certificate as `to_json` gives it. It is taken as it stands there: `Shop.check` tells what its text proves.
+        NotLawful where the text has another form.
+
+        >>> shop.check(Certificate.from_json(shop.certify().to_json())).optimal
+        True
+        """
+        kinds = {"lower": (int,), "upper": (int,), "sequence": (list,), "names": (list,), "text": (str,)}
+        found = _json.read(text, kinds, NotLawful, "Certificate.to_json")
+        sequence, names = tuple(found["sequence"]), tuple(found["names"])
+        if not {*map(type, sequence)} <= {int}:
+            raise NotLawful("JSON", 0, "'sequence' of the text has something that is no whole number")
+        return cls(found["lower"], found["upper"], sequence, found["text"].encode("latin-1", "replace"), names)

@@ -1,16 +1,79 @@
 """Sequences as they are given: lists, arrays, and what the calls on a shop give."""
 
+import os
 from array import array
 from operator import index
-from typing import Any, Iterable, List, Sequence, SupportsIndex, Union
+from typing import (
+    Any, Dict, Hashable, Iterable, Iterator, List, Literal, Optional, Sequence, SupportsIndex, Tuple, Union
+)
 
-from ._errors import NotASequence, counted, shown
+from ._errors import NotASequence, OptionError, counted, shown
 from ._library import Refused
-from ._results import Certificate, Start, Timetable
+from ._results import Certificate, Names, Start, Timetable, listed
 from ._tables import UNORDERED, Array
 
-Jobs = Union[Iterable[SupportsIndex], Array, Start, Certificate, Timetable]
+Jobs = Union[Iterable[Union[SupportsIndex, str]], Array, Start, Certificate, Timetable, "os.PathLike[str]"]
 Many = Union[Iterable[Jobs], Array]
+# By what a sequence has its jobs. None: by what it can be read as.
+By = Optional[Literal["name", "number"]]
+_RESULTS = (Start, Certificate, Timetable)
+_MOST_NAMED = 3
+
+
+class Naming:
+    """The jobs of a shop by their names, where they have any."""
+
+    def __init__(self, count: int, names: Optional[Names]) -> None:
+        self.count = count
+        self._names = names or ()
+        self._numbers: Dict[Hashable, int] = {}
+        for number, name in enumerate(self._names, 1):
+            self._numbers.setdefault(name, number)
+        # Whether a list of whole numbers may be one of names.
+        self._has_numbers = any(hasattr(name, "__index__") for name in self._names)
+
+    def are_numbers(self, by: By) -> bool:
+        """Whether whole numbers in a sequence are those of jobs."""
+        return by == "number" or not (self._has_numbers or by == "name" and self._names)
+
+    def read(self, jobs: Sequence[Any], by: By) -> Sequence[Any]:
+        """The numbers of jobs that are given by number or by name. NotASequence where a name is that of no job, or of
+        several, or where the list can be read both ways, and nothing is said."""
+        if by not in (None, "name", "number"):
+            raise OptionError("BY", 0, f"by is {shown(by)}, and has to be 'name' or 'number', or None")
+        if by == "number" or not self._names:
+            return jobs
+        if by is None:
+            named = [self._number_of(job) for job in jobs]
+            in_range = [_has_16_bits(job) and 1 <= job <= self.count for job in jobs]
+            if all(in_range) and (named == list(jobs) or not all(named)):
+                return jobs
+            if all(in_range):
+                sentence = "the sequence can be read as names and as numbers of jobs"
+                raise NotASequence("BY", 0, f"{sentence}; say which they are, by='name' or by='number'")
+            if sum(in_range) >= sum(map(bool, named)):
+                return jobs
+        return [self._named(place, job) for place, job in enumerate(jobs, 1)]
+
+    def _number_of(self, name: Any) -> int:
+        """The number of the first job with a name; 0 where there is none."""
+        try:
+            return self._numbers.get(name, 0)
+        except TypeError:  # it can not be hashed
+            return 0
+
+    def _named(self, place: int, name: Any) -> int:
+        """The number of the job that a name stands for."""
+        number = self._number_of(name)
+        given = f"place {place} of the sequence is {shown(name)}"
+        if number == 0:
+            names = listed(self._names, _MOST_NAMED)
+            raise NotASequence("NAME", place, f"{given}, and no job has this name; the names are {names}")
+        if name in self._names[number:]:
+            other = self._names.index(name, number) + 1
+            sentence = f"{given}, which is the name of jobs {number} and {other}; give the numbers of jobs"
+            raise NotASequence("NAME", place, sentence)
+        return number
 
 
 def items_of(given: Any, wanted: str) -> List[Any]:
@@ -19,23 +82,61 @@ def items_of(given: Any, wanted: str) -> List[Any]:
     try:
         if isinstance(given, (str, bytes, bytearray, *UNORDERED)):
             raise TypeError
-        if isinstance(given, (Start, Certificate, Timetable)):
+        if isinstance(given, _RESULTS):
             return list(given.sequence)
         items = given.to_numpy() if hasattr(given, "to_numpy") else given  # a frame would give the names of its columns
         items = items.tolist() if hasattr(items, "tolist") else items
         return items if isinstance(items, list) else list(items)
     except TypeError:
-        raise NotASequence("JOB", 0, f"{wanted}, and this is {shown(given)}") from None
+        advice = "; the file of a sequence is named by pathlib.Path" if isinstance(given, str) else ""
+        raise NotASequence("JOB", 0, f"{wanted}, and this is {shown(given)}{advice}") from None
 
 
-def packed(sequence: Any, count: int) -> bytes:
-    """A sequence of a shop with so many jobs, as 16-bit numbers. NotASequence where it has something else."""
-    wanted = "a sequence is a list of job numbers"
-    jobs = sequence if type(sequence) in (list, tuple) else items_of(sequence, wanted)
+def packed(sequence: Any, naming: Naming, by: By = None) -> bytes:
+    """A sequence of jobs, by number or by name, as 16-bit numbers. NotASequence where it has something else."""
+    is_list = type(sequence) in (list, tuple)
+    jobs = sequence if is_list else items_of(sequence, "a sequence is a list of job numbers")
+    is_read = by is not None or not naming.are_numbers(by)
+    if is_read and (is_list or not isinstance(sequence, _RESULTS)):
+        jobs = naming.read(jobs, by)
     try:
         return array("H", jobs).tobytes()
     except (TypeError, OverflowError):
-        raise _strange(jobs, count) from None
+        pass
+    numbers = naming.read(jobs, by)
+    if numbers is not jobs:
+        return array("H", numbers).tobytes()
+    raise _strange(jobs, naming.count)
+
+
+def packed_node(front: Any, back: Any, naming: Naming, by: By) -> Tuple[bytes, bytes]:
+    """The jobs that sequences begin and end with, as 16-bit numbers. The two lists are read in one way."""
+    lists = [items_of(each, "a sequence is a list of job numbers") for each in (front, back)]
+    jobs, cut = packed([*lists[0], *lists[1]], naming, by), 2 * len(lists[0])
+    return jobs[:cut], jobs[cut:]
+
+
+def packed_many(given: Any, naming: Naming, by: By) -> Iterator[bytes]:
+    """Many sequences, each as 16-bit numbers. NotASequence, of which the place is (number, place), where one has
+    something else."""
+    given = given.to_numpy() if hasattr(given, "to_numpy") else given
+    kind = str(getattr(getattr(given, "dtype", None), "kind", ""))
+    is_whole = kind in ("i", "u") and given.ndim == 2 and given.size > 0 and not hasattr(given, "filled")
+    if is_whole and naming.are_numbers(by) and by in (None, "number") and 0 <= given.min() <= given.max() <= 65_535:
+        rows, width = given.astype("uint16", order="C").tobytes(), 2 * given.shape[1]
+        yield from (rows[at : at + width] for at in range(0, len(rows), width))
+        return
+    for number, sequence in enumerate(items_of(given, "many sequences are a list of lists of job numbers"), 1):
+        try:
+            yield packed(sequence, naming, by)
+        except NotASequence as error:
+            raise of_many(number, error) from None
+
+
+def of_many(number: int, error: NotASequence) -> NotASequence:
+    """The refusal of one of many sequences."""
+    place = error.place if isinstance(error.place, int) else 0
+    return NotASequence(error.name, (number, place), f"sequence {number}: {error}")
 
 
 def _has_16_bits(job: Any) -> bool:

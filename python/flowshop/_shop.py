@@ -2,36 +2,47 @@
 
 from __future__ import annotations
 
+import os
+import re
 from array import array
-from dataclasses import replace
+from contextlib import suppress
+from dataclasses import asdict, replace
 from math import perm
-from typing import Any, Callable, Collection, Hashable, Iterable, List, NamedTuple, NoReturn, Optional, Tuple, Union
+from typing import (
+    Any, Callable, Collection, Dict, Hashable, Iterable, List, NamedTuple, NoReturn, Optional, Tuple, Union
+)
 
+from . import _json
+from ._brief import Brief, BriefABC
 from ._certify import Better, Effort, Known, Run
 from ._clock import Plain, times_of
 from ._drawing import with_times
-from ._errors import Interrupted, NotASequence, OptionError, OverBudget, counted
+from ._errors import Interrupted, NotASequence, NotAShop, NotLawful, OptionError, OverBudget, TextError
+from ._errors import counted, readable
 from ._found import Below, Over, Proved, numbers_of, part_of
-from ._labels import Unit, label_lines
+from ._labels import Unit, label_lines, unit_of
 from ._library import BoundsRoom, EffortNumbers, Plan, ReachedRoom, Refused, ShopNumbers, SpansRoom
 from ._library import byref, call, size, u16, u32, u64
-from ._options import MOST_TREES, OF_PARTS, STATED, function_of, option, time_limit_of
+from ._options import MOST_TREES, OF_PARTS, STATED, function_of, option, scale_of, time_limit_of, workers_of
 from ._page import MOST_BARS, Facts, page
-from ._parts import BELOW, PROVED, Instance, Rooms, parts_of
+from ._parts import BELOW, OVER, PROVED, Instance, PackedPart, Pieces, Rooms, parts_of
 from ._results import Certificate, Names, Path, Picture, Report, Start, Timetable, listed, with_names
 from ._saving import save
-from ._sequences import Jobs, Many, items_of, not_a_node, not_a_sequence, packed
+from ._sequences import By, Jobs, Many, Naming, not_a_node, not_a_sequence, of_many, packed
+from ._sequences import packed_many, packed_node
 from ._spread import Map, Workers
-from ._tables import Table, read_table
-from ._texts import Text, block_text, blocks_of, not_lawful, text_of, two_ended_text, written
-from ._waiting import Progress, Watch, waited
+from ._tables import Table, read_kept, read_table
+from ._texts import Text, block_text, blocks_of, not_lawful, order_of, start_of, text_of, two_ended_text, written
+from ._waiting import Progress, Watch, waited, waited_for
 
 # The most bytes that a text has beside its trees or its directions.
 _BESIDE = 3300
+# The most bars of a picture that a notebook shows beside a result.
+_MOST_SMALL = 2000
 _Numbers = Tuple[int, ...]
 
 
-class Shop:
+class Shop(metaclass=Brief):
     """A permutation flow shop: 1 to 800 jobs on 1 to 26 machines, with whole times from 0 to 999,999, in a unit of your
     choice. `from_jobs` or `from_machines` make it of a table. It is frozen: it can be compared, hashed and pickled, and
     used by any number of threads.
@@ -44,10 +55,13 @@ class Shop:
     Shop(3 jobs, 3 machines)
     """
 
-    __slots__ = ("_parts", "_lent")
-    # Jobs, machines, times, the names of both, and the unit of the times; and what each call is lent of them.
+    __slots__ = ("_parts", "_lent", "_naming", "_bound")
+    # Jobs, machines, times, the names of both, and the unit of the times; what each call is lent of them; the jobs by
+    # their names; and what `bound` gives, once it is known.
     _parts: Tuple[int, int, bytes, Optional[Names], Optional[Names], Unit]
     _lent: Any
+    _naming: Naming
+    _bound: Optional[int]
 
     def __init__(self, *_: object) -> None:
         raise TypeError(
@@ -69,6 +83,8 @@ class Shop:
         shop = object.__new__(cls)
         object.__setattr__(shop, "_parts", (jobs, machines, times, job_names, machine_names, unit))
         object.__setattr__(shop, "_lent", byref(ShopNumbers(jobs, machines, times, len(times) // 4)))
+        object.__setattr__(shop, "_naming", Naming(jobs, job_names))
+        object.__setattr__(shop, "_bound", None)
         return shop
 
     @classmethod
@@ -78,18 +94,24 @@ class Shop:
         *,
         job_names: Optional[Iterable[Hashable]] = None,
         machine_names: Optional[Iterable[Hashable]] = None,
+        scale: int = 1,
     ) -> Shop:
         """The shop of a table with a row for each job and a column for each machine, in the order in which jobs visit
-        the machines: lists, an array of whole numbers with two dimensions, or a frame as that of pandas. The labels of
-        a frame are the names of jobs and machines, but for those that only count from 0. NotAShop where it is none.
+        the machines: lists, an array with two dimensions, or a frame as that of pandas. Names are text or whole
+        numbers, each another one; else the labels of a frame are the names, but for those that only count from 0. Times
+        are whole numbers, also as floats. They are multiplied by `scale`, which divides 1,000,000, so that decimals
+        become whole: all numbers that the shop takes and gives are in this smaller unit, and pictures and reports show
+        that of the table. NotAShop where the table or a name is none, OptionError where the scale is none.
 
         >>> Shop.from_jobs([[4, 0], [0, 8]], job_names=["Shelf", "Door"], machine_names=["Cut", "Weld"])
         Shop(2 jobs: Shelf, Door; 2 machines: Cut, Weld)
         >>> Shop.from_jobs([[4, 0], [0, None]])
         Traceback (most recent call last):
         flowshop.NotAShop: the time in row 2, column 2 is missing (None); write 0 where a job skips a machine
+        >>> Shop.from_jobs([[1.5, 0], [0, 0.25]], scale=100).times
+        [[150, 0], [0, 25]]
         """
-        return cls._of(*read_table(table, True, job_names, machine_names))
+        return cls._of(*read_table(table, True, job_names, machine_names, scale_of(scale)))
 
     @classmethod
     def from_machines(
@@ -98,6 +120,7 @@ class Shop:
         *,
         job_names: Optional[Iterable[Hashable]] = None,
         machine_names: Optional[Iterable[Hashable]] = None,
+        scale: int = 1,
     ) -> Shop:
         """The shop of a table with a row for each machine, in the order in which jobs visit them, and a column for each
         job. The rest is as in `from_jobs`.
@@ -105,7 +128,7 @@ class Shop:
         >>> Shop.from_machines([[4, 0, 0], [0, 8, 2], [4, 0, 1]]) == shop
         True
         """
-        return cls._of(*read_table(table, False, job_names, machine_names))
+        return cls._of(*read_table(table, False, job_names, machine_names, scale_of(scale)))
 
     @classmethod
     def generate(cls, jobs: int, machines: int, seed: int) -> Shop:
@@ -220,6 +243,35 @@ class Shop:
         """
         return self._parts[5].scale
 
+    def to_dict(self) -> Dict[str, Any]:
+        """Times, names and unit, as json takes them. The times have a row for each machine.
+
+        >>> shop.to_dict()["times"]
+        [[4, 0, 0], [0, 8, 2], [4, 0, 1]]
+        """
+        names = map(_json.plain_names, self._parts[3:5])
+        return {"times": self.times, **dict(zip(("job_names", "machine_names"), names)), "unit": asdict(self._parts[5])}
+
+    def to_json(self) -> str:
+        """The same as JSON.
+
+        >>> Shop.from_json(shop.to_json()) == shop
+        True
+        """
+        return _json.written(self.to_dict())
+
+    @classmethod
+    def from_json(cls, text: _json.Json) -> Shop:
+        """The shop that `to_json` gave. NotAShop where the text has another form.
+
+        >>> Shop.from_json(shop.to_json())
+        Shop(3 jobs, 3 machines)
+        """
+        names = (list, type(None))
+        kinds = {"times": (list,), "job_names": names, "machine_names": names, "unit": (dict,)}
+        found = _json.read(text, kinds, NotAShop, "Shop.to_json")
+        return cls._of(*read_kept(found["times"], found["job_names"], found["machine_names"], unit_of(found["unit"])))
+
     def __setattr__(self, name: str, value: object) -> NoReturn:
         raise AttributeError(f"a Shop is frozen: {name} can not be set")
 
@@ -256,75 +308,126 @@ class Shop:
                 raise not_a_sequence(refused, sequence, self.jobs) from None
             raise
 
+    def _packed(self, sequence: Jobs, by: By) -> bytes:
+        """A sequence as the calls of the library take it."""
+        if type(sequence) not in (list, tuple) and isinstance(sequence, os.PathLike):
+            return packed(self._read_sequence(sequence), self._naming, "number")
+        return packed(sequence, self._naming, by)
+
+    def _read_sequence(self, path: Path) -> Jobs:
+        """The sequence in a file: of a certificate, which is checked, of what the program prints, or of numbers alone.
+        Refusals name the file."""
+        text = order_of(path)
+        try:
+            if text.split(None, 1)[:1] == [b"flowshop"]:
+                return self.check(text)
+            return self._attained(*start_of(text))
+        except (NotASequence, NotLawful, TextError) as error:
+            raise type(error)(error.name, error.place, f"{readable(path)}: {error}") from None
+
+    def _attained(self, jobs: List[int], stated: Optional[int], line: int) -> List[int]:
+        """The jobs of a text. TextError where it says in a line that they have another makespan."""
+        makespan = self.makespan(jobs, by="number")
+        if stated not in (None, makespan):
+            sentence = f"line {line} says that the makespan is {stated:,}, and that of these jobs is {makespan:,}"
+            raise TextError("NOT_ATTAINED", line, sentence)
+        return jobs
+
     def _named(self, sequence: _Numbers) -> Names:
         """The names of jobs in the order of a sequence."""
         names = self._parts[3]
         return tuple(names[job - 1] for job in sequence) if names else sequence
 
-    def makespan(self, sequence: Jobs) -> int:
-        """The makespan of a sequence, in the unit of the times: a list or an array with each job number from 1 once, or
-        a Start, Certificate or Timetable. NotASequence where it is none.
+    def makespan(self, sequence: Jobs, *, by: By = None) -> int:
+        """The makespan of a sequence, in the unit of the times: a list or an array that has each job once, or a Start,
+        Certificate or Timetable, or the path of a file (pathlib.Path) with a certificate, which is checked, or with the
+        numbers of the jobs. Jobs are given by their numbers from 1, or by their names. Where both can be meant, as
+        of names that are whole numbers, `by` says which: "number" or "name". NotASequence where it is none,
+        OptionError where `by` is something else.
 
         >>> shop.makespan([2, 1, 3])
         13
+        >>> Shop.from_jobs([[4, 0], [0, 8]], job_names=["Shelf", "Door"]).makespan(["Door", "Shelf"])
+        8
         """
+        return self._makespan(self._packed(sequence, by))
+
+    def _makespan(self, sequence: bytes) -> int:
+        """The makespan of a packed sequence."""
         value = u64()
-        self._call("makespan", packed(sequence, self._parts[0]), byref(value))
+        self._call("makespan", sequence, byref(value))
         return value.value
 
-    def makespans(self, sequences: Many) -> array[int]:
+    def makespans(self, sequences: Many, *, by: By = None) -> array[int]:
         """The makespans of many sequences: of a list of them, or of the rows of an array. They are an array of 64-bit
-        numbers, which numpy takes as it is. NotASequence where one is none: its place is (number, place), from 1.
+        numbers, which numpy takes as it is. `by` is that of `makespan`. NotASequence where one is none: its place is
+        (number, place), from 1.
 
         >>> shop.makespans([[1, 2, 3], [2, 1, 3], [3, 1, 2]])
-        array('Q', [15, 13, 12])
+        array('q', [15, 13, 12])
         """
-        values = array("Q")
-        for number, sequence in enumerate(items_of(sequences, "many sequences are a list of lists of job numbers"), 1):
+        values = array("q")
+        for number, sequence in enumerate(packed_many(sequences, self._naming, by), 1):
             try:
-                values.append(self.makespan(sequence))
+                values.append(self._makespan(sequence))
             except NotASequence as error:
-                place = error.place if isinstance(error.place, int) else 0
-                raise NotASequence(error.name, (number, place), f"sequence {number}: {error}") from None
+                raise of_many(number, error) from None
         return values
 
-    def schedule(self, sequence: Jobs) -> Timetable:
+    def schedule(self, sequence: Jobs, *, by: By = None) -> Timetable:
         """The timetable of a sequence, where each job starts as early as it can. A Certificate is checked; NotLawful
-        where it is none of the shop. The other errors are those of `makespan`.
+        where it is none of the shop. `by` and the other errors are those of `makespan`.
 
         >>> list(shop.schedule([2, 1, 3]))[-1]
         Operation(job=3, machine=3, start=12, end=13)
         """
-        if isinstance(sequence, Certificate):
-            self.check(sequence)
-        return self._timetable(sequence)
+        lower = self.check(sequence).lower if isinstance(sequence, Certificate) else self.bound()
+        return self._timetable(self._packed(sequence, by), lower)
 
-    def _timetable(self, sequence: Jobs) -> Timetable:
-        """The timetable of a sequence. The text of a Certificate is not read."""
-        jobs, count = packed(sequence, self.jobs), self.jobs * self.machines
+    def _timetable(self, jobs: bytes, lower: int) -> Timetable:
+        """The timetable of a packed sequence, with a lower bound."""
+        count = self.jobs * self.machines
         starts, ends = (u64 * count)(), (u64 * count)()
         self._call("timetable", jobs, SpansRoom(starts, count, ends, count))
         numbers = tuple(memoryview(jobs).cast("H"))
-        return Timetable(numbers, self._named(numbers), self.machine_names, bytes(starts), bytes(ends))
+        names = self._named(numbers), self.machine_names
+        return Timetable(numbers, *names, bytes(starts), bytes(ends), lower, self.scale, self)
 
-    def gantt(self, sequence: Jobs) -> Picture:
+    def gantt(self, sequence: Jobs, *, by: By = None) -> Picture:
         """The picture of the timetable of a sequence, as SVG text: a row for each machine, and a bar for each job and
-        machine where the time is not 0. Times are in the unit of the table, where the shop has one. The outlined
-        operations leave no room: together they take the whole time. Of a Certificate, which is checked, the title says
-        also what it proves; NotLawful where it is none of the shop. The other errors are those of `makespan`.
+        machine where the time is not 0, with the name of the job, or, where that has no room, # and its place in the
+        sequence. Times are in the unit of the table, where the shop has one. The outlined operations leave no room:
+        together they take the whole time. Of a Certificate, which is checked, the title says also
+        what it proves; NotLawful where it is none of the shop. `by` and the other errors are those of `makespan`.
 
         >>> shop.gantt(shop.neh())[:4]
         '<svg'
         """
         lower = self.check(sequence).lower if isinstance(sequence, Certificate) else 0
-        picture = self._picture(sequence, lower)
+        return self._drawn(self._packed(sequence, by), lower)
+
+    def _drawn(self, jobs: bytes, lower: int) -> Picture:
+        """The picture of a packed sequence, with a lower bound where it is above 0."""
+        picture = self._picture(jobs, lower)
         if self._parts[3:5] != (None, None):
-            picture = with_names(picture, self.job_names, self.machine_names)
+            sequence = numbers_of(jobs)
+            picture = with_names(picture, sequence, self._named(sequence), self.machine_names)
         return Picture(with_times(picture, Plain(self._parts[5])) if self.scale > 1 else picture)
 
-    def _picture(self, sequence: Jobs, lower: int) -> str:
-        """The picture of a sequence without names, with a lower bound where it is above 0."""
-        jobs, room = packed(sequence, self.jobs), 16_384 + 400 * self.jobs * self.machines
+    def _small_picture(self, sequence: _Numbers, lower: int) -> str:
+        """The picture of a sequence as wide as what it stands in; where it has many bars, how to draw it."""
+        if self.jobs * self.machines > _MOST_SMALL:
+            return "<p>shop.gantt(..) draws it.</p>"
+        picture = self._drawn(array("H", sequence).tobytes(), lower)
+        return re.sub(r' width="\d+" height="\d+"', ' style="width: 100%; max-width: 60em"', picture, count=1)
+
+    def _in_unit(self, time: int) -> str:
+        """A time in the unit of the table."""
+        return self._parts[5].shown(time)
+
+    def _picture(self, jobs: bytes, lower: int) -> str:
+        """The picture of a packed sequence without names, with a lower bound where it is above 0."""
+        room = 16_384 + 400 * self.jobs * self.machines
         return written(room, lambda text: self._call("picture", jobs, lower, text)).decode("ascii")
 
     def report(
@@ -334,31 +437,33 @@ class Shop:
         start: Optional[str] = None,
         unit: Optional[str] = None,
         title: Optional[str] = None,
+        by: By = None,
     ) -> Report:
         """A page of HTML for whoever carries the schedule out: the order, a picture, a table of the machines, and a
         sheet for each of them with start and end of each job. It says what is proved: of a Certificate, which is
         checked, its lower bound, or that of `bound` where this is higher, and of another sequence that of `bound`.
         Times are in the unit of the table; or by the clock, where `start` is the time of day when the first job starts,
         and `unit` how long one unit of the table is, as `15min`, `1h` or `30s`. NotLawful where a certificate is none
-        of the shop, OptionError where start or unit has another form, or one is given alone; the other errors are those
-        of `makespan`.
+        of the shop, OptionError where start or unit has another form, or one is given alone; `by` and the other errors
+        are those of `makespan`.
 
         >>> shop.report(shop.certify(), start="07:30", unit="15min").save("schedule.html")
         """
         times = times_of(self._parts[5], start, unit)
         certificate = self.check(order) if isinstance(order, Certificate) else None
-        timetable = self._timetable(certificate or order)
+        jobs = self._packed(certificate or order, by)
+        timetable = self._timetable(jobs, 0)
         facts = Facts(
             title=title or f"Schedule of {counted(self.jobs, 'job')} on {counted(self.machines, 'machine')}",
             timetable=timetable,
             certified=certificate.lower if certificate else None,
             simple=self.bound(),
-            listed=self.makespan(range(1, self.jobs + 1)),
+            listed=self._makespan(self._in_order()),
             picture="",
             times=times,
         )
         if self.jobs * self.machines <= MOST_BARS:
-            facts = replace(facts, picture=self._picture(timetable, facts.lower))
+            facts = replace(facts, picture=self._picture(jobs, facts.lower))
         return Report(page(facts))
 
     def bound(self) -> int:
@@ -369,7 +474,15 @@ class Shop:
         >>> shop.bound()
         10
         """
-        return Instance(*self._parts[:3]).root_bound(self.makespan(range(1, self.jobs + 1)))
+        if self._bound is None:
+            bound = Instance(*self._parts[:3]).root_bound(self._makespan(self._in_order()))
+            object.__setattr__(self, "_bound", bound)
+            return bound
+        return self._bound
+
+    def _in_order(self) -> bytes:
+        """The sequence of the jobs as they are numbered."""
+        return array("H", range(1, self.jobs + 1)).tobytes()
 
     def neh(self) -> Start:
         """The starting sequence of Nawaz, Enscore and Ham (1983): jobs by decreasing total time, of equal ones the
@@ -384,11 +497,11 @@ class Shop:
         return self._start(tuple(sequence), reached.makespan)
 
     def _start(self, sequence: _Numbers, value: int) -> Start:
-        return Start(sequence, value, self._named(sequence))
+        return Start(sequence, value, self._named(sequence), self.bound(), self)
 
-    def _begun(self, start: Optional[Jobs]) -> bytes:
+    def _begun(self, start: Optional[Jobs], by: By = None) -> bytes:
         """The sequence from which a search begins."""
-        return packed(self.neh() if start is None else start, self.jobs)
+        return self._packed(self.neh() if start is None else start, by)
 
     def improve(
         self,
@@ -399,29 +512,30 @@ class Shop:
         seed: int = 1,
         work: int = 8500,
         time_limit: Optional[float] = None,
+        by: By = None,
     ) -> Start:
         """A sequence whose makespan is at most that of a start, or of the sequence of `neh`, by searches in one thread:
         a two-ended beam of widths up to `width`, 0 to 65,536, and two runs of at most `rounds` rounds, 0 to
         100,000,000, with the random numbers of `seed`, 1 to 2,147,483,646. They take about `work` million steps at
         most, 0 to 1,000,000, each about the work for one job on one machine. After `time_limit` seconds the best
         sequence so far is given. An interrupt ends the call within a second, as Interrupted, which has it; without a
-        time limit it has the start. NotASequence where the start is none, OptionError where a number is not as said
-        here.
+        time limit it has the start. `by` is that of `makespan`. NotASequence where the start is none, OptionError
+        where a number is not as said here.
 
         >>> shop.improve([1, 2, 3]).value
         12
         """
         effort = Effort(option("width", width), option("rounds", rounds), option("seed", seed), option("work", work))
-        limit, begun = time_limit_of(time_limit), self._begun(start)
+        limit, begun = time_limit_of(time_limit), self._begun(start, by)
         if limit is None:
             sequence = (u16 * self.jobs)()
             reached = ReachedRoom(sequence, self.jobs)
             try:
                 waited(lambda: self._call("improve", begun, EffortNumbers(*effort), reached))
             except KeyboardInterrupt:
-                raise Interrupted(self._start(numbers_of(begun), self.makespan(numbers_of(begun)))) from None
+                raise Interrupted(self._start(numbers_of(begun), self._makespan(begun))) from None
             return self._start(tuple(sequence), reached.makespan)
-        search = Better(self._parts[:3], begun, self.makespan(numbers_of(begun)), effort)
+        search = Better(self._parts[:3], begun, self._makespan(begun), effort)
         try:
             search.search_until(Watch(limit, None))
         except KeyboardInterrupt:
@@ -435,27 +549,38 @@ class Shop:
         depth: int = 0,
         budget: int = 10_000_000,
         version: int = 1,
+        time_limit: Optional[float] = None,
+        by: By = None,
     ) -> Certificate:
         """The least makespan with its certificate, by a search in one thread from a sequence, or from that of `neh`.
         There is a tree for each list of `depth` jobs, 0 to 3, of at most `budget` bytes, 1 to 100,000,000; `version`, 1
-        or 2, says by which bound the search prunes. OverBudget where a tree is longer, NotASequence where the start is
-        none, OptionError where a number is not as said here. The search can take long, and no time limit ends it. An
-        interrupt does, within a second.
+        or 2, says by which bound the search prunes. `by` is that of `makespan`. OverBudget where a tree is longer,
+        NotASequence where the start is none, OptionError where a number is not as said here. Where the search has not
+        ended after `time_limit` seconds, there is a two-ended certificate of what `bound` gives, and of the start. An
+        interrupt ends the call within a second. But one call of the library makes the search, and cannot be stopped: it
+        runs on in a thread of its own until it ends.
 
-        >>> shop.solve().upper
+        >>> shop.solve(time_limit=60).upper
         12
         """
         plan = Plan(option("depth", depth), option("budget", budget), option("version", version))
+        limit = time_limit_of(time_limit)
         trees = self._trees(plan.depth)
-        begun, most = self._begun(start), _BESIDE + trees * (plan.budget + 1)
+        begun, most = self._begun(start, by), _BESIDE + trees * (plan.budget + 1)
         jobs = (u16 * self.jobs)()
         bounds = BoundsRoom(jobs, self.jobs)
+
+        def search() -> bytes:
+            return written(most, lambda room: self._call("solve", begun, plan, bounds, room))
+
         try:
-            text = waited(lambda: written(most, lambda room: self._call("solve", begun, plan, bounds, room)))
+            text = waited(search) if limit is None else waited_for(search, limit)
         except Refused as refused:
             raise _over_budget(refused, trees, plan.budget) from None
+        if text is None:
+            return self.check(self._certificate(Known(self.bound(), self._makespan(begun), begun, b"")))
         sequence = tuple(jobs)
-        return Certificate(bounds.lower, bounds.upper, sequence, text, self._named(sequence))
+        return Certificate(bounds.lower, bounds.upper, sequence, text, self._named(sequence), self)
 
     def _trees(self, depth: int) -> int:
         """How many lists of so many jobs there are. OptionError where there are none, or too many."""
@@ -471,16 +596,19 @@ class Shop:
         self,
         bound: int,
         *,
-        front: Iterable[int] = (),
-        back: Iterable[int] = (),
+        front: Jobs = (),
+        back: Jobs = (),
         budget: int = 1_000_000,
+        time_limit: Optional[float] = None,
+        by: By = None,
     ) -> Union[Proved, Below, Over]:
         """A search for directions that prove that no sequence has a makespan below `bound`, 0 to
         18,446,744,073,709,551,615; of the sequences alone that begin with the jobs `front` and end with the jobs
         `back`, where these are given. It comes to directions, Proved; or to a sequence below the bound, Below; or it is
-        Over, with the parts that are left, where there are more directions than `budget`, 0 to 1,000,000,000.
-        NotASequence where a job of `front` and `back` is none of the shop, or stands there twice, OptionError where a
-        number is not as said here.
+        Over, with the parts that are left, where there are more directions than `budget`, 0 to 1,000,000,000, or where
+        it has not ended after `time_limit` seconds. With a time limit an interrupt raises Interrupted, whose result is
+        that. `by` is that of `makespan`. NotASequence where a job of `front` and `back` is none of the shop, or stands
+        there twice, OptionError where a number is not as said here.
 
         >>> shop.prove(12), shop.prove(13), shop.prove(12, budget=1)
         (Proved(2 directions), Below(makespan 12: 3, 1, 2), Over(1 direction, 1 part left))
@@ -488,18 +616,37 @@ class Shop:
         Below(makespan 13: 2, 1, 3)
         """
         number, room = option("bound", bound, OF_PARTS), option("budget", budget, OF_PARTS)
-        lists = packed(front, self.jobs), packed(back, self.jobs)
-        rooms = Rooms(Instance(*self._parts[:3]), room)
+        lists = packed_node(front, back, self._naming, by)
+        limit, instance = time_limit_of(time_limit), Instance(*self._parts[:3])
         try:
+            if limit is not None:
+                return self._proved_in(limit, Pieces(instance, lists, number, room))
+            rooms = Rooms(instance, room)
             found = waited(lambda: rooms.search(*lists, number))
         except Refused as refused:
             raise not_a_node(refused, *lists, self.jobs) from None
-        if found == PROVED:
-            return Proved(rooms.directions())
-        if found == BELOW:
-            jobs = numbers_of(rooms.reached())
-            return Below(jobs, rooms.makespan, self._named(jobs), rooms.directions())
-        return Over(rooms.directions(), tuple(map(part_of, parts_of(rooms.rest()))))
+        rest = parts_of(rooms.rest()) if found == OVER else []
+        return self._proved(found, rooms.directions(), rest, rooms.reached(), rooms.makespan)
+
+    def _proved_in(self, limit: float, pieces: Pieces) -> Union[Proved, Below, Over]:
+        """What a search in pieces comes to within so many seconds."""
+        watch = Watch(limit, None)
+        try:
+            watch.run(lambda: pieces.search(watch.pause), lambda seconds: Progress(1, 0, 0, 0, seconds))
+        except KeyboardInterrupt:
+            raise Interrupted(self._proved(*pieces.found())) from None
+        return self._proved(*pieces.found())
+
+    def _proved(
+        self, kind: int, directions: bytes, parts: List[PackedPart], sequence: bytes, makespan: int
+    ) -> Union[Proved, Below, Over]:
+        """What a search for directions came to."""
+        if kind == PROVED:
+            return Proved(directions)
+        if kind == OVER:
+            return Over(directions, tuple(map(part_of, parts)))
+        jobs = numbers_of(sequence)
+        return Below(jobs, makespan, self._named(jobs), self.bound(), self, directions)
 
     def certify(
         self,
@@ -514,6 +661,7 @@ class Shop:
         map: Optional[Map] = None,
         time_limit: Optional[float] = None,
         progress: Union[bool, Callable[[Progress], object], None] = None,
+        by: By = None,
     ) -> Certificate:
         """Bounds of the least makespan with a two-ended certificate of them, by searches from a sequence, or from that
         of `neh`, and from better ones. The least makespan is proved where `optimal` is true; the upper bound is at most
@@ -521,26 +669,27 @@ class Shop:
         have, the longer the searches take where they do not find the least makespan. The other numbers are those of
         `improve`. With the numbers left out a call may take a minute and a half.
 
-        Searches for directions are shared by so many `workers`, 1 to 10,000, which are threads; or by those of a `map`,
-        such as that of a pool of processes, where `workers` says how many there are, if it is known. The certificate is
-        the same for any number of workers and any map. After `time_limit` seconds it is one of the best bounds so far;
-        with few seconds, less `work` and fewer `directions` may give better ones. A run that ends before gives the same
-        as one without a limit. `progress` is called with a Progress, a few times a second; where it is True, a line on
-        standard error tells the same. An interrupt ends the call within a second, as Interrupted, which has a
-        certificate of the best bounds so far. Without a map and a time limit the certificate was read by `check`.
-        Errors are those of `improve`, and those of the map.
+        Searches for directions are shared by so many `workers`, 1 to 10,000, or -1 for one of each processor, which are
+        threads; or by those of a `map`, such as that of a pool of processes, where `workers` says how many there are,
+        if it is known. The certificate is the same for any number of workers and any map. After `time_limit` seconds it
+        is one of the best bounds so far; with few seconds, less `work` and fewer `directions` may give better ones. A
+        run that ends before gives the same as one without a limit. `progress` is called with a Progress, a few times a
+        second; where it is True, a line on standard error tells the same. An interrupt ends the call within a second,
+        as Interrupted, whose `result` is a certificate of the best bounds so far; an error of `progress` or of the map
+        has such a `result` too. Without a map and a time limit the certificate was read by `check`. `by` is that of
+        `makespan`. Errors are those of `improve`, and those of the map.
 
         >>> certificate = shop.certify(workers=4, time_limit=60)
         >>> certificate.lower, certificate.upper
         (12, 12)
         """
         effort = Effort(option("width", width), option("rounds", rounds), option("seed", seed), option("work", work))
-        most, count = option("directions", directions), option("workers", workers, OF_PARTS)
+        most, count = option("directions", directions), workers_of(workers)
         limit = time_limit_of(time_limit)
         function_of("map", map, "that of an executor, or of a pool, such as pool.map, or None")
         if not isinstance(progress, bool):
             function_of("progress", progress, "True, or a function that takes a Progress, or None")
-        begun, at_once = self._begun(start), min(4, count) if map is None else 4
+        begun, at_once = self._begun(start, by), min(4, count) if map is None else 4
         found = self._certify(begun, effort, most, Workers(map, count, at_once), Watch(limit, progress))
         return self._read(found) if map is None and limit is None else found
 
@@ -556,18 +705,22 @@ class Shop:
     ) -> Certificate:
         """What certify comes to, by workers that share its searches, as long as the watch allows."""
         begun = self._begun(None) if start is None else start
-        run = Run(self._parts[:3], begun, self.makespan(numbers_of(begun)), effort, directions)
+        run = Run(self._parts[:3], begun, self._makespan(begun), effort, directions)
         try:
             run.search_until(watch, workers)
         except KeyboardInterrupt:
             raise Interrupted(self._certificate(run.found())) from None
+        except Exception as error:  # of the map, or of who is told how far it has come
+            with suppress(Exception):  # there is no memory, or the error takes nothing
+                setattr(error, "result", self._certificate(run.found()))
+            raise
         return self._certificate(run.found())
 
     def _certificate(self, known: Known) -> Certificate:
         """The certificate of what is known."""
         jobs = numbers_of(known.sequence)
         text = two_ended_text(self.jobs, self.machines, known.lower, known.upper, jobs, known.directions)
-        return Certificate(known.lower, known.upper, jobs, text, self._named(jobs))
+        return Certificate(known.lower, known.upper, jobs, text, self._named(jobs), self)
 
     def check(self, text: Text) -> Certificate:
         """What a text proves, with the sequence that it states: a certificate of version 1 or 2, or a two-ended one;
@@ -587,7 +740,7 @@ class Shop:
         except Refused as refused:
             raise not_lawful(refused, text, read, self.jobs, self.machines) from None
         sequence = tuple(jobs)
-        return Certificate(bounds.lower, bounds.upper, sequence, read, self._named(sequence))
+        return Certificate(bounds.lower, bounds.upper, sequence, read, self._named(sequence), self)
 
 
 def _over_budget(refused: Refused, trees: int, budget: int) -> OverBudget:
@@ -598,7 +751,16 @@ def _over_budget(refused: Refused, trees: int, budget: int) -> OverBudget:
     return OverBudget(refused.name, refused.place, f"{sentence}; {advice}")
 
 
-class Block(NamedTuple):
+class _Block(NamedTuple):
+    """The fields of a block."""
+
+    shop: Shop
+    seed: int
+    upper: int
+    lower: int
+
+
+class Block(_Block, metaclass=BriefABC):
     """A block of a benchmark text: a shop, and the seed and the bounds of its least makespan that the text states. They
     are what the text says, and nothing tests them.
 
@@ -607,7 +769,4 @@ class Block(NamedTuple):
     [Block(shop=Shop(3 jobs, 3 machines), seed=5, upper=13, lower=10)]
     """
 
-    shop: Shop
-    seed: int
-    upper: int
-    lower: int
+    __slots__ = ()

@@ -12,6 +12,7 @@ import time
 from collections import deque
 from typing import Any, Callable, Deque, Iterable, Iterator, List, NamedTuple, Optional, Set, Tuple, TypeVar, Union
 
+from ._meter import Meter, Metered, timed
 from ._parts import BELOW, OVER, PROVED, Instance, PackedPart, Reached, Rooms, packed_parts, parts_of
 from ._threads import Threads, with_stack
 from ._waiting import Running
@@ -30,13 +31,21 @@ _TO_BITS, _TO_SIGNS = bytes.maketrans(b"+-", b"\0\1"), bytes.maketrans(b"01", b"
 
 
 class Workers(NamedTuple):
-    """Who searches parts: those of a map, or so many threads; how many beams and rounds may be made at once; and
-    whether these are given to them too."""
+    """Who searches parts: those of a map, or so many threads; how many beams and rounds may be made at once; whether
+    these are given to them too; and what measures the processor time of all of it, where something does."""
 
     map: Optional[Map]
     size: int
     at_once: int = 1
     has_beams: bool = False
+    meter: Optional[Meter] = None
+
+    def measured(self, call: Callable[[], _T]) -> Callable[[], _T]:
+        """A call for a thread of its own, in which it is measured."""
+        if self.meter is None:
+            return call
+        meter: Meter = self.meter
+        return lambda: meter.measured(call)
 
 
 class Found(NamedTuple):
@@ -333,7 +342,9 @@ class Spread:
         if self._map is None:
             self._threads = Threads(self._workers.size)
             self._map = self._threads.map
-        return iter(self._map(call, words))
+        if self._workers.meter is None:
+            return iter(self._map(call, words))
+        return Metered(self._map(timed, [(call, word) for word in words]), self._workers.meter)
 
     def prove(self, number: int, budget: int) -> Found:
         """What a search below a number comes to, with a budget of directions. Where beams are not given to workers, a
@@ -390,7 +401,7 @@ class Spread:
         """A call that is made beside others where several may be made at once, and else when it is asked for."""
         if self.at_once == 1:
             return call
-        running = Running(call)
+        running = Running(self._workers.measured(call))
         running.start()
 
         def result() -> _T:

@@ -108,6 +108,14 @@ def order_of(path: Path) -> bytes:
     return text
 
 
+def bytes_of(path: Path, what: str) -> bytes:
+    """The bytes of a file that is read as this. TextError where there are more than a benchmark text may have."""
+    text = _read(path, lambda _: MOST_TEXT)
+    if text is None:
+        raise TextError(_TOO_LONG, 0, _too_long(path, MOST_TEXT, what))
+    return text
+
+
 def text_of(given: Text) -> bytes:
     """The bytes of a text. OSError where a file is not read, NotLawful where it is too long, TypeError where it is no
     text."""
@@ -187,6 +195,9 @@ _SEQUENCE = re.compile(rb"[ \t\r]*sequence((?:[ \t\r]+[0-9]+)+)[ \t\r]*")
 _MAKESPAN = re.compile(rb"[ \t\r]*makespan[ \t\r]+([0-9]+)[ \t\r]*")
 _NOTHING = re.compile(rb"()")
 _NUMBERS = re.compile(rb"[ \t\r0-9]+")
+# Of a number that is too great for a job so many digits are read.
+_DIGITS = 12
+_PLAIN = re.compile(rb"[ \t\r\n,]*[0-9][ \t\r\n,0-9]*")
 # Each with the greatest number that it may have.
 _SEQUENCE_LINES = [
     (_SEQUENCE, 65_535, "the word sequence and the numbers of the jobs"),
@@ -198,6 +209,20 @@ def _first_of_orders(line: bytes) -> str:
     """What the first line of a text has to be that is neither a certificate nor a sequence."""
     numbers = " ".join(line.decode().split()) if _NUMBERS.fullmatch(line) else "3 1 2 .."
     return f"that of a certificate, such as 'flowshop two-ended 1', or the line {shown(f'sequence {numbers}')}"
+
+
+def start_of(text: bytes) -> Tuple[List[int], Optional[int], int]:
+    """The same as `sequence_of` gives, also of a text that has the numbers of the jobs alone, with blanks or commas
+    between them."""
+    if _PLAIN.fullmatch(text):
+        words = (word.lstrip(b"0") or b"0" for word in re.findall(rb"[0-9]+", text))
+        return [int(word[:_DIGITS]) for word in words], None, 1
+    try:
+        return sequence_of(text)
+    except TextError as error:
+        is_none = error.place and not _SEQUENCE.match(text.lstrip(b" \t\r\n"))
+        advice = ", or the numbers of the jobs alone, as '3 1 2 ..'" if is_none else ""
+        raise TextError(error.name, error.place, f"{error}{advice}") from None
 
 
 def sequence_of(text: bytes) -> Tuple[List[int], Optional[int], int]:
@@ -231,7 +256,8 @@ _MISREAD: Dict[str, str] = {
 
 # What to do with a file that is none.
 _CONVERTERS = (
-    "examples/from_csv.awk makes such a file of a table, and examples/from_pairs.awk of pairs of machine and time"
+    "python3 -m flowshop shop makes such a file of a table, and examples/from_pairs.awk in the clone one of pairs of "
+    "machine and time; in Python read_table takes the table itself"
 )
 _SHORT = "a row before is short or missing"
 
@@ -262,9 +288,7 @@ RawBlock = Tuple[int, int, bytes, Optional[Names], Optional[Names], Unit, int, i
 def blocks_of(path: Path, choose: Callable[[int], Collection[int]]) -> Iterator[Tuple[int, RawBlock]]:
     """The blocks of a benchmark text in a file whose numbers are chosen, once it is known how many there are, in the
     order of the text, each with its number. TextError with the first fault of the whole text."""
-    text = _read(path, lambda _: MOST_TEXT)
-    if text is None:
-        raise TextError(_TOO_LONG, 0, _too_long(path, MOST_TEXT, "benchmark text"))
+    text = bytes_of(path, "benchmark text")
     chosen = choose(_count_of_blocks(path, text))
     for number, first, second, piece in _pieces(path, text, chosen):
         jobs, machines, times, seed, upper, lower = _block(piece, 1)

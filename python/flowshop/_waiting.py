@@ -1,4 +1,5 @@
-"""Waiting for a search that runs in a thread of its own, so that it can be stopped."""
+"""Waiting for a search that runs in a thread of its own. At Ctrl-C the wait ends, and _shop.py raises Interrupted with
+the best so far; what the commands do then stands in _command_certify.py and __main__.py."""
 
 import io
 import math
@@ -12,6 +13,7 @@ from dataclasses import dataclass
 from functools import partial
 from typing import Callable, Generic, Iterator, Optional, TextIO, TypeVar, Union
 
+from ._bounded import Bounded
 from ._errors import readable
 from ._stack import Thread
 
@@ -23,7 +25,7 @@ PATIENCE = 0.5
 
 
 @dataclass(frozen=True)
-class Progress:
+class Progress(Bounded):
     """How far `certify` has come: the step, 1 to 8, that docs/manual.md counts; the bounds so far; how many directions
     its searches have written; and how many seconds it has taken.
 
@@ -38,6 +40,15 @@ class Progress:
     upper: int
     directions: int
     seconds: float
+
+    @property
+    def value(self) -> int:
+        """The same as `upper`: the makespan of the best sequence so far.
+
+        >>> Progress(1, 10, 12, 0, 0.5).value
+        12
+        """
+        return self.upper
 
     def __str__(self) -> str:
         """The same in words."""
@@ -97,6 +108,13 @@ def waited(call: Callable[[], _T]) -> _T:
     running.start()
     running.wait()
     return running.result()
+
+
+def waited_for(call: Callable[[], _T], seconds: float) -> Optional[_T]:
+    """The same of a call that is waited for so many seconds. None where it has not ended."""
+    running = Running(call)
+    running.start()
+    return running.result() if running.wait(seconds) else None
 
 
 # What a terminal shows of a line: no more than stands in one row of it, in the place of what stood there.

@@ -82,10 +82,10 @@ parts-size shop (part ∷ parts) each =
     )
 
 -- the parts that a search leaves have no more numbers than are always enough
-pub rest-size : (shop : Shop) (number budget : ℕ) (first last : List ℕ) (text : Vec ℕ) (parts : Vec Part) →
-    IsAdvanced shop number budget first last (Rest text parts) →
+pub rest-size : (shop : Shop) (threshold budget : ℕ) (first last : List ℕ) (text : Vec ℕ) (parts : Vec Part) →
+    IsAdvanced shop threshold budget first last (Rest text parts) →
     length (flat_map numbers_of parts.items) ≤ most_rest shop.jobs
-rest-size shop number budget first last text parts is =
+rest-size shop threshold budget first last text parts is =
     let few : length parts.items ≤ shop.jobs = omega (
       arith,
       is.4,

@@ -143,7 +143,7 @@ length-with around directions enough =
       length-drop end around,
     )
 
--- a number that directions prove is at most the makespan of each sequence
+-- a threshold that directions prove is at most the makespan of each sequence
 lower-low : (shop : Shop) (number : ℕ) (sequence directions : List ℕ) → Proves shop number directions →
     IsSequence shop.jobs sequence → number ≤ span shop sequence
 lower-low shop number sequence directions proves is = proved_is_lower_bound shop number directions proves sequence is

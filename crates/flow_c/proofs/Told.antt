@@ -40,56 +40,56 @@ short-part shop limits (Children first last end jobs) is =
     (omega (arith, all, limits.jobs), omega (arith, all, limits.jobs), omega (arith, own, limits.jobs))
 
 -- and so are those of the parts that a search leaves
-pub leaves-short : (shop : Shop) (number budget : ℕ) (first last : List ℕ) → IsWithinLimits shop →
-    (advanced : Advanced) → IsAdvanced shop number budget first last advanced → LeavesShort advanced
-leaves-short shop number budget first last limits (Proved text) is = tt
-leaves-short shop number budget first last limits (Below sequence makespan text) is = tt
-leaves-short shop number budget first last limits (Rest text parts) is =
+pub leaves-short : (shop : Shop) (threshold budget : ℕ) (first last : List ℕ) → IsWithinLimits shop →
+    (advanced : Advanced) → IsAdvanced shop threshold budget first last advanced → LeavesShort advanced
+leaves-short shop threshold budget first last limits (Proved text) is = tt
+leaves-short shop threshold budget first last limits (Below sequence makespan text) is = tt
+leaves-short shop threshold budget first last limits (Rest text parts) is =
     All-weaker (IsPart shop) IsShort (short-part shop limits) parts.items is.3
 
-module _ (shop : Shop) (number budget : ℕ) (first last : List ℕ) (are : AreJobs shop.jobs (first ++ last)) where
+module _ (shop : Shop) (threshold budget : ℕ) (first last : List ℕ) (are : AreJobs shop.jobs (first ++ last)) where
   -- a sequence that is reached has each job of the instance
   pub sequence-whole : (sequence : List ℕ) (makespan : ℕ) (text : Vec ℕ) →
-      IsAdvanced shop number budget first last (Below sequence makespan text) → length sequence ≡ shop.jobs
+      IsAdvanced shop threshold budget first last (Below sequence makespan text) → length sequence ≡ shop.jobs
   sequence-whole sequence makespan text is =
-      (found-shows shop number budget first last (found.Below sequence makespan (length text.items)) are is.0).0.2.whole
+      (found-shows shop threshold budget first last (found.Below sequence makespan (length text.items)) are is.0).0.2.whole
 
   -- it has room
-  pub sequence-fits : (advanced : Advanced) → IsAdvanced shop number budget first last advanced →
+  pub sequence-fits : (advanced : Advanced) → IsAdvanced shop threshold budget first last advanced →
       length (sequence_of advanced) ≤ shop.jobs
   sequence-fits (Proved text) is = omega arith
   sequence-fits (Below sequence makespan text) is = omega (arith, sequence-whole sequence makespan text is)
   sequence-fits (Rest text parts) is = omega arith
 
-  -- directions that are told to prove the number do so
-  pub proved-shown : (advanced : Advanced) → IsAdvanced shop number budget first last advanced →
+  -- directions that are told to prove the threshold do so
+  pub proved-shown : (advanced : Advanced) → IsAdvanced shop threshold budget first last advanced →
       (told_as makespan : ℕ) (jobs directions rest : List ℕ) → IsTold advanced told_as jobs makespan directions rest →
-      told_as ≡ proved → ProvesFrom shop number first last directions
+      told_as ≡ proved → ProvesFrom shop threshold first last directions
   proved-shown (Proved text) is told_as makespan jobs directions rest told same =
-      subst (ProvesFrom shop number first last) (sym told.2)
-      (found-shows shop number budget first last (found.Proved text) are is)
+      subst (ProvesFrom shop threshold first last) (sym told.2)
+      (found-shows shop threshold budget first last (found.Proved text) are is)
   proved-shown (Below sequence value text) is told_as makespan jobs directions rest told same =
       absurd (omega (arith, told.0, same))
   proved-shown (Rest text parts) is told_as makespan jobs directions rest told same =
       absurd (omega (arith, told.0, same))
 
--- what is told of a sequence that is below the number is so
-pub below-shown : (shop : Shop) (number budget : ℕ) (node : NodeLists) →
+-- what is told of a sequence that is below the threshold is so
+pub below-shown : (shop : Shop) (threshold budget : ℕ) (node : NodeLists) →
     AreJobs shop.jobs (node.first.now ++ node.last.now) →
-    (advanced : Advanced) → IsAdvanced shop number budget node.first.now node.last.now advanced →
+    (advanced : Advanced) → IsAdvanced shop threshold budget node.first.now node.last.now advanced →
     (told_as makespan : ℕ) (jobs directions rest : List ℕ) → IsTold advanced told_as jobs makespan directions rest →
-    told_as ≡ below → IsBelow shop number node (take shop.jobs jobs) makespan
-below-shown shop number budget node are (Proved text) is told_as makespan jobs directions rest told same =
+    told_as ≡ below → IsBelow shop threshold node (take shop.jobs jobs) makespan
+below-shown shop threshold budget node are (Proved text) is told_as makespan jobs directions rest told same =
     absurd (omega (arith, told.0, same))
-below-shown shop number budget node are (Rest text parts) is told_as makespan jobs directions rest told same =
+below-shown shop threshold budget node are (Rest text parts) is told_as makespan jobs directions rest told same =
     absurd (omega (arith, told.0, same))
-below-shown shop number budget node are (Below sequence value text) is told_as makespan jobs directions rest told same =
-    let whole = sequence-whole shop number budget node.first.now node.last.now are sequence value text is in
+below-shown shop threshold budget node are (Below sequence value text) is told_as makespan jobs directions rest told same =
+    let whole = sequence-whole shop threshold budget node.first.now node.last.now are sequence value text is in
     let taken : sequence ≡ take shop.jobs jobs = sym told.4 ∙ ap (λ n. take n jobs) whole in
-    let shown = found-shows shop number budget node.first.now node.last.now
+    let shown = found-shows shop threshold budget node.first.now node.last.now
     (found.Below sequence value (length text.items)) are is.0 in
-    subst (λ xs. IsBelow shop number node xs makespan) taken
-    (subst (IsBelow shop number node sequence) (sym told.1) shown)
+    subst (λ xs. IsBelow shop threshold node xs makespan) taken
+    (subst (IsBelow shop threshold node sequence) (sym told.1) shown)
 
 -- the sequence that is told stays as it was where it is put in room
 pub told-in-room : (advanced : Advanced) (told_as makespan : ℕ) (jobs directions rest room : List ℕ) →
@@ -101,28 +101,28 @@ told-in-room (Below sequence value text) told_as makespan jobs directions rest r
 told-in-room (Rest text parts) told_as makespan jobs directions rest room told same put = told
 
 -- parts that have no room are left
-pub rest-too-long : (shop : Shop) (number budget : ℕ) (node : NodeLists) (entries : ℕ) (fault : Fault)
-    (advanced : Advanced) → IsAdvanced shop number budget node.first.now node.last.now advanced →
+pub rest-too-long : (shop : Shop) (threshold budget : ℕ) (node : NodeLists) (entries : ℕ) (fault : Fault)
+    (advanced : Advanced) → IsAdvanced shop threshold budget node.first.now node.last.now advanced →
     (told_as makespan : ℕ) (jobs directions rest : List ℕ) → IsTold advanced told_as jobs makespan directions rest →
-    (fault ≡ Room (length rest)) × (entries < length rest) → IsRestTooLong shop number budget node entries fault
-rest-too-long shop number budget node entries fault (Proved text) is told_as makespan jobs directions rest told long =
+    (fault ≡ Room (length rest)) × (entries < length rest) → IsRestTooLong shop threshold budget node entries fault
+rest-too-long shop threshold budget node entries fault (Proved text) is told_as makespan jobs directions rest told long =
     absurd (omega (arith, long.1, ap length told.3))
-rest-too-long shop number budget node entries fault (Below sequence value text) is told_as makespan jobs directions
+rest-too-long shop threshold budget node entries fault (Below sequence value text) is told_as makespan jobs directions
     rest told long = absurd (omega (arith, long.1, ap length told.3))
-rest-too-long shop number budget node entries fault (Rest text parts) is told_as makespan jobs directions rest told
+rest-too-long shop threshold budget node entries fault (Rest text parts) is told_as makespan jobs directions rest told
     long = (
       text,
       parts,
       is,
       long.0 ∙ ap (λ xs. Room (length xs)) told.3,
       subst (λ xs. entries < length xs) told.3 long.1,
-      rest-size shop number budget node.first.now node.last.now text parts is,
+      rest-size shop threshold budget node.first.now node.last.now text parts is,
     )
 
 -- with so many entries none is left without room
-pub never-too-long : (shop : Shop) (number budget : ℕ) (node : NodeLists) (entries : ℕ) (fault : Fault) →
-    IsRestTooLong shop number budget node entries fault → most_rest shop.jobs ≤ entries → ⊥
-never-too-long shop number budget node entries fault long many = omega (arith, long.4, long.5, many)
+pub never-too-long : (shop : Shop) (threshold budget : ℕ) (node : NodeLists) (entries : ℕ) (fault : Fault) →
+    IsRestTooLong shop threshold budget node entries fault → most_rest shop.jobs ≤ entries → ⊥
+never-too-long shop threshold budget node entries fault long many = omega (arith, long.4, long.5, many)
 
 -- a list that is put at the front of room, or nothing, leaves what stands behind it
 pub kept-behind : (n : ℕ) (jobs old new : List ℕ) → (jobs ≡ []) ⊎ (length jobs ≡ n) →
@@ -131,28 +131,28 @@ kept-behind n jobs old new (inl none) kept =
     ap (drop n) (subst (λ xs. drop (length xs) new ≡ drop (length xs) old) none kept)
 kept-behind n jobs old new (inr whole) kept = subst (λ k. drop k new ≡ drop k old) whole kept
 
-module _ (shop : Shop) (number budget : ℕ) (node : NodeLists)
+module _ (shop : Shop) (threshold budget : ℕ) (node : NodeLists)
     (are : AreJobs shop.jobs (node.first.now ++ node.last.now)) where
   -- what is told has room
-  pub come-fits : (told : Searched) → IsComeTo shop number budget node told → length told.sequence.items ≤ shop.jobs
+  pub come-fits : (told : Searched) → IsComeTo shop threshold budget node told → length told.sequence.items ≤ shop.jobs
   come-fits told (advanced, is, (by, same)) =
       subst (λ xs. length xs ≤ shop.jobs) (sym same)
-      (sequence-fits shop number budget node.first.now node.last.now are advanced is)
+      (sequence-fits shop threshold budget node.first.now node.last.now are advanced is)
 
   -- it has no sequence, or a whole one
-  pub come-whole : (told : Searched) → IsComeTo shop number budget node told →
+  pub come-whole : (told : Searched) → IsComeTo shop threshold budget node told →
       (told.sequence.items ≡ []) ⊎ (length told.sequence.items ≡ shop.jobs)
   come-whole told (Proved text, is, (by, same)) = inl same
   come-whole told (Below sequence makespan text, is, (by, same)) =
       inr (ap length same
-      ∙ sequence-whole shop number budget node.first.now node.last.now are sequence makespan text is)
+      ∙ sequence-whole shop threshold budget node.first.now node.last.now are sequence makespan text is)
   come-whole told (Rest text parts, is, (by, same)) = inl same
 
   -- where the sequence is put in room, and these are the directions and the numbers of the parts, it is told so
-  pub come-searched : (told : Searched) (room directions rest : List ℕ) → IsComeTo shop number budget node told →
+  pub come-searched : (told : Searched) (room directions rest : List ℕ) → IsComeTo shop threshold budget node told →
       take (length told.sequence.items) room ≡ told.sequence.items → directions ≡ told.directions.items →
       rest ≡ told.rest.items →
-      IsSearched shop number budget node told.found room told.makespan directions rest
+      IsSearched shop threshold budget node told.found room told.makespan directions rest
   come-searched told room directions rest (advanced, is, (by, same)) put one two = (
     advanced,
     is,
@@ -162,32 +162,32 @@ module _ (shop : Shop) (number budget : ℕ) (node : NodeLists)
         by same put)),
   )
 
-  -- its directions prove the number where it says so
-  pub come-proved : (told : Searched) (directions : List ℕ) → IsComeTo shop number budget node told →
+  -- its directions prove the threshold where it says so
+  pub come-proved : (told : Searched) (directions : List ℕ) → IsComeTo shop threshold budget node told →
       directions ≡ told.directions.items → told.found ≡ proved →
-      ProvesFrom shop number node.first.now node.last.now directions
+      ProvesFrom shop threshold node.first.now node.last.now directions
   come-proved told directions (advanced, is, (by, same)) one says =
-      subst (ProvesFrom shop number node.first.now node.last.now) (sym one)
-      (proved-shown shop number budget node.first.now node.last.now are advanced is told.found told.makespan
+      subst (ProvesFrom shop threshold node.first.now node.last.now) (sym one)
+      (proved-shown shop threshold budget node.first.now node.last.now are advanced is told.found told.makespan
       told.sequence.items told.directions.items told.rest.items by says)
 
-  -- its sequence is below the number where it says so
-  pub come-below : (told : Searched) (room : List ℕ) → IsComeTo shop number budget node told →
+  -- its sequence is below the threshold where it says so
+  pub come-below : (told : Searched) (room : List ℕ) → IsComeTo shop threshold budget node told →
       take (length told.sequence.items) room ≡ told.sequence.items → told.found ≡ below →
-      IsBelow shop number node (take shop.jobs room) told.makespan
+      IsBelow shop threshold node (take shop.jobs room) told.makespan
   come-below told room (advanced, is, (by, same)) put says =
-      below-shown shop number budget node are advanced is told.found told.makespan room told.directions.items
+      below-shown shop threshold budget node are advanced is told.found told.makespan room told.directions.items
       told.rest.items
       (told-in-room advanced told.found told.makespan told.sequence.items told.directions.items told.rest.items room by
       same put) says
 
 -- parts that have no room are left
-pub come-too-long : (shop : Shop) (number budget : ℕ) (node : NodeLists) (entries : ℕ) (fault : Fault)
-    (advanced : Advanced) (told : Searched) → IsAdvanced shop number budget node.first.now node.last.now advanced →
+pub come-too-long : (shop : Shop) (threshold budget : ℕ) (node : NodeLists) (entries : ℕ) (fault : Fault)
+    (advanced : Advanced) (told : Searched) → IsAdvanced shop threshold budget node.first.now node.last.now advanced →
     IsToldBy advanced told → (fault ≡ Room (length told.rest.items)) × (entries < length told.rest.items) →
-    IsRestTooLong shop number budget node entries fault
-come-too-long shop number budget node entries fault advanced told is (by, same) long =
-    rest-too-long shop number budget node entries fault advanced is told.found told.makespan told.sequence.items
+    IsRestTooLong shop threshold budget node entries fault
+come-too-long shop threshold budget node entries fault advanced told is (by, same) long =
+    rest-too-long shop threshold budget node entries fault advanced is told.found told.makespan told.sequence.items
     told.directions.items told.rest.items by long
 
 -- the arguments of a search have no fault

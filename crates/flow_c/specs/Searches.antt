@@ -20,11 +20,11 @@ use Rattle.flow_c.specs.declared.node.NodeLists.{NodeLists}
 use Rattle.flow_c.specs.declared.fault.Fault.{Fault}
 use Rattle.flow_c.specs.declared.fault.Fault.TheVariants.{Room, Instance, Sequence}
 
--- the directions prove the number
+-- the directions prove the threshold
 abbrev pub proved : ℕ
 proved = 1
 
--- a sequence is below the number
+-- a sequence is below the threshold
 abbrev pub below : ℕ
 below = 2
 
@@ -59,14 +59,14 @@ IsTold (Rest text parts) found jobs makespan directions rest =
 
 -- a search of a node with a budget came to what is told so
 abbrev pub IsSearched : Shop → ℕ → ℕ → NodeLists → ℕ → List ℕ → ℕ → List ℕ → List ℕ → Type 0
-IsSearched shop number budget node found jobs makespan directions rest =
-    (advanced : Advanced) × IsAdvanced shop number budget node.first.now node.last.now advanced
+IsSearched shop threshold budget node found jobs makespan directions rest =
+    (advanced : Advanced) × IsAdvanced shop threshold budget node.first.now node.last.now advanced
     × IsTold advanced found jobs makespan directions rest
 
--- a sequence of a node has this makespan, and it is below a number
+-- a sequence of a node has this makespan, and it is below a threshold
 abbrev pub IsBelow : Shop → ℕ → NodeLists → List ℕ → ℕ → Type 0
-IsBelow shop number node sequence makespan =
-    IsOfNode shop node.first.now node.last.now sequence × (span shop sequence ≡ makespan) × (makespan < number)
+IsBelow shop threshold node sequence makespan =
+    IsOfNode shop node.first.now node.last.now sequence × (span shop sequence ≡ makespan) × (makespan < threshold)
 
 -- why nothing is searched: the numbers are no instance, the lists no node of it, or a sequence has no room
 abbrev pub prove_fault : ShopNumbers → NodeLists → ℕ → Option Fault
@@ -83,7 +83,8 @@ most_rest jobs = jobs * (jobs + 4)
 -- a search leaves parts, and there are fewer entries than they have numbers; the fault says how many they have, which
 -- is no more than are always enough
 abbrev pub IsRestTooLong : Shop → ℕ → ℕ → NodeLists → ℕ → Fault → Type 0
-IsRestTooLong shop number budget node entries fault =
-    (text : Vec ℕ) × (parts : Vec Part) × IsAdvanced shop number budget node.first.now node.last.now (Rest text parts)
+IsRestTooLong shop threshold budget node entries fault =
+    (text : Vec ℕ) × (parts : Vec Part)
+    × IsAdvanced shop threshold budget node.first.now node.last.now (Rest text parts)
     × (fault ≡ Room (length (flat_map numbers_of parts.items))) × (entries < length (flat_map numbers_of parts.items))
     × (length (flat_map numbers_of parts.items) ≤ most_rest shop.jobs)

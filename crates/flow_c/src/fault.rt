@@ -1,4 +1,4 @@
-//! Why a call refused, and the numbers by which C knows it.
+//! Why a call refused, and the number of its status, which specs/Statuses.antt defines.
 
 ghost use Rattle.std.specs.Prelude.{◌≡◌};
 ghost use Rattle.flow_c.specs.Statuses.{number};

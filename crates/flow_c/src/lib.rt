@@ -1,6 +1,31 @@
 //! The calls for C: a static library over the crates of the shop, the starting sequence, the search and the checker.
 //! Each function takes numbers, slices and records of these, writes its results to records that the caller lends, and
 //! returns its outcome. What a Rust caller proves of its arguments is tested here.
+//!
+//! - `shop.rt`: the numbers of a shop, as a caller lends them.
+//! - `room.rt`: slices that the caller lends for results.
+//! - `outcome.rt`: the outcome of a call.
+//! - `fault.rt`: why a call refused, and the numbers by which C knows it.
+//! - `text.rt`: texts: one that is written, and one in room that a caller lends.
+//! - `reached.rt`: a sequence that a search reached, in lent room.
+//! - `bounds.rt`: a sequence and bounds, in lent room.
+//! - `effort.rt`: how much a search may do, as a caller says it.
+//! - `node.rt`: the lists of a node, as a caller lends them.
+//! - `part.rt`: parts of a search, as numbers.
+//! - `version.rt`: `flowshop_version`.
+//! - `generate.rt`: `flowshop_generate`.
+//! - `block.rt`: `flowshop_block`.
+//! - `makespan.rt`: `flowshop_makespan`.
+//! - `timetable.rt`: `flowshop_timetable`.
+//! - `picture.rt`: `flowshop_picture`.
+//! - `neh.rt`: `flowshop_neh`.
+//! - `improve.rt`: `flowshop_improve`.
+//! - `beam.rt`: `flowshop_beam`.
+//! - `rounds.rt`: `flowshop_rounds`.
+//! - `solve.rt`: `flowshop_solve`.
+//! - `certify.rt`: `flowshop_certify`.
+//! - `prove.rt`: `flowshop_prove`.
+//! - `check.rt`: `flowshop_check`.
 #![tactic(auto)]
 
 mod beam;

@@ -22,10 +22,10 @@ use flow_directions::{Advanced, advance};
 use flow_shop::Instance;
 use std::alloc::{AllocError, Global};
 
-/// The directions prove the number.
+/// The directions prove the threshold.
 const PROVED: u32 = 1;
 
-/// A sequence is below the number.
+/// A sequence is below the threshold.
 const BELOW: u32 = 2;
 
 /// There are more directions than there is room for.
@@ -99,19 +99,19 @@ fn search(
     alloc: Global,
     instance: &Instance,
     node: &NodeLists,
-    number: u64,
+    threshold: u64,
     budget: u64,
     room: usize,
 ) -> Result<Searched, Fault>
     requires limits { IsWithinLimits instance.now }
     requires jobs { AreJobs instance.now.jobs (node.now.first.now ++ node.now.last.now) }
-    ensures found { IfOk result (IsComeTo instance.now number budget node.now) }
+    ensures found { IfOk result (IsComeTo instance.now threshold budget node.now) }
     ensures enough { IfOk result (λ found. length found.rest.items ≤ room) }
     ensures refused { IfErr result (λ fault. (statuses.number fault ≡ memory)
-        ⊎ IsRestTooLong instance.now number budget node.now room fault) }
+        ⊎ IsRestTooLong instance.now threshold budget node.now room fault) }
 {
     let &NodeLists { first, last } = node;
-    match advance(alloc, instance, first, last, number, budget) {
+    match advance(alloc, instance, first, last, threshold, budget) {
         Ok(advanced) => {
             let found = told(alloc, advanced)?;
             need(found.rest.len(), room)?;
@@ -127,10 +127,10 @@ fn search_numbers(
     alloc: Global,
     shop: &ShopNumbers,
     node: &NodeLists,
-    number: u64,
+    threshold: u64,
     part: &PartRooms,
 ) -> Result<Searched, Fault>
-    ensures found { IfOk result (IsComeTo (shop_of shop.now) number (length part.now.directions.now) node.now) }
+    ensures found { IfOk result (IsComeTo (shop_of shop.now) threshold (length part.now.directions.now) node.now) }
     ensures jobs { OnOk result (AreJobs shop.now.jobs (node.now.first.now ++ node.now.last.now)) }
     ensures room { OnOk result (shop.now.jobs ≤ length part.now.sequence.now) }
     ensures enough { IfOk result (λ found. length found.rest.items ≤ length part.now.rest.now) }
@@ -138,7 +138,8 @@ fn search_numbers(
     ensures refused { IfErr result (λ fault. (statuses.number fault ≡ memory)
         ⊎ (prove_fault shop.now node.now (length part.now.sequence.now) ≡ Some fault)
         ⊎ ((prove_fault shop.now node.now (length part.now.sequence.now) ≡ None)
-        × IsRestTooLong (shop_of shop.now) number (length part.now.directions.now) node.now (length part.now.rest.now)
+        × IsRestTooLong (shop_of shop.now) threshold (length part.now.directions.now) node.now
+        (length part.now.rest.now)
         fault)) }
     ensures memory { IfErr result (λ fault. statuses.number fault ≡ memory → numbers_fault shop.now ≡ None) }
 {
@@ -149,39 +150,40 @@ fn search_numbers(
         alloc,
         &instance,
         node,
-        number,
+        threshold,
         part.directions.len() as u64,
         part.rest.len(),
     )
 }
 
-/// A part of a search for directions that prove that no sequence of a node has a makespan below a number: it may write
-/// as many as there is room for. The directions become the first entries of `directions`. Where there are more of them,
-/// the parts with which the search goes on become, as numbers, the first entries of `rest`. A sequence below the number
-/// becomes the first entries of `sequence`.
+/// A part of a search for directions that prove that no sequence of a node has a makespan below a threshold: it may
+/// write as many as there is room for. The directions become the first entries of `directions`. Where there are more of
+/// them, the parts with which the search goes on become, as numbers, the first entries of `rest`. A sequence below the
+/// threshold becomes the first entries of `sequence`.
 #[unsafe(no_mangle)]
 pub extern "C" fn flowshop_prove(
     alloc: Global,
     shop: &ShopNumbers,
     node: &NodeLists,
-    number: u64,
+    threshold: u64,
     part: &mut PartRooms,
 ) -> Outcome
     ensures status { ReportsCheck (prove_fault shop.now node.now (length part.old.sequence.now))
-        (IsRestTooLong (shop_of shop.now) number (length part.old.directions.now) node.now (length part.old.rest.now))
+        (IsRestTooLong (shop_of shop.now) threshold (length part.old.directions.now) node.now
+        (length part.old.rest.now))
         result }
     ensures enough { prove_fault shop.now node.now (length part.old.sequence.now) ≡ None →
         most_rest shop.now.jobs ≤ length part.old.rest.now → (result.status ≡ done) ⊎ (result.status ≡ memory) }
     ensures memory { result.status ≡ memory → numbers_fault shop.now ≡ None }
     ensures searched { result.status ≡ done →
-        IsSearched (shop_of shop.now) number (length part.old.directions.now) node.now
+        IsSearched (shop_of shop.now) threshold (length part.old.directions.now) node.now
         part.new.found part.new.sequence.now part.new.makespan
         (take part.new.directions_length part.new.directions.now) (take part.new.rest_length part.new.rest.now) }
     ensures proved { result.status ≡ done → part.new.found ≡ proved →
-        ProvesFrom (shop_of shop.now) number node.now.first.now node.now.last.now
+        ProvesFrom (shop_of shop.now) threshold node.now.first.now node.now.last.now
         (take part.new.directions_length part.new.directions.now) }
     ensures below { result.status ≡ done → part.new.found ≡ below →
-        IsBelow (shop_of shop.now) number node.now (take shop.now.jobs part.new.sequence.now) part.new.makespan }
+        IsBelow (shop_of shop.now) threshold node.now (take shop.now.jobs part.new.sequence.now) part.new.makespan }
     ensures none { result.status ≡ done →
         (part.new.found ≡ below) ⊎ (part.new.sequence.now ≡ part.old.sequence.now) }
     ensures within { result.status ≡ done → (part.new.directions_length ≤ length part.old.directions.now)
@@ -195,7 +197,7 @@ pub extern "C" fn flowshop_prove(
     ensures stays { result.status ≡ done → result.place ≡ 0 }
     ensures kept { (result.status ≡ done) ⊎ (part.new ≡ part.old) }
 {
-    match search_numbers(alloc, shop, node, number, part) {
+    match search_numbers(alloc, shop, node, threshold, part) {
         Ok(found) => {
             fill(found.sequence.as_slice(), part.sequence);
             fill(found.directions.as_slice(), part.directions);

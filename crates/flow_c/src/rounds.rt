@@ -11,7 +11,7 @@ use crate::outcome::Outcome;
 use crate::reached::ReachedRoom;
 use crate::room::need;
 use crate::shop::ShopNumbers;
-use flow_improve::{Reached, RunLimits, rounds_from};
+use flow_improve::{Never, Reached, RunLimits, rounds_from};
 use flow_shop::Sequence;
 use std::alloc::Global;
 
@@ -41,7 +41,7 @@ fn rounds_of(
     let start = Sequence::new(alloc, &instance, start)?;
     let limits = RunLimits::new(options.rounds, options.seed, options.steps)?;
     need(shop.jobs as usize, entries)?;
-    Ok(rounds_from(alloc, &instance, &start, &limits)?)
+    Ok(rounds_from(alloc, &instance, &start, &limits, &Never)?)
 }
 
 /// The best sequence of rounds of iterated greedy search, its makespan, which is at most that of the starting sequence,

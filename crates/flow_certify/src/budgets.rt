@@ -32,7 +32,7 @@ pub(crate) struct Fund {
     /// How many are kept for the last searches.
     kept: u64,
     /// What a search costs beside its directions, as so many of them. On the first way down, where most children are
-    /// below the number, looking ahead takes longer the more jobs are left.
+    /// below the threshold, looking ahead takes longer the more jobs are left.
     entry: u64,
 }
 

@@ -130,64 +130,68 @@ impl Searches {
         self.over = None;
     }
 
-    /// Takes directions that prove a number.
-    fn hold(&mut self, number: u64, directions: Vec<u8>)
+    /// Takes directions that prove a threshold.
+    fn hold(&mut self, threshold: u64, directions: Vec<u8>)
         requires few { length directions.items ≤ self.old.fund.most }
-        requires no_less { self.old.known.lower ≤ number }
-        ensures later { (shop : Shop) → AreSearches shop self.old → Proves shop number directions.items →
+        requires no_less { self.old.known.lower ≤ threshold }
+        ensures later { (shop : Shop) → AreSearches shop self.old → Proves shop threshold directions.items →
             AreLater shop self.old self.new }
-        ensures lower { self.new.known.lower ≡ number }
+        ensures lower { self.new.known.lower ≡ threshold }
         ensures upper { self.new.known.upper ≡ self.old.known.upper }
     {
         self.fund.spend(directions.len() as u64);
-        self.known.lower = number;
+        self.known.lower = threshold;
         self.known.directions = directions;
     }
 
-    /// Notes that the search below a number was over with a budget.
-    fn note_over(&mut self, number: u64, budget: u64)
+    /// Notes that the search below a threshold was over with a budget.
+    fn note_over(&mut self, threshold: u64, budget: u64)
         ensures known { self.new.known ≡ self.old.known }
         ensures most { self.new.fund.most ≡ self.old.fund.most }
-        ensures over { self.new.over ≡ cond (nat_eq number self.old.known.upper) (Some budget) self.old.over }
+        ensures over { self.new.over ≡ cond (nat_eq threshold self.old.known.upper) (Some budget) self.old.over }
     {
         self.fund.spend(budget);
-        if number == self.known.upper {
+        if threshold == self.known.upper {
             self.over = Some(budget);
         }
     }
 
-    /// Whether the search below a number is known to be over with a budget.
-    fn is_over(&self, number: u64, budget: u64) -> bool
-        ensures { IsTrue result ↔ ((number ≡ self.now.known.upper) × IsSomeAnd self.now.over (λ over. budget ≤ over)) }
+    /// Whether the search below a threshold is known to be over with a budget.
+    fn is_over(&self, threshold: u64, budget: u64) -> bool
+        ensures { IsTrue result ↔ ((threshold ≡ self.now.known.upper) × IsSomeAnd self.now.over (λ over. budget ≤ over)) }
     {
-        number == self.known.upper && self.over.is_some_and(|over| budget <= over)
+        threshold == self.known.upper && self.over.is_some_and(|over| budget <= over)
     }
 
-    /// Searches below a number with a budget, and keeps what it finds. Returns whether the search is over.
+    /// Searches below a threshold with a budget, and keeps what it finds. Returns whether the search is over its
+    /// budget, or the time is over.
     fn search<P: Prover>(
         &mut self,
         shared: &Shared<P>,
-        number: u64,
+        threshold: u64,
         budget: u64,
     ) -> Result<bool, AllocError>
         requires ready { P.is_ready shared.now.prover.now }
         requires searches { AreSearches shared.now.instance.now self.old }
-        requires from { self.old.known.lower ≤ number }
-        requires to { number ≤ self.old.known.upper }
+        requires from { self.old.known.lower ≤ threshold }
+        requires to { threshold ≤ self.old.known.upper }
         ensures later { AreLater shared.now.instance.now self.old self.new }
-        ensures searched { IfOk result (IsSearched number self.old self.new) }
+        ensures searched { IfOk result (IsSearched threshold self.old self.new) }
     {
         let budget = self.fund.granted(budget);
-        if self.is_over(number, budget) {
+        if self.is_over(threshold, budget) {
             return Ok(true);
         }
         self.tell(shared);
-        match shared
+        let found = shared
             .prover
-            .prove(shared.alloc, shared.instance, number, budget)?
-        {
+            .prove(shared.alloc, shared.instance, threshold, budget)?;
+        let Some(found) = found else {
+            return Ok(true);
+        };
+        match found {
             Found::Proved(directions) => {
-                self.hold(number, directions);
+                self.hold(threshold, directions);
                 Ok(false)
             }
             Found::Below {
@@ -200,7 +204,7 @@ impl Searches {
                 Ok(false)
             }
             Found::Over => {
-                self.note_over(number, budget);
+                self.note_over(threshold, budget);
                 Ok(true)
             }
         }
@@ -280,9 +284,9 @@ impl Searches {
         let mut step = 1u64;
         let mut top = self.known.upper.saturating_add(1);
         'raised: while top.saturating_sub(self.known.lower) > 1 {
-            let number = self.known.lower + step.min((top - self.known.lower) / 2);
-            if self.search(shared, number, budget)? {
-                top = number;
+            let threshold = self.known.lower + step.min((top - self.known.lower) / 2);
+            if self.search(shared, threshold, budget)? {
+                top = threshold;
             } else {
                 step = step.saturating_mul(2);
                 top = top.min(self.known.upper.saturating_add(1));

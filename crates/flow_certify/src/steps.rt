@@ -16,7 +16,7 @@ use crate::searches::Searches;
 use crate::shared::Shared;
 use flow_bound::taillard_bound;
 use flow_directions::{News, Prover};
-use flow_improve::{Effort, Reached, beam, beam_below, rounds_of_both};
+use flow_improve::{BeamLimits, Effort, Reached, beam_until, rounds_of_both};
 use flow_limits::MAX_WIDTH;
 use flow_shop::{Instance, Sequence};
 use std::alloc::{AllocError, Global};
@@ -28,7 +28,8 @@ const NARROW_WIDTH: u32 = 16;
 const AIMED_SHARE: u64 = 4;
 
 /// Searches from the start, and from the best of a narrow beam, with small budgets; and then further. Where no better
-/// sequence exists, the greatest budget is used at once.
+/// sequence exists, the greatest budget is used at once. Where the time is limited, the proved number is raised a
+/// little before the beams, and more before the longest search, since the run may end before its step.
 fn prove_best<P: Prover>(
     shared: &Shared<P>,
     start: &Sequence,
@@ -45,21 +46,17 @@ fn prove_best<P: Prover>(
     if searches.try_budgets(shared, &SMALL, whole)? {
         return Ok(());
     }
+    if shared.prover.is_limited() {
+        searches.raise(shared, SMALL[0])?;
+    }
     searches.begin(shared, 2);
-    let width = effort.width().min(NARROW_WIDTH);
-    let narrow = beam(
-        shared.alloc,
-        shared.instance,
-        start,
-        width,
-        effort.beam_work(),
-    )?;
+    let narrow = beam_of(shared, start, effort.width().min(NARROW_WIDTH), effort)?;
     searches.take(shared.alloc, &narrow)?;
     if searches.try_budgets(shared, &SMALL, narrow.whole)? {
         return Ok(());
     }
     searches.begin(shared, 3);
-    let beamed = widened(shared.alloc, shared.instance, start, narrow, effort)?;
+    let beamed = widened(shared, start, narrow, effort)?;
     prove_on(shared, start, effort, &beamed, searches)
 }
 
@@ -84,30 +81,70 @@ fn prove_on<P: Prover>(
     }
     searches.begin(shared, 4);
     let best = searches.best(shared.alloc)?;
-    let best = rounds_of_both(shared.alloc, shared.instance, start, &best, effort)?;
+    let best = rounds_of_both(shared.alloc, shared.instance, start, &best, effort, shared)?;
     searches.take(shared.alloc, &best)?;
     searches.prove_with(shared, &MIDDLE)?;
+    if shared.prover.is_limited() {
+        searches.raise(shared, SMALL[1])?;
+    }
     searches.prove_upper(shared, searches.fund.large())
 }
 
+/// What a beam of a width reaches.
+fn beam_of<P: Prover>(
+    shared: &Shared<P>,
+    start: &Sequence,
+    width: u32,
+    effort: &Effort,
+) -> Result<Reached, AllocError>
+    requires start { length start.now ≡ shared.now.instance.now.jobs }
+    ensures sequence { IfOk result (λ reached. IsSequence shared.now.instance.now.jobs reached.sequence) }
+    ensures value { IfOk result (λ reached. reached.value ≡ span shared.now.instance.now reached.sequence) }
+{
+    let limits = BeamLimits {
+        below: None,
+        width,
+        work: effort.beam_work(),
+    };
+    beam_until(shared.alloc, shared.instance, start, limits, shared)
+}
+
 /// What the whole beam reaches: what the narrow one did, where it is no wider.
-fn widened(
-    alloc: Global,
-    instance: &Instance,
+fn widened<P: Prover>(
+    shared: &Shared<P>,
     start: &Sequence,
     narrow: Reached,
     effort: &Effort,
 ) -> Result<Reached, AllocError>
-    requires start { length start.now ≡ instance.now.jobs }
-    requires sequence { IsSequence instance.now.jobs narrow.sequence }
-    requires value { narrow.value ≡ span instance.now narrow.sequence }
-    ensures sequence { IfOk result (λ reached. IsSequence instance.now.jobs reached.sequence) }
-    ensures value { IfOk result (λ reached. reached.value ≡ span instance.now reached.sequence) }
+    requires start { length start.now ≡ shared.now.instance.now.jobs }
+    requires sequence { IsSequence shared.now.instance.now.jobs narrow.sequence }
+    requires value { narrow.value ≡ span shared.now.instance.now narrow.sequence }
+    ensures sequence { IfOk result (λ reached. IsSequence shared.now.instance.now.jobs reached.sequence) }
+    ensures value { IfOk result (λ reached. reached.value ≡ span shared.now.instance.now reached.sequence) }
 {
     if effort.width() <= NARROW_WIDTH {
         return Ok(narrow);
     }
-    beam(alloc, instance, start, effort.width(), effort.beam_work())
+    beam_of(shared, start, effort.width(), effort)
+}
+
+/// What a beam reaches that is aimed at a threshold, from the best sequence so far.
+fn aimed_beam<P: Prover>(
+    shared: &Shared<P>,
+    searches: &Searches,
+    limits: BeamLimits,
+) -> Result<Reached, AllocError>
+    requires { AreSearches shared.now.instance.now searches.now }
+    ensures sequence { IfOk result (λ reached. IsSequence shared.now.instance.now.jobs reached.sequence) }
+    ensures value { IfOk result (λ reached. reached.value ≡ span shared.now.instance.now reached.sequence) }
+{
+    beam_until(
+        shared.alloc,
+        shared.instance,
+        &searches.known.sequence,
+        limits,
+        shared,
+    )
 }
 
 /// Looks for a sequence that has the proved number as its makespan, by a beam that is aimed at the next number.
@@ -123,17 +160,12 @@ fn aim<P: Prover>(
     if searches.is_proved() {
         return Ok(());
     }
-    let number = searches.known.lower.saturating_add(1);
-    let width = effort.width().saturating_mul(8).min(MAX_WIDTH);
-    let work = effort.beam_work().saturating_mul(AIMED_SHARE);
-    let aimed = beam_below(
-        shared.alloc,
-        shared.instance,
-        &searches.known.sequence,
-        number,
-        width,
-        work,
-    )?;
+    let limits = BeamLimits {
+        below: Some(searches.known.lower.saturating_add(1)),
+        width: effort.width().saturating_mul(8).min(MAX_WIDTH),
+        work: effort.beam_work().saturating_mul(AIMED_SHARE),
+    };
+    let aimed = aimed_beam(shared, searches, limits)?;
     searches.take(shared.alloc, &aimed)
 }
 
@@ -148,25 +180,21 @@ fn halve<P: Prover>(
     requires searches { AreSearches shared.now.instance.now searches.old }
     ensures { AreLater shared.now.instance.now searches.old searches.new }
 {
-    let width = effort.width() / 4;
-    let work = effort.beam_work() / 2;
     let mut missed = searches.known.lower.saturating_add(1);
     let mut top = searches.known.upper;
     'halved: while top.saturating_sub(missed) > 1 {
-        let number = missed + (top - missed) / 2;
-        let aimed = beam_below(
-            shared.alloc,
-            shared.instance,
-            &searches.known.sequence,
-            number,
-            width,
-            work,
-        )?;
-        if aimed.value < number {
+        let threshold = missed + (top - missed) / 2;
+        let limits = BeamLimits {
+            below: Some(threshold),
+            width: effort.width() / 4,
+            work: effort.beam_work() / 2,
+        };
+        let aimed = aimed_beam(shared, searches, limits)?;
+        if aimed.value < threshold {
             top = aimed.value;
             searches.take(shared.alloc, &aimed)?;
         } else {
-            missed = number;
+            missed = threshold;
         }
     }
     Ok(())
@@ -204,7 +232,8 @@ fn prove_more<P: Prover>(
 
 /// Bounds of the least makespan, a sequence that has the upper one, and directions that prove the lower one. The prover
 /// searches for directions. It is told which step begins, and which bounds are known before each search and at the end.
-/// What is found does not depend on which prover it is. There are at most so many directions.
+/// What is found does not depend on which prover it is, unless its time is over: then the run ends soon, with what it
+/// knows. There are at most so many directions.
 pub fn certify<P: Prover>(
     alloc: Global,
     prover: &P,

@@ -28,92 +28,92 @@ no-end byte after none = one (end_of_sign byte) refl
     one None is = refl
     one (Some end) is = absurd (none end (is-begun byte (sign end) after (end-sign byte end is)))
 
-module _ (shop : Shop) (number : ℕ) where
+module _ (shop : Shop) (threshold : ℕ) where
   abbrev child_fault : ℕ → List ℕ → List ℕ → End → ℕ → List ℕ → CheckFault → Type 0
   child_fault left first last end job =
-      HasDirectionsFault shop number left (first_with end first job) (last_with end last job)
+      HasDirectionsFault shop threshold left (first_with end first job) (last_with end last job)
 
   -- a fault that is read is one that the text has
 
   sign-has : (left : ℕ) (first last : List ℕ) (byte : ℕ) (after : List ℕ) →
       ((end : End) (job : ℕ) (text : List ℕ) →
-      IfErr (child_read shop number left first last end job text) (child_fault left first last end job text)) →
-      end_bound shop first last < number → (o : Option End) → end_of_sign byte ≡ o →
-      IfErr (read_at (opened_at shop number left first last) o after)
-      (λ fault. HasDirectionsFault shop number (suc left) first last (byte ∷ after) fault)
+      IfErr (child_read shop threshold left first last end job text) (child_fault left first last end job text)) →
+      end_bound shop first last < threshold → (o : Option End) → end_of_sign byte ≡ o →
+      IfErr (read_at (opened_at shop threshold left first last) o after)
+      (λ fault. HasDirectionsFault shop threshold (suc left) first last (byte ∷ after) fault)
   sign-has left first last byte after each below None is = (
     below,
     inl (refl, λ end h. none-some end (sym is ∙ ap end_of_sign (begins-is byte (sign end) after h) ∙ sign-end end)),
   )
   sign-has left first last byte after each below (Some end) is =
       let jobs : List ℕ = jobs_left shop.jobs (first ++ last) in
-      IfErr-weaker (opened_at shop number left first last end after)
-      (λ fault. HasFaultAmong (child_proved shop number left first last end) (child_fault left first last end) jobs
+      IfErr-weaker (opened_at shop threshold left first last end after)
+      (λ fault. HasFaultAmong (child_proved shop threshold left first last end) (child_fault left first last end) jobs
       after fault)
-      (λ fault. HasDirectionsFault shop number (suc left) first last (byte ∷ after) fault)
+      (λ fault. HasDirectionsFault shop threshold (suc left) first last (byte ∷ after) fault)
       (λ fault h. (below, inr (end, after, ap (λ b. b ∷ after) (end-sign byte end is), h)))
-      (among-has (child_read shop number left first last end) (child_proved shop number left first last end)
+      (among-has (child_read shop threshold left first last end) (child_proved shop threshold left first last end)
       (child_fault left first last end)
-      (λ job text rest e. read-sound shop number left (first_with end first job) (last_with end last job) text rest e)
+      (λ job text rest e. read-sound shop threshold left (first_with end first job) (last_with end last job) text rest e)
       (each end) jobs after)
 
   opened-has : (left : ℕ) (first last : List ℕ) →
       ((end : End) (job : ℕ) (text : List ℕ) →
-      IfErr (child_read shop number left first last end job text) (child_fault left first last end job text)) →
-      end_bound shop first last < number → (text : List ℕ) →
-      IfErr (opened shop number left first last text)
-      (λ fault. HasDirectionsFault shop number (suc left) first last text fault)
+      IfErr (child_read shop threshold left first last end job text) (child_fault left first last end job text)) →
+      end_bound shop first last < threshold → (text : List ℕ) →
+      IfErr (opened shop threshold left first last text)
+      (λ fault. HasDirectionsFault shop threshold (suc left) first last text fault)
   opened-has left first last each below [] = (below, inl (refl, λ end. nothing-begins (sign end)))
   opened-has left first last each below (byte ∷ after) =
       sign-has left first last byte after each below (end_of_sign byte) refl
 
   pub directions-have : (left : ℕ) (first last text : List ℕ) →
-      IfErr (read_node shop number left first last text)
-      (λ fault. HasDirectionsFault shop number left first last text fault)
+      IfErr (read_node shop threshold left first last text)
+      (λ fault. HasDirectionsFault shop threshold left first last text fault)
   directions-have zero first last text =
-      test (λ fault. HasDirectionsFault shop number zero first last text fault) (Low 5) (Ok text)
-      (nat_le number (end_bound shop first last))
-      (λ low. (refl, leb-false number (end_bound shop first last) low)) (λ high. tt)
+      test (λ fault. HasDirectionsFault shop threshold zero first last text fault) (Low 5) (Ok text)
+      (nat_le threshold (end_bound shop first last))
+      (λ low. (refl, leb-false threshold (end_bound shop first last) low)) (λ high. tt)
   directions-have (suc left) first last text =
       let P : Reading → Type 0 =
-      λ r. IfErr r (λ fault. HasDirectionsFault shop number (suc left) first last text fault) in
+      λ r. IfErr r (λ fault. HasDirectionsFault shop threshold (suc left) first last text fault) in
       let each = λ (end : End) (job : ℕ) (text : List ℕ).
       directions-have left (first_with end first job) (last_with end last job) text in
-      subst P (sym (read-split shop number left first last text))
-      (elim (cases_Bool (nat_le number (end_bound shop first last))) [
-        | inl high ↦ subst (λ b. P (cond b (Ok text) (opened shop number left first last text))) (sym high) tt
-        | inr low ↦ subst (λ b. P (cond b (Ok text) (opened shop number left first last text))) (sym low)
-            (opened-has left first last each (leb-false number (end_bound shop first last) low) text)
+      subst P (sym (read-split shop threshold left first last text))
+      (elim (cases_Bool (nat_le threshold (end_bound shop first last))) [
+        | inl high ↦ subst (λ b. P (cond b (Ok text) (opened shop threshold left first last text))) (sym high) tt
+        | inr low ↦ subst (λ b. P (cond b (Ok text) (opened shop threshold left first last text))) (sym low)
+            (opened-has left first last each (leb-false threshold (end_bound shop first last) low) text)
       ])
 
   -- a fault that a text has is the one that is read
 
   unsigned : (left : ℕ) (first last text : List ℕ) → ((end : End) → ¬ Extends text (sign end ∷ [])) →
-      opened shop number left first last text ≡ Err (Tree 5)
+      opened shop threshold left first last text ≡ Err (Tree 5)
   unsigned left first last [] none = refl
   unsigned left first last (byte ∷ after) none =
-      ap (λ o. read_at (opened_at shop number left first last) o after) (no-end byte after none)
+      ap (λ o. read_at (opened_at shop threshold left first last) o after) (no-end byte after none)
 
   pub directions-fault : (left : ℕ) (first last text : List ℕ) (fault : CheckFault) →
-      HasDirectionsFault shop number left first last text fault →
-      read_node shop number left first last text ≡ Err fault
+      HasDirectionsFault shop threshold left first last text fault →
+      read_node shop threshold left first last text ≡ Err fault
   directions-fault zero first last text fault h =
-      ap (λ b. cond b (Ok text) (Err (Low 5))) (lt-leb number (end_bound shop first last) h.1) ∙ ap refused (sym h.0)
+      ap (λ b. cond b (Ok text) (Err (Low 5))) (lt-leb threshold (end_bound shop first last) h.1) ∙ ap refused (sym h.0)
   directions-fault (suc left) first last text fault (low, inl h) =
-      read-split shop number left first last text
-      ∙ ap (λ b. cond b (Ok text) (opened shop number left first last text))
-      (lt-leb number (end_bound shop first last) low)
+      read-split shop threshold left first last text
+      ∙ ap (λ b. cond b (Ok text) (opened shop threshold left first last text))
+      (lt-leb threshold (end_bound shop first last) low)
       ∙ unsigned left first last text h.1 ∙ ap refused (sym h.0)
   directions-fault (suc left) first last text fault (low, inr (end, after, is, h)) =
-      ap (read_node shop number (suc left) first last) is
-      ∙ read-split shop number left first last (sign end ∷ after)
-      ∙ ap (λ b. cond b (Ok (sign end ∷ after)) (opened shop number left first last (sign end ∷ after)))
-      (lt-leb number (end_bound shop first last) low)
-      ∙ ap (λ o. read_at (opened_at shop number left first last) o after) (sign-end end)
-      ∙ among-read (child_read shop number left first last end) (child_proved shop number left first last end)
+      ap (read_node shop threshold (suc left) first last) is
+      ∙ read-split shop threshold left first last (sign end ∷ after)
+      ∙ ap (λ b. cond b (Ok (sign end ∷ after)) (opened shop threshold left first last (sign end ∷ after)))
+      (lt-leb threshold (end_bound shop first last) low)
+      ∙ ap (λ o. read_at (opened_at shop threshold left first last) o after) (sign-end end)
+      ∙ among-read (child_read shop threshold left first last end) (child_proved shop threshold left first last end)
       (child_fault left first last end)
       (λ job part rest p.
-      read-complete shop number left (first_with end first job) (last_with end last job) part rest p)
+      read-complete shop threshold left (first_with end first job) (last_with end last job) part rest p)
       (λ job text other bad.
       directions-fault left (first_with end first job) (last_with end last job) text other bad)
       (jobs_left shop.jobs (first ++ last)) after fault h

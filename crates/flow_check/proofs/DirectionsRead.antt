@@ -1,4 +1,4 @@
--- A text is read exactly to where the directions end that prove the number.
+-- A text is read exactly to where the directions end that prove the threshold.
 use Rattle.std.proofs.Common.{◌≡◌, ℕ, zero, suc, ◌<◌, cond, nat_eq, nat_le, List, [], ◌∷◌, ◌++◌, Option, Some, None}
 use Rattle.std.proofs.Common.{Ok, Err, refl, ap, sym, ◌∙◌, inl, inr}
 use Rattle.std.specs.List.{concat}
@@ -52,34 +52,34 @@ read-sign : (read : End → List ℕ → Reading) (o : Option End) (byte : ℕ) 
 read-sign read None byte after rest is e = absurd (fault-value (Tree 5) rest e)
 read-sign read (Some end) byte after rest is e = (end, end-sign byte end is, e)
 
-module _ (shop : Shop) (number : ℕ) where
+module _ (shop : Shop) (threshold : ℕ) where
   abbrev pub child_read : ℕ → List ℕ → List ℕ → End → ℕ → List ℕ → Reading
-  child_read left first last end job = read_node shop number left (first_with end first job) (last_with end last job)
+  child_read left first last end job = read_node shop threshold left (first_with end first job) (last_with end last job)
 
   abbrev pub child_proved : ℕ → List ℕ → List ℕ → End → ℕ → List ℕ → Type 0
-  child_proved left first last end job = ProvesWith shop number left (first_with end first job) (last_with end last job)
+  child_proved left first last end job = ProvesWith shop threshold left (first_with end first job) (last_with end last job)
 
   -- what is read of the children at an end
   abbrev pub opened_at : ℕ → List ℕ → List ℕ → End → List ℕ → Reading
   opened_at left first last end = each_tree (child_read left first last end) (jobs_left shop.jobs (first ++ last))
 
-  -- what is read of a node below the number
+  -- what is read of a node below the threshold
   abbrev pub opened : ℕ → List ℕ → List ℕ → List ℕ → Reading
   opened left first last [] = Err (Tree 5)
   opened left first last (byte ∷ after) = read_at (opened_at left first last) (end_of_sign byte) after
 
   -- a node with jobs left is read by its bound
   pub read-split : (left : ℕ) (first last text : List ℕ) →
-      read_node shop number (suc left) first last text
-      ≡ cond (nat_le number (end_bound shop first last)) (Ok text) (opened left first last text)
+      read_node shop threshold (suc left) first last text
+      ≡ cond (nat_le threshold (end_bound shop first last)) (Ok text) (opened left first last text)
   read-split left first last [] = refl
   read-split left first last (byte ∷ after) = refl
 
   opened-sound : (left : ℕ) (first last text rest : List ℕ) →
       ((end : End) (job : ℕ) (bytes more : List ℕ) → child_read left first last end job bytes ≡ Ok more →
       (part : List ℕ) × (bytes ≡ part ++ more) × child_proved left first last end job part) →
-      end_bound shop first last < number → opened left first last text ≡ Ok rest →
-      (part : List ℕ) × (text ≡ part ++ rest) × ProvesWith shop number (suc left) first last part
+      end_bound shop first last < threshold → opened left first last text ≡ Ok rest →
+      (part : List ℕ) × (text ≡ part ++ rest) × ProvesWith shop threshold (suc left) first last part
   opened-sound left first last [] rest sound below e = absurd (fault-value (Tree 5) rest e)
   opened-sound left first last (byte ∷ after) rest sound below e =
       let s = read-sign (opened_at left first last) (end_of_sign byte) byte after rest refl e in
@@ -90,43 +90,43 @@ module _ (shop : Shop) (number : ℕ) where
         inr (s.0, parts.0, below, refl, parts.2),
       )
 
-  pub read-sound : (left : ℕ) (first last text rest : List ℕ) → read_node shop number left first last text ≡ Ok rest →
-      (part : List ℕ) × (text ≡ part ++ rest) × ProvesWith shop number left first last part
-  read-sound zero first last text rest e = elim (cases_Bool (nat_le number (end_bound shop first last))) [
+  pub read-sound : (left : ℕ) (first last text rest : List ℕ) → read_node shop threshold left first last text ≡ Ok rest →
+      (part : List ℕ) × (text ≡ part ++ rest) × ProvesWith shop threshold left first last part
+  read-sound zero first last text rest e = elim (cases_Bool (nat_le threshold (end_bound shop first last))) [
     | inl high ↦
         let f : okay text ≡ Ok rest = sym (ap (λ b. cond b (Ok text) (Err (Low 5))) high) ∙ e in
-        ([], ok-same text rest f, (refl, leb-true number (end_bound shop first last) high))
+        ([], ok-same text rest f, (refl, leb-true threshold (end_bound shop first last) high))
     | inr low ↦ absurd (fault-value (Low 5) rest (sym (ap (λ b. cond b (Ok text) (Err (Low 5))) low) ∙ e))
   ]
   read-sound (suc left) first last text rest e =
       let split = read-split left first last text in
-      elim (cases_Bool (nat_le number (end_bound shop first last))) [
+      elim (cases_Bool (nat_le threshold (end_bound shop first last))) [
         | inl high ↦
             let f : okay text ≡ Ok rest =
             sym (split ∙ ap (λ b. cond b (Ok text) (opened left first last text)) high) ∙ e in
-            ([], ok-same text rest f, inl (refl, leb-true number (end_bound shop first last) high))
+            ([], ok-same text rest f, inl (refl, leb-true threshold (end_bound shop first last) high))
         | inr low ↦ opened-sound left first last text rest
             (λ end job bytes more g.
             read-sound left (first_with end first job) (last_with end last job) bytes more g)
-            (leb-false number (end_bound shop first last) low)
+            (leb-false threshold (end_bound shop first last) low)
             (sym (split ∙ ap (λ b. cond b (Ok text) (opened left first last text)) low) ∙ e)
       ]
 
-  pub read-complete : (left : ℕ) (first last part rest : List ℕ) → ProvesWith shop number left first last part →
-      read_node shop number left first last (part ++ rest) ≡ Ok rest
+  pub read-complete : (left : ℕ) (first last part rest : List ℕ) → ProvesWith shop threshold left first last part →
+      read_node shop threshold left first last (part ++ rest) ≡ Ok rest
   read-complete zero first last part rest p =
-      ap (λ t. read_node shop number zero first last (t ++ rest)) p.0
-      ∙ ap (λ b. cond b (Ok rest) (Err (Low 5))) (le-leb number (end_bound shop first last) p.1)
+      ap (λ t. read_node shop threshold zero first last (t ++ rest)) p.0
+      ∙ ap (λ b. cond b (Ok rest) (Err (Low 5))) (le-leb threshold (end_bound shop first last) p.1)
   read-complete (suc left) first last part rest (inl p) =
-      ap (λ t. read_node shop number (suc left) first last (t ++ rest)) p.0
+      ap (λ t. read_node shop threshold (suc left) first last (t ++ rest)) p.0
       ∙ read-split left first last rest
-      ∙ ap (λ b. cond b (Ok rest) (opened left first last rest)) (le-leb number (end_bound shop first last) p.1)
+      ∙ ap (λ b. cond b (Ok rest) (opened left first last rest)) (le-leb threshold (end_bound shop first last) p.1)
   read-complete (suc left) first last part rest (inr (end, parts, low, is, each)) =
       let after : List ℕ = concat parts ++ rest in
-      ap (λ t. read_node shop number (suc left) first last (t ++ rest)) is
+      ap (λ t. read_node shop threshold (suc left) first last (t ++ rest)) is
       ∙ read-split left first last (sign end ∷ after)
       ∙ ap (λ b. cond b (Ok (sign end ∷ after)) (opened left first last (sign end ∷ after)))
-      (lt-leb number (end_bound shop first last) low)
+      (lt-leb threshold (end_bound shop first last) low)
       ∙ ap (λ o. read_at (opened_at left first last) o after) (sign-end end)
       ∙ each-complete (child_read left first last end) (child_proved left first last end)
       (λ job part rest p. read-complete left (first_with end first job) (last_with end last job) part rest p)

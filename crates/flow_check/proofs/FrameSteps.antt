@@ -11,14 +11,14 @@ use Rattle.flow_check.specs.internal.ReadDirections.{Reading}
 use Rattle.flow_check.specs.internal.Frames.{first_of, last_of, AreFrames, IsFrame}
 use Rattle.flow_check.proofs.DirectionSteps.{children_read}
 
-module _ (shop : Shop) (number : ℕ) where
+module _ (shop : Shop) (threshold : ℕ) where
   -- what is read of a node, where this is read of the last child, by the names among which so many jobs left stand
   abbrev pub around : (ℕ → List ℕ) → ℕ → List ℕ → List ℕ → List NodeFrame → Reading → Reading
   around names left first last [] reading = reading
   around names left first last (frame ∷ frames) reading =
       then_read (around names (left - 1) (first_with frame.end first frame.job) (last_with frame.end last frame.job)
       frames reading)
-      (children_read shop number frame.end left first last (chosen frame.below.words (names left)))
+      (children_read shop threshold frame.end left first last (chosen frame.below.words (names left)))
 
   -- one more frame
   pub around-push : (names : ℕ → List ℕ) (left : ℕ) (first last : List ℕ) (frames : List NodeFrame)
@@ -33,7 +33,7 @@ module _ (shop : Shop) (number : ℕ) where
       let first2 : List ℕ = first_with f.end first f.job in
       let last2 : List ℕ = last_with f.end last f.job in
       let e : left - 1 - length fs ≡ left - suc (length fs) = omega arith in
-      ap (λ r. then_read r (children_read shop number f.end left first last (chosen f.below.words (names left))))
+      ap (λ r. then_read r (children_read shop threshold f.end left first last (chosen f.below.words (names left))))
       (around-push names (left - 1) first2 last2 fs frame reading
       ∙ ap (λ l. around names (left - 1) first2 last2 fs
       (around names l (first_of first2 fs) (last_of last2 fs) (frame ∷ []) reading)) e)
@@ -43,7 +43,7 @@ module _ (shop : Shop) (number : ℕ) where
       (fault : CheckFault) → around names left first last frames (Err fault) ≡ Err fault
   around-fault names left first last [] fault = refl
   around-fault names left first last (f ∷ fs) fault =
-      ap (λ r. then_read r (children_read shop number f.end left first last (chosen f.below.words (names left))))
+      ap (λ r. then_read r (children_read shop threshold f.end left first last (chosen f.below.words (names left))))
       (around-fault names (left - 1) (first_with f.end first f.job) (last_with f.end last f.job) fs fault)
 
   -- other names, which are the same for the frames
@@ -52,50 +52,50 @@ module _ (shop : Shop) (number : ℕ) where
       around names left first last frames reading ≡ around others left first last frames reading
   around-same names others left first last [] reading same = refl
   around-same names others left first last (f ∷ fs) reading same =
-      ap (λ r. then_read r (children_read shop number f.end left first last (chosen f.below.words (names left))))
+      ap (λ r. then_read r (children_read shop threshold f.end left first last (chosen f.below.words (names left))))
       (around-same names others (left - 1) (first_with f.end first f.job) (last_with f.end last f.job) fs reading
       (λ l low high. same l (omega (arith, low)) (omega (arith, high))))
       ∙ ap (λ ns. then_read (around others (left - 1) (first_with f.end first f.job) (last_with f.end last f.job) fs
-      reading) (children_read shop number f.end left first last (chosen f.below.words ns)))
+      reading) (children_read shop threshold f.end left first last (chosen f.below.words ns)))
       (same left (omega arith) (omega arith))
 
   pub frames-push : (names : ℕ → List ℕ) (left : ℕ) (first last : List ℕ) (frames : List NodeFrame)
-      (frame : NodeFrame) → AreFrames shop number names left first last frames →
-      IsFrame shop number (first_of first frames) (last_of last frames) (names (left - length frames)) frame →
-      AreFrames shop number names left first last (frames ++ frame ∷ [])
+      (frame : NodeFrame) → AreFrames shop threshold names left first last frames →
+      IsFrame shop threshold (first_of first frames) (last_of last frames) (names (left - length frames)) frame →
+      AreFrames shop threshold names left first last (frames ++ frame ∷ [])
   frames-push names left first last [] frame are is =
       let e : left - 0 ≡ left = omega arith in
-      (subst (λ l. IsFrame shop number first last (names l) frame) e is, tt)
+      (subst (λ l. IsFrame shop threshold first last (names l) frame) e is, tt)
   frames-push names left first last (f ∷ fs) frame are is =
       let e : left - suc (length fs) ≡ left - 1 - length fs = omega arith in (
         are.0,
         frames-push names (left - 1) (first_with f.end first f.job) (last_with f.end last f.job) fs frame are.1
-            (subst (λ l. IsFrame shop number (first_of (first_with f.end first f.job) fs)
+            (subst (λ l. IsFrame shop threshold (first_of (first_with f.end first f.job) fs)
             (last_of (last_with f.end last f.job) fs) (names l) frame) e is),
       )
 
   pub frames-pop : (names : ℕ → List ℕ) (left : ℕ) (first last : List ℕ) (frames : List NodeFrame)
-      (frame : NodeFrame) → AreFrames shop number names left first last (frames ++ frame ∷ []) →
-      AreFrames shop number names left first last frames
-      × IsFrame shop number (first_of first frames) (last_of last frames) (names (left - length frames)) frame
+      (frame : NodeFrame) → AreFrames shop threshold names left first last (frames ++ frame ∷ []) →
+      AreFrames shop threshold names left first last frames
+      × IsFrame shop threshold (first_of first frames) (last_of last frames) (names (left - length frames)) frame
   frames-pop names left first last [] frame are =
       let e : left ≡ left - 0 = omega arith in
-      (tt, subst (λ l. IsFrame shop number first last (names l) frame) e are.0)
+      (tt, subst (λ l. IsFrame shop threshold first last (names l) frame) e are.0)
   frames-pop names left first last (f ∷ fs) frame are =
       let e : left - 1 - length fs ≡ left - suc (length fs) = omega arith in
       let rest = frames-pop names (left - 1) (first_with f.end first f.job) (last_with f.end last f.job) fs frame are.1
       in (
         (are.0, rest.0),
-        subst (λ l. IsFrame shop number (first_of (first_with f.end first f.job) fs)
+        subst (λ l. IsFrame shop threshold (first_of (first_with f.end first f.job) fs)
             (last_of (last_with f.end last f.job) fs) (names l) frame) e rest.1,
       )
 
   pub frames-same : (names others : ℕ → List ℕ) (left : ℕ) (first last : List ℕ) (frames : List NodeFrame) →
       ((l : ℕ) → left < l + length frames → l ≤ left → names l ≡ others l) →
-      AreFrames shop number names left first last frames → AreFrames shop number others left first last frames
+      AreFrames shop threshold names left first last frames → AreFrames shop threshold others left first last frames
   frames-same names others left first last [] same are = tt
   frames-same names others left first last (f ∷ fs) same are = (
-    subst (λ ns. IsFrame shop number first last ns f) (same left (omega arith) (omega arith)) are.0,
+    subst (λ ns. IsFrame shop threshold first last ns f) (same left (omega arith) (omega arith)) are.0,
     frames-same names others (left - 1) (first_with f.end first f.job) (last_with f.end last f.job) fs
         (λ l low high. same l (omega (arith, low)) (omega (arith, high))) are.1,
   )

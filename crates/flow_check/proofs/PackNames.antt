@@ -1,5 +1,5 @@
 -- The names of packs.
-use Rattle.std.proofs.Common.{◌≡◌, ◌≢◌, ◌⊎◌, ℕ, zero, suc, ◌+◌, ◌-◌, ◌*◌, ◌<◌, ◌≤◌, List, [], ◌∷◌, ◌++◌, length, slice_index_or}
+use Rattle.std.proofs.Common.{◌≡◌, ◌≢◌, ℕ, zero, suc, ◌+◌, ◌-◌, ◌*◌, ◌<◌, ◌≤◌, List, [], ◌∷◌, ◌++◌, length, slice_index_or}
 use Rattle.std.proofs.Common.{length-append, refl, ap, sym, ◌∙◌, subst, inl, inr, arith}
 use Rattle.std.proofs.Math.Seq.{get_or-append_seam}
 use Rattle.std.proofs.lemmas.Bool.{cases_lt, cases_eq}
@@ -9,7 +9,7 @@ use Rattle.flow_shop.proofs.Lists.{some-of}
 use Rattle.flow_nodes.specs.declared.pack.Pack.{Pack}
 use Rattle.flow_check.specs.internal.Frames.{pack_groups}
 use Rattle.flow_nodes.specs.Packs.{AreBytes, HasByteRoom, HasRoom, IsPack}
-use Rattle.flow_check.specs.internal.Frames.{ArePacks, HasMachines, HavePacks, names_at}
+use Rattle.flow_check.specs.internal.Frames.{ArePacks, HavePacks, names_at}
 
 module _ {V : Type 0} where
   pub names-is : (packs : List (Pack V)) (place : ℕ) (none : Pack V) → place < length packs →
@@ -17,17 +17,6 @@ module _ {V : Type 0} where
   names-is [] place none within = absurd (omega (arith, within))
   names-is (pack ∷ packs) zero none within = refl
   names-is (pack ∷ packs) (suc place) none within = names-is packs place none (omega (arith, within))
-
-  -- a constant that is the number of machines, or 0, is that of the groups of a pack, or 0
-  pub pack-machines : (shop : Shop) (packs : List (Pack V)) (constant place : ℕ) → HavePacks shop packs →
-      place < length packs → (constant ≡ 0) ⊎ (constant ≡ shop.machines) →
-      (constant ≡ 0) ⊎ HasMachines constant place packs
-  pack-machines shop packs constant place have within either = elim either [
-    | inl none ↦ inl none
-    | inr all ↦ inr (record {
-      each = λ none group other low. all ∙ sym ((have.rooms place none within).machines group other low);
-    })
-  ]
 
   -- where the pack is the same, so are its names
   pub names-same : (old new : List (Pack V)) (place : ℕ) → place < length old → length new ≡ length old →

@@ -33,16 +33,16 @@ pub record IsTurn {V : Type 0} (groups : ℕ) (old new : Path V) (place : ℕ) :
       ≡ (here new).job ∷ chosen (here new).below.words (names_at old.packs.items (groups - 1))
 
 -- where the walk stands before
-pub record IsAt {V : Type 0} (shop : Shop) (number : ℕ) (whole : Reading) (text : List ℕ) (spot : ℕ) (left : ℕ)
+pub record IsAt {V : Type 0} (shop : Shop) (threshold : ℕ) (whole : Reading) (text : List ℕ) (spot : ℕ) (left : ℕ)
     (path : Path V) : Type 0 where
   pub size : length path.frames.items ≡ shop.jobs
   pub left_is : left + path.depth ≡ shop.jobs
   pub some : 1 ≤ left
   pub have : HavePacks shop path.packs.items
-  pub stands : Stands shop number whole text spot (names_of path) (above path) (here path)
+  pub stands : Stands shop threshold whole text spot (names_of path) (above path) (here path)
 
-module _ {V : Type 0} (shop : Shop) (number : ℕ) (whole : Reading) (text : List ℕ) (spot left groups place : ℕ)
-    (old mid : Path V) (at : IsAt shop number whole text spot left old) (groups_are : groups ≡ pack_groups left)
+module _ {V : Type 0} (shop : Shop) (threshold : ℕ) (whole : Reading) (text : List ℕ) (spot left groups place : ℕ)
+    (old mid : Path V) (at : IsAt shop threshold whole text spot left old) (groups_are : groups ≡ pack_groups left)
     (turn : IsTurn groups old mid place) where
   abbrev frames : List NodeFrame
   frames = above old
@@ -60,13 +60,13 @@ module _ {V : Type 0} (shop : Shop) (number : ℕ) (whole : Reading) (text : Lis
         first = turn.first;
       })
 
-  pub turn-open : IsOpen shop number (here mid).end (first_of [] (above old)) (last_of [] (above old)) (here mid).job
+  pub turn-open : IsOpen shop threshold (here mid).end (first_of [] (above old)) (last_of [] (above old)) (here mid).job
   turn-open =
-      opened shop number whole text spot (names_of old) (above old) (here old) (here mid) (first_of [] (above old))
+      opened shop threshold whole text spot (names_of old) (above old) (here old) (here mid) (first_of [] (above old))
       (last_of [] (above old)) (shop.jobs - length (above old)) at.stands turn-taken
 
   -- the frame of the node then
-  pub turn-frame : IsFrame shop number (first_of [] (above old)) (last_of [] (above old))
+  pub turn-frame : IsFrame shop threshold (first_of [] (above old)) (last_of [] (above old))
       (names_of old (shop.jobs - length (above old))) (here mid)
   turn-frame = record {
     is_node = subst (IsNode shop (first_of [] (above old)) (last_of [] (above old))) (sym turn.node)
@@ -76,7 +76,7 @@ module _ {V : Type 0} (shop : Shop) (number : ℕ) (whole : Reading) (text : Lis
     within = λ other inside marked.
         ap (λ m. mark m.words other) turn.left
         ∙ at.stands.is_frame.within other inside (turn.fewer other marked);
-    each = others-open shop number whole text spot (names_of old) (above old) (here old) (here mid)
+    each = others-open shop threshold whole text spot (names_of old) (above old) (here old) (here mid)
         (first_of [] (above old)) (last_of [] (above old)) (shop.jobs - length (above old)) at.stands turn-taken;
   }
 
@@ -113,21 +113,21 @@ module _ {V : Type 0} (shop : Shop) (number : ℕ) (whole : Reading) (text : Lis
       ((more : ℕ) → less < more → more ≤ shop.jobs →
       names_at mid.packs.items (pack_groups more - 1) ≡ names_at put.packs.items (pack_groups more - 1)) →
       new.packs ≡ put.packs → above new ≡ above put → first_end (drop spot text) ≡ Some (here new).end →
-      IsOpened shop number (first_with (here mid).end (first_of [] (above old)) (here mid).job)
+      IsOpened shop threshold (first_with (here mid).end (first_of [] (above old)) (here mid).job)
       (last_with (here mid).end (last_of [] (above old)) (here mid).job)
       (names_at new.packs.items (groups2 - 1)) new →
-      Stands shop number whole text (spot + 1) (names_of new) (above new) (here new)
+      Stands shop threshold whole text (spot + 1) (names_of new) (above new) (here new)
   turn-stands less groups2 put new less_is more_left groups2_are above_mid above_put names packs above_new is is_opened =
       let first2 : List ℕ = first_with (here mid).end (first_of [] (above old)) (here mid).job in
       let last2 : List ℕ = last_with (here mid).end (last_of [] (above old)) (here mid).job in
       let index : groups2 - 1 ≡ pack_groups (shop.jobs - length (above old) - 1) - 1 =
       omega (arith, groups2_are, less_is, at.left_is, deep) in
-      let child : IsOpened shop number first2 last2 (names_of new (shop.jobs - length (above old) - 1)) new =
-      subst (λ n. IsOpened shop number first2 last2 (names_at new.packs.items n) new) index is_opened in
+      let child : IsOpened shop threshold first2 last2 (names_of new (shop.jobs - length (above old) - 1)) new =
+      subst (λ n. IsOpened shop threshold first2 last2 (names_at new.packs.items n) new) index is_opened in
       let longer : above new ≡ above old ++ here mid ∷ [] =
       above_new ∙ above_put ∙ ap (λ fs. fs ++ here mid ∷ []) above_mid in
-      subst (λ fs. Stands shop number whole text (spot + 1) (names_of new) fs (here new)) (sym longer)
-      (stands-child shop number whole text spot (names_of old) (names_of new) (above old) (here old) (here mid)
+      subst (λ fs. Stands shop threshold whole text (spot + 1) (names_of new) fs (here new)) (sym longer)
+      (stands-child shop threshold whole text spot (names_of old) (names_of new) (above old) (here old) (here mid)
       (here new) at.stands turn-taken turn-frame
       (λ l low high.
       ap (λ ps. names_at ps.items (pack_groups l - 1)) (sym turn.packs)

@@ -31,17 +31,17 @@ use Rattle.flow_check.proofs.TwoEndedReading.{from_directions, from_makespan, fr
 use Rattle.flow_check.proofs.TwoEndedReading.{statement}
 use Rattle.flow_check.proofs.FirstFaults.{among-kind}
 
--- directions that prove a number for the root do so with all jobs left
+-- directions that prove a threshold for the root do so with all jobs left
 
-pub proves-root : (shop : Shop) (number : ℕ) (directions : List ℕ) →
-    ProvesWith shop number shop.jobs [] [] directions → Proves shop number directions
-proves-root shop number directions p =
-    subst (λ left. ProvesWith shop number left [] [] directions) (sym (none-has shop.jobs)) p
+pub proves-root : (shop : Shop) (threshold : ℕ) (directions : List ℕ) →
+    ProvesWith shop threshold shop.jobs [] [] directions → Proves shop threshold directions
+proves-root shop threshold directions p =
+    subst (λ left. ProvesWith shop threshold left [] [] directions) (sym (none-has shop.jobs)) p
 
-pub root-proves : (shop : Shop) (number : ℕ) (directions : List ℕ) → Proves shop number directions →
-    ProvesWith shop number shop.jobs [] [] directions
-root-proves shop number directions p =
-    subst (λ left. ProvesWith shop number left [] [] directions) (none-has shop.jobs) p
+pub root-proves : (shop : Shop) (threshold : ℕ) (directions : List ℕ) → Proves shop threshold directions →
+    ProvesWith shop threshold shop.jobs [] [] directions
+root-proves shop threshold directions p =
+    subst (λ left. ProvesWith shop threshold left [] [] directions) (none-has shop.jobs) p
 
 -- the faults of the last two lines
 
@@ -64,22 +64,22 @@ of-four shop text (Weak place) is h = h
 of-four shop text (Low place) is h = h
 of-four shop text End is h = h
 
-directions-kind : (shop : Shop) (number left : ℕ) (first last text : List ℕ) (fault : CheckFault) →
-    HasDirectionsFault shop number left first last text fault → IsLastFault fault
-directions-kind shop number zero first last text fault h = subst IsLastFault (sym h.0) tt
-directions-kind shop number (suc left) first last text fault (low, inl h) = subst IsLastFault (sym h.0) tt
-directions-kind shop number (suc left) first last text fault (low, inr (end, children, is, h)) =
-    among-kind IsLastFault (λ job. ProvesWith shop number left (first_with end first job) (last_with end last job))
-    (λ job. HasDirectionsFault shop number left (first_with end first job) (last_with end last job)) fault
+directions-kind : (shop : Shop) (threshold left : ℕ) (first last text : List ℕ) (fault : CheckFault) →
+    HasDirectionsFault shop threshold left first last text fault → IsLastFault fault
+directions-kind shop threshold zero first last text fault h = subst IsLastFault (sym h.0) tt
+directions-kind shop threshold (suc left) first last text fault (low, inl h) = subst IsLastFault (sym h.0) tt
+directions-kind shop threshold (suc left) first last text fault (low, inr (end, children, is, h)) =
+    among-kind IsLastFault (λ job. ProvesWith shop threshold left (first_with end first job) (last_with end last job))
+    (λ job. HasDirectionsFault shop threshold left (first_with end first job) (last_with end last job)) fault
     (λ job more bad.
-    directions-kind shop number left (first_with end first job) (last_with end last job) more fault bad)
+    directions-kind shop threshold left (first_with end first job) (last_with end last job) more fault bad)
     (jobs_left shop.jobs (first ++ last)) children h
 
-last-kind : (shop : Shop) (number : ℕ) (text : List ℕ) (fault : CheckFault) → HasLastFault shop number text fault →
+last-kind : (shop : Shop) (threshold : ℕ) (text : List ℕ) (fault : CheckFault) → HasLastFault shop threshold text fault →
     IsLastFault fault
-last-kind shop number text fault (inl h) = directions-kind shop number shop.jobs [] [] text fault h
-last-kind shop number text fault (inr (inl h)) = subst IsLastFault (sym h.0) tt
-last-kind shop number text fault (inr (inr h)) = subst IsLastFault (sym h.0) tt
+last-kind shop threshold text fault (inl h) = directions-kind shop threshold shop.jobs [] [] text fault h
+last-kind shop threshold text fault (inr (inl h)) = subst IsLastFault (sym h.0) tt
+last-kind shop threshold text fault (inr (inr h)) = subst IsLastFault (sym h.0) tt
 
 -- a fault after four lines is that of the text
 pub fault-after : (shop : Shop) (text : List ℕ) (fault : CheckFault) → FailsAfterFour shop text fault →

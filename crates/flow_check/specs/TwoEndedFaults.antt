@@ -16,43 +16,43 @@ use Rattle.flow_check.specs.declared.fault.CheckFault.{CheckFault}
 use Rattle.flow_check.specs.declared.fault.CheckFault.TheVariants.{Memory, Header, Size, Value, Sequence, NotAttained}
 use Rattle.flow_check.specs.declared.fault.CheckFault.TheVariants.{Tree, Low, End}
 
--- a text should begin with directions that prove a number for a node with so many jobs left, and has this fault in
--- them. The node's bound is below the number. Where no job is left, so is the makespan of its sequence. Where jobs are
--- left, the text begins with no sign; or after a sign the directions of the node's children there have the fault. The
--- directions stand in line 5
+-- a text should begin with directions that prove a threshold for a node with so many jobs left, and has this fault in
+-- them. The node's bound is below the threshold. Where no job is left, so is the makespan of its sequence. Where jobs
+-- are left, the text begins with no sign; or after a sign the directions of the node's children there have the fault.
+-- The directions stand in line 5
 abbrev pub HasDirectionsFault : Shop → ℕ → ℕ → List ℕ → List ℕ → List ℕ → CheckFault → Type 0
-HasDirectionsFault shop number zero first last text fault =
-    (fault ≡ Low 5) × (end_bound shop first last < number)
-HasDirectionsFault shop number (suc left) first last text fault =
-    (end_bound shop first last < number)
+HasDirectionsFault shop threshold zero first last text fault =
+    (fault ≡ Low 5) × (end_bound shop first last < threshold)
+HasDirectionsFault shop threshold (suc left) first last text fault =
+    (end_bound shop first last < threshold)
     × (((fault ≡ Tree 5) × ((end : SequenceEnd) → ¬ Extends text (sign end ∷ [])))
     ⊎ ((end : SequenceEnd) × (children : List ℕ) × (text ≡ sign end ∷ children)
-    × HasFaultAmong (λ job. ProvesWith shop number left (first_with end first job) (last_with end last job))
-    (λ job. HasDirectionsFault shop number left (first_with end first job) (last_with end last job))
+    × HasFaultAmong (λ job. ProvesWith shop threshold left (first_with end first job) (last_with end last job))
+    (λ job. HasDirectionsFault shop threshold left (first_with end first job) (last_with end last job))
     (jobs_left shop.jobs (first ++ last)) children fault))
 
--- directions that prove a number begin a text, but no line ends after them
-pub record LineGoesOn (shop : Shop) (number : ℕ) (text : List ℕ) : Type 0 where
+-- directions that prove a threshold begin a text, but no line ends after them
+pub record LineGoesOn (shop : Shop) (threshold : ℕ) (text : List ℕ) : Type 0 where
   pub directions : List ℕ
   pub rest : List ℕ
   pub goes_on : text ≡ directions ++ rest
-  pub proved : Proves shop number directions
+  pub proved : Proves shop threshold directions
   pub no_end : ¬ Extends rest (line_feed ∷ [])
 
--- the line of directions that prove a number begins a text, but what follows is not the last line alone
-pub record EndsOtherwise (shop : Shop) (number : ℕ) (text : List ℕ) : Type 0 where
+-- the line of directions that prove a threshold begins a text, but what follows is not the last line alone
+pub record EndsOtherwise (shop : Shop) (threshold : ℕ) (text : List ℕ) : Type 0 where
   pub directions : List ℕ
   pub rest : List ℕ
   pub goes_on : text ≡ line directions ++ rest
-  pub proved : Proves shop number directions
+  pub proved : Proves shop threshold directions
   pub other : rest ≢ line ending
 
--- a text should be the line of directions that prove a number, and the last line. This is its fault
+-- a text should be the line of directions that prove a threshold, and the last line. This is its fault
 abbrev pub HasLastFault : Shop → ℕ → List ℕ → CheckFault → Type 0
-HasLastFault shop number text fault =
-    HasDirectionsFault shop number shop.jobs [] [] text fault
-    ⊎ ((fault ≡ Tree 5) × LineGoesOn shop number text)
-    ⊎ ((fault ≡ End) × EndsOtherwise shop number text)
+HasLastFault shop threshold text fault =
+    HasDirectionsFault shop threshold shop.jobs [] [] text fault
+    ⊎ ((fault ≡ Tree 5) × LineGoesOn shop threshold text)
+    ⊎ ((fault ≡ End) × EndsOtherwise shop threshold text)
 
 -- the first line is lawful, but no line of the jobs and machines follows
 pub record HasNoSize (shop : Shop) (text : List ℕ) : Type 0 where

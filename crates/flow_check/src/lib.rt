@@ -1,6 +1,28 @@
 //! The checker. `check_text`, which the command `check` calls, reads a text of either kind, and returns what it shows.
 //! `check` and `check_sequence` read a certificate with trees, `check_two_ended` a two-ended one. The checker uses
 //! nothing of a solver: docs/proved.md lists the code below it that the searches may call too.
+//!
+//! - `kind.rt`: the kinds of text.
+//! - `fault.rt`: why a text is not a lawful one of its kind.
+//! - `bounds.rt`: the bounds that a text proves.
+//! - `shown.rt`: what a text shows.
+//! - `text.rt`: the checker of both kinds.
+//! - `titles.rt`: the titles of certificates, and the last line of each.
+//! - `number.rt`: decimal numbers of a text.
+//! - `two_ended.rt`: the checker of two-ended certificates.
+//! - `two_ended/heading.rt`: their lines before the directions.
+//! - `two_ended/walk.rt`: the walk through the nodes that directions open.
+//! - `checker.rt`: the checker of certificates with trees.
+//! - `heading.rt`: their lines before the trees.
+//! - `trees.rt`: the trees.
+//! - `trees_text.rt`: what stays the same while the trees are read.
+//! - `lines.rt`: the lines of the trees, one tree in each.
+//! - `tree.rt`: one tree, byte by byte.
+//! - `letter.rt`: the byte that begins a tree.
+//! - `reader.rt`: the way from a list of jobs to a child, and back.
+//! - `node.rt`: what is kept of a list of jobs, and the machine bounds.
+//! - `release.rt`: how much the bound of a version is above the machine bound.
+//! - `laws.rt`: laws of the definitions.
 #![tactic(auto)]
 
 mod bounds;

@@ -12,6 +12,7 @@ ghost use Rattle.flow_check.specs.declared.bounds.Bounds.{Bounds};
 ghost use Rattle.flow_check.specs.declared.fault.CheckFault.TheVariants.{Memory};
 
 pub(crate) mod heading;
+mod marked;
 mod walk;
 
 use crate::checker::is_ending;

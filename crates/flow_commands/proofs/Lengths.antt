@@ -113,16 +113,16 @@ signed byte text is h =
     let first = ap one_if is in
     omega (arith, all, first, h)
 
-are-directions : (shop : Shop) (number left : ℕ) (first last text : List ℕ) →
-    ProvesWith shop number left first last text → AreDirections text
-are-directions shop number zero first last text h = subst AreDirections (sym h.0) refl
-are-directions shop number (suc left) first last text (inl h) = subst AreDirections (sym h.0) refl
-are-directions shop number (suc left) first last text (inr (end, parts, below, is, all)) =
+are-directions : (shop : Shop) (threshold left : ℕ) (first last text : List ℕ) →
+    ProvesWith shop threshold left first last text → AreDirections text
+are-directions shop threshold zero first last text h = subst AreDirections (sym h.0) refl
+are-directions shop threshold (suc left) first last text (inl h) = subst AreDirections (sym h.0) refl
+are-directions shop threshold (suc left) first last text (inr (end, parts, below, is, all)) =
     subst AreDirections (sym is) (signed (sign end) (concat parts)
     (read-end (nat_eq (sign end) 43) (nat_eq (sign end) 45) _ _ end (sign-end end))
     (joined-directions
-    (λ job part. ProvesWith shop number left (first_with end first job) (last_with end last job) part)
-    (λ job part. are-directions shop number left (first_with end first job) (last_with end last job) part)
+    (λ job part. ProvesWith shop threshold left (first_with end first job) (last_with end last job) part)
+    (λ job part. are-directions shop threshold left (first_with end first job) (last_with end last job) part)
     (jobs_left shop.jobs (first ++ last)) parts all))
 
 -- what is counted in a text of two parts

@@ -117,7 +117,7 @@ pub request-says-true : {K : Type 0} (request : Request) (sink : SinkRun K) (ori
     SaysTrue request origin given sink
 request-says-true (Solve request) sink origin given text answer took =
     solve-is-lawful request sink origin given text answer took
-request-says-true (Certify request progress) sink origin given text answer took =
+request-says-true (Certify request progress seconds) sink origin given text answer took =
     certify-is-lawful request sink origin given text answer took
 request-says-true (Check request) sink origin given text answer took = (
   (text, says-proved request origin (unwrap_or given []) text answer, took),
@@ -127,7 +127,7 @@ request-says-true (Schedule form) sink origin given text answer took =
     schedule-is-proved form origin.block.instance sink (unwrap_or given []) text answer took
 request-says-true (Span jobs) sink origin given text answer took = tt
 request-says-true Neh sink origin given text answer took = tt
-request-says-true (Improve request) sink origin given text answer took = tt
+request-says-true (Improve request seconds) sink origin given text answer took = tt
 
 -- what a run writes for a request is true of the shop
 pub run-says-true : {S T K : Type 0} {kind : FileKind} {index : ℕ} {run : CommandRun S T K}

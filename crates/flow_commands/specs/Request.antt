@@ -19,8 +19,8 @@ abbrev pub answers : Request → Origin → Option (List ℕ) → Output → Typ
 answers (Span jobs) = OfShop (AnswersSpan jobs.items)
 answers Neh = OfShop AnswersNeh
 answers (Solve request) = FromStart (AnswersSolve request)
-answers (Improve request) = FromStart (AnswersImprove request)
-answers (Certify request progress) = FromStart (AnswersCertify request)
+answers (Improve request seconds) = FromStart (AnswersImprove request)
+answers (Certify request progress seconds) = FromStart (AnswersCertify request)
 answers (Check request) = OfBytes (AnswersCheck request)
 answers (Schedule form) = OfBytes (λ origin. AnswersSchedule form origin.block.instance)
 
@@ -29,7 +29,7 @@ answers (Schedule form) = OfBytes (λ origin. AnswersSchedule form origin.block.
 -- and a schedule is of a sequence of the shop, with a bound that holds
 abbrev pub SaysTrue : {K : Type 0} → Request → Origin → Option (List ℕ) → SinkRun K → Type 0
 SaysTrue (Solve request) origin second sink = WroteCertificate origin.block.instance sink
-SaysTrue (Certify request progress) origin second sink = WroteTwoEnded origin.block.instance sink
+SaysTrue (Certify request progress seconds) origin second sink = WroteTwoEnded origin.block.instance sink
 SaysTrue (Check request) origin second sink =
     Wrote (OfBytes (SaysProved request) origin second) sink
     × (request.optimal ≡ true → WroteOptimum request.output origin.block.instance sink)

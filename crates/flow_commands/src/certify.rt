@@ -46,8 +46,8 @@ fn tested(request: CertifyRequest) -> Result<(Effort, MostDirections), CommandFa
 
 /// Writes a two-ended certificate: bounds of the least makespan, which are one number where that was proved. Its
 /// sequence is no worse than the one that a start text gives, or, where there is no such text, than that of Nawaz,
-/// Enscore and Ham. The workers search for directions, on threads where they are two or more, and the watch is told how
-/// far the run is.
+/// Enscore and Ham. The workers search for directions, on threads where they are two or more; the watch is told how far
+/// the run is, and says when its time is over.
 #[derive(Drop)]
 pub(crate) struct Certify<'a, R, W> {
     pub(crate) rt: &'a R,

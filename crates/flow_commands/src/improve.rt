@@ -13,8 +13,9 @@ use crate::printed::sequence_lines;
 use crate::refusals::CommandFault;
 use crate::start::{given_start, start_of};
 use flow_core::{Instance, Sequence, Sink, put_all};
-use flow_improve::{Effort, EffortFault, Reached, improve};
+use flow_improve::{Deadline, Effort, EffortFault, Reached, improve_until};
 use flow_requests::{ImproveRequest, SecondFile};
+use flow_workers::Watch;
 use std::alloc::{AllocError, Global};
 
 /// The effort of a request; or the first fault of its numbers.
@@ -31,9 +32,22 @@ pub(crate) fn effort_of(request: ImproveRequest) -> Result<Effort, EffortFault>
     Effort::new(request.width, request.rounds, request.seed, request.work)
 }
 
+/// The time of a run, as its watch knows it.
+#[derive(Clone, Copy)]
+struct TimeOf<'a, W> {
+    watch: &'a W,
+}
+
+impl<'a, W: Watch> Deadline for TimeOf<'a, W> {
+    fn is_over(&self) -> bool {
+        self.watch.is_over()
+    }
+}
+
 /// A sequence of an instance that is no worse than the one to start from, with its makespan.
-fn improved(
+fn improved<W: Watch>(
     alloc: Global,
+    watch: &W,
     instance: &Instance,
     given: Option<Sequence>,
     effort: &Effort,
@@ -43,12 +57,13 @@ fn improved(
     ensures value { IfOk result (λ better. better.value ≡ span instance.now better.sequence) }
 {
     let start = start_of(alloc, instance, given)?;
-    improve(alloc, instance, &start, effort)
+    improve_until(alloc, instance, &start, effort, &TimeOf { watch })
 }
 
 /// The lines of a sequence that is no worse than the one to start from; or why the numbers of a request are refused.
-fn improved_lines(
+fn improved_lines<W: Watch>(
     alloc: Global,
+    watch: &W,
     instance: &Instance,
     given: Option<Sequence>,
     request: ImproveRequest,
@@ -60,18 +75,19 @@ fn improved_lines(
     ensures device { NamesNoDevice result }
 {
     let effort = effort_of(request)?;
-    let better = improved(alloc, instance, given, &effort)?;
+    let better = improved(alloc, watch, instance, given, &effort)?;
     Ok(sequence_lines(alloc, better.sequence.jobs(), better.value)?)
 }
 
 /// Answers a sequence and its makespan, which is no worse than the one that a start text gives, or, where there is no
-/// such text, than that of Nawaz, Enscore and Ham.
+/// such text, than that of Nawaz, Enscore and Ham. The watch says when its time is over.
 #[derive(Drop)]
-pub(crate) struct Improve {
+pub(crate) struct Improve<'a, W> {
+    pub(crate) watch: &'a W,
     pub(crate) request: ImproveRequest,
 }
 
-impl Command for Improve {
+impl<'a, W: Watch> Command for Improve<'a, W> {
     ghost is_ready = { λ _. Unit {0} };
 
     ghost answers = { λ s. FromStart (AnswersImprove s.request) };
@@ -84,7 +100,13 @@ impl Command for Improve {
         out: &mut K,
     ) -> Result<(), CommandFault> {
         let given = given_start(alloc, &picked.block.instance, second)?;
-        let text = improved_lines(alloc, &picked.block.instance, given, self.request)?;
+        let text = improved_lines(
+            alloc,
+            self.watch,
+            &picked.block.instance,
+            given,
+            self.request,
+        )?;
         put_all(out, text.as_slice())?;
         Ok(())
     }

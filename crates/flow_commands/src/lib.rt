@@ -1,8 +1,26 @@
 //! The commands, over sources and sinks: each reads what it needs, and writes its output or refuses by its first fault.
 //!
 //! Each command has a file of its word, and what it answers is said in the file of that name in `specs/`. (`gen` is a
-//! word of the language, so its files are `generate`.) What it is asked for stands in flow_requests; a fault of a new
-//! kind stands in `refusals`, a law of the definitions in `laws`.
+//! word of the language, so its files are `generate`.) What it is asked for stands in flow_requests.
+//!
+//! - `request.rt`: one call for all commands that read a block.
+//! - `command.rt`: what all commands have in common.
+//! - `files.rt`: the files that a command reads.
+//! - `block.rt`: the block of a benchmark text that an index names.
+//! - `start.rt`: the starting sequence that a start text gives.
+//! - `certify.rt`: `certify`.
+//! - `check.rt`: `check`.
+//! - `report.rt`: the report of `check`.
+//! - `schedule.rt`: `schedule`.
+//! - `timed.rt`: the sequence that a text gives to `schedule`.
+//! - `solve.rt`: `solve`.
+//! - `improve.rt`: `improve`.
+//! - `neh.rt`: `neh`.
+//! - `span.rt`: `span`.
+//! - `generate.rt`: `gen`.
+//! - `printed.rt`: the lines that commands print.
+//! - `refusals.rt`: why a command refused, and the words of the line that says so.
+//! - `laws.rt`: laws of the definitions.
 #![tactic(auto)]
 
 mod block;

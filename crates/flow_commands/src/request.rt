@@ -16,10 +16,10 @@ use crate::refusals::CommandFault;
 use crate::schedule::Schedule;
 use crate::solve::{Solve, solve_over};
 use crate::span::Span;
-use flow_core::{Instance, Sink, Source};
+use flow_core::{Sink, Source};
 use flow_pool::Open;
 use flow_requests::{Request, SecondFile};
-use flow_workers::{News, Watch};
+use flow_workers::Watch;
 use std::alloc::Global;
 use std::sync::Wait;
 use std::thread::Threads;
@@ -31,27 +31,8 @@ pub struct Means<'a, R, W> {
     pub rt: &'a R,
     /// Where memory comes from.
     pub alloc: Global,
-    /// What is told how far a run is, where its request says so.
+    /// What is told how far a run is, and says when its time is over.
     pub watch: &'a W,
-}
-
-/// A watch that is told news only where the request asks for it.
-#[derive(Clone, Copy)]
-struct IfAsked<'a, W> {
-    watch: &'a W,
-    asked: bool,
-}
-
-impl<'a, W: Watch> Watch for IfAsked<'a, W> {
-    fn is_on(&self) -> bool {
-        self.asked && self.watch.is_on()
-    }
-
-    fn tell(&self, instance: &Instance, news: News) {
-        if self.asked {
-            self.watch.tell(instance, news);
-        }
-    }
 }
 
 /// Does what a request asks of the block of a text that an index names, with a second file where there is one.
@@ -93,15 +74,20 @@ pub fn run_request<R: Threads + Wait + Sync, S: Source, T: Source, W: Watch, K: 
             };
             solve_over(alloc, file, index, second, &solve, out)
         }
-        Request::Improve(request) => {
-            let command = Improve { request: *request };
+        Request::Improve { request, seconds } => {
+            watch.begin(false, *seconds);
+            let command = Improve {
+                watch,
+                request: *request,
+            };
             run(alloc, file, index, second, &command, out)
         }
-        Request::Certify { request, progress } => {
-            let watch = &IfAsked {
-                watch,
-                asked: *progress,
-            };
+        Request::Certify {
+            request,
+            progress,
+            seconds,
+        } => {
+            watch.begin(*progress, *seconds);
             let command = Certify {
                 rt,
                 watch,

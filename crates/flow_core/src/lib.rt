@@ -1,5 +1,16 @@
 //! The permutation flow shop under one name: limits, instances and bounds, the generator, bytes and texts. Each item is
 //! one of flow_limits, flow_shop, flow_generator or flow_text.
+//!
+//! - `instance.rt`: faults of instances.
+//! - `row.rt`: rows.
+//! - `sequence.rt`: faults of sequences.
+//! - `bytes.rt`: the module of faults of devices.
+//! - `bytes/fault.rt`: faults of devices.
+//! - `text.rt`: the modules of blocks, of faults and of starts.
+//! - `text/block.rt`: blocks.
+//! - `text/fault.rt`: faults of texts.
+//! - `text/pick.rt`: blocks that an index names, and why it names none.
+//! - `text/start.rt`: what a start text says, and its faults.
 #![tactic(auto)]
 
 pub mod bytes;

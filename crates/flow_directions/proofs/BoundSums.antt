@@ -1,8 +1,9 @@
 -- Sums of the bounds of children, group by group and lane by lane.
-use Rattle.std.proofs.Common.{◌≡◌, ◌≢◌, ℕ, suc, ◌+◌, ◌*◌, ◌/◌, ◌%◌, ◌<◌, cond, false, nat_eq, List, [], ◌∷◌, ◌++◌}
+use Rattle.std.proofs.Common.{◌≡◌, ◌≢◌, ℕ, suc, ◌+◌, ◌-◌, ◌*◌, ◌/◌, ◌%◌, ◌<◌, cond, false, nat_eq, List, [], ◌∷◌, ◌++◌}
 use Rattle.std.proofs.Common.{length, slice_index, slice_index_or, take, drop, refl, ap, sym, ◌∙◌, subst, arith}
 use Rattle.std.specs.Global.{Vec}
 use Rattle.std.specs.Int.{bit_at}
+use Rattle.std.specs.Prelude.{Some, None}
 use Rattle.std.specs.List.{sum_by}
 use Rattle.std.proofs.lemmas.Bool.{cond-true, cond-false, eq-eqb, ne_eqb}
 use Rattle.std.proofs.lemmas.List.{drop_more}
@@ -10,13 +11,19 @@ use Rattle.std.proofs.lemmas.Nat.Bits.{bit_at-zero}
 use Rattle.std.proofs.lemmas.List.Sums.{sum_by-cons, sum_by-append}
 use Rattle.flow_shop.specs.Shop.{Shop}
 use Rattle.flow_shop.specs.Sequences.{has}
-use Rattle.flow_nodes.specs.Groups.{IsGroup}
+use Rattle.flow_shop.specs.declared.end.End.{End}
+use Rattle.flow_shop.proofs.Lists.{some-of}
+use Rattle.flow_nodes.specs.Vectors.{HasLane}
+use Rattle.flow_nodes.specs.Groups.{IsGroup, child_bound}
 use Rattle.flow_nodes.specs.Marks.{mark, picked, chosen}
 use Rattle.flow_nodes.specs.Packs.{HasLeft, IsPack}
+use Rattle.flow_nodes.specs.Open.{IsOpenNode, children_at}
+use Rattle.flow_nodes.specs.declared.open.OpenNode.{OpenNode}
 use Rattle.flow_nodes.specs.declared.marks.Marks.{Marks}
 use Rattle.flow_nodes.specs.declared.pack.Pack.{Pack}
 use Rattle.flow_nodes.proofs.ChosenNames.{chosen-group, chosen-nothing}
 use Rattle.flow_nodes.proofs.JobsMarked.{group-name, marked-left}
+use Rattle.flow_directions.proofs.TreeSteps.{children-of}
 
 picked-next : (word lane : ℕ) (names : List ℕ) → lane < length names →
     picked word lane (drop lane names)
@@ -111,3 +118,31 @@ group-at list cap width shop first last pack left group names vector vectors is 
           (omega (arith, low, within, is.room.names))
           (lane-mark left.words group lane low ∙ bit),
     )
+
+-- sixteen names from a place on
+pub sixteen : (names all : List ℕ) (from : ℕ) → names ≡ all →
+    take (from + 16 - from) (drop from names) ≡ take 16 (drop from all)
+sixteen names all from are =
+    let size : from + 16 - from ≡ 16 = omega arith in
+    ap (λ n. take n (drop from names)) size ∙ ap (λ l. take 16 (drop from l)) are
+
+-- where the bounds of a group are known, a job left of it has its bound
+pub known-lane : {V : Type 0} (list : V → List ℕ) (cap width : ℕ) (shop : Shop) (threshold : ℕ) (end : End)
+    (first last : List ℕ) (pack : Pack V) (open_node : OpenNode V) (group lane : ℕ) (bounds : V) →
+    IsOpenNode list cap width shop threshold first last pack open_node → IsPack list cap width shop pack →
+    group < length pack.groups.items → lane < 16 → bit_at (slice_index open_node.left.words group) lane ≡ 1 →
+    slice_index_or (children_at end open_node).bounds.items group None ≡ Some bounds →
+    HasLane cap width (list bounds) lane
+    (child_bound shop end first last (slice_index (take 16 (drop (group * 16) pack.names.items)) lane))
+known-lane list cap width shop threshold end first last pack open_node group lane bounds is is_pack within low bit known =
+    let place : ℕ = group * 16 + lane in
+    let word : place / 16 ≡ group = omega (arith, low) in
+    let there : place % 16 ≡ lane = omega (arith, low) in
+    let none = some-of pack.groups.items (omega (arith, within)) in
+    let whole = (children-of list cap width shop threshold end first last pack open_node is).whole place none bounds
+    (omega (arith, low, within, is_pack.room.names)) (lane-mark open_node.left.words group lane low ∙ bit)
+    (ap (λ g. slice_index_or (children_at end open_node).bounds.items g None) word ∙ known) in
+    subst (λ job. HasLane cap width (list bounds) lane (child_bound shop end first last job))
+    (sym (group-name pack.names.items group lane low))
+    (subst (λ l. HasLane cap width (list bounds) l
+    (child_bound shop end first last (slice_index pack.names.items place))) there whole.bound)

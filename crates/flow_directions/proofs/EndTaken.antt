@@ -15,62 +15,62 @@ abbrev by_close : ℕ → ℕ → ℕ → Bool
 by_close plain other left = nat_le 2 plain && nat_le (2 * other) (3 * plain) && nat_le 3 left
 
 -- the end of the plain rule, and the other one
-module _ (shop : Shop) (number : ℕ) (first last : List ℕ) (plain other : End)
-    (plain_is : plain ≡ plain_end shop number first last) (other_is : other ≡ other_end shop number first last) where
+module _ (shop : Shop) (threshold : ℕ) (first last : List ℕ) (plain other : End)
+    (plain_is : plain ≡ plain_end shop threshold first last) (other_is : other ≡ other_end shop threshold first last) where
   -- the search looks ahead just by these counts
-  pub close-is : (plain_count other_count left : ℕ) → plain_count ≡ count_below shop number plain first last →
-      other_count ≡ count_below shop number other first last → left ≡ length (jobs_left shop.jobs (first ++ last)) →
-      by_close plain_count other_count left ≡ looks_ahead shop number first last
+  pub close-is : (plain_count other_count left : ℕ) → plain_count ≡ count_below shop threshold plain first last →
+      other_count ≡ count_below shop threshold other first last → left ≡ length (jobs_left shop.jobs (first ++ last)) →
+      by_close plain_count other_count left ≡ looks_ahead shop threshold first last
   close-is plain_count other_count left plain_counted other_counted left_is =
-      let plain_same : plain_count ≡ count_below shop number (plain_end shop number first last) first last =
-      plain_counted ∙ ap (λ e. count_below shop number e first last) plain_is in
-      let other_same : other_count ≡ count_below shop number (other_end shop number first last) first last =
-      other_counted ∙ ap (λ e. count_below shop number e first last) other_is in
+      let plain_same : plain_count ≡ count_below shop threshold (plain_end shop threshold first last) first last =
+      plain_counted ∙ ap (λ e. count_below shop threshold e first last) plain_is in
+      let other_same : other_count ≡ count_below shop threshold (other_end shop threshold first last) first last =
+      other_counted ∙ ap (λ e. count_below shop threshold e first last) other_is in
       ap (λ n. by_close n other_count left) plain_same
-      ∙ ap (λ n. by_close (count_below shop number (plain_end shop number first last) first last) n left) other_same
-      ∙ ap (by_close (count_below shop number (plain_end shop number first last) first last)
-      (count_below shop number (other_end shop number first last) first last)) left_is
+      ∙ ap (λ n. by_close (count_below shop threshold (plain_end shop threshold first last) first last) n left) other_same
+      ∙ ap (by_close (count_below shop threshold (plain_end shop threshold first last) first last)
+      (count_below shop threshold (other_end shop threshold first last) first last)) left_is
 
   abbrev chosen_by : Bool → Bool → End
   chosen_by ahead lighter =
-      cond (ahead && lighter) (other_end shop number first last) (plain_end shop number first last)
+      cond (ahead && lighter) (other_end shop threshold first last) (plain_end shop threshold first last)
 
-  taken-is : end_taken shop number first last ≡ chosen_by (looks_ahead shop number first last)
-      (nat_lt (weight shop number other first last) (weight shop number plain first last))
+  taken-is : end_taken shop threshold first last ≡ chosen_by (looks_ahead shop threshold first last)
+      (nat_lt (weight shop threshold other first last) (weight shop threshold plain first last))
   unfolding end_taken
   taken-is =
-      ap (λ e. chosen_by (looks_ahead shop number first last)
-      (nat_lt (weight shop number e first last)
-      (weight shop number (plain_end shop number first last) first last))) (sym other_is)
-      ∙ ap (λ e. chosen_by (looks_ahead shop number first last)
-      (nat_lt (weight shop number other first last) (weight shop number e first last))) (sym plain_is)
+      ap (λ e. chosen_by (looks_ahead shop threshold first last)
+      (nat_lt (weight shop threshold e first last)
+      (weight shop threshold (plain_end shop threshold first last) first last))) (sym other_is)
+      ∙ ap (λ e. chosen_by (looks_ahead shop threshold first last)
+      (nat_lt (weight shop threshold other first last) (weight shop threshold e first last))) (sym plain_is)
 
   -- where it does not look ahead, the end of the plain rule is taken
-  pub plain-far : looks_ahead shop number first last ≡ false → plain ≡ end_taken shop number first last
+  pub plain-far : looks_ahead shop threshold first last ≡ false → plain ≡ end_taken shop threshold first last
   plain-far far =
       plain_is ∙ sym (taken-is ∙ ap (λ b. chosen_by b
-      (nat_lt (weight shop number other first last) (weight shop number plain first last))) far)
+      (nat_lt (weight shop threshold other first last) (weight shop threshold plain first last))) far)
 
   -- and where the other one has no smaller weight
-  pub plain-kept : weight shop number plain first last ≤ weight shop number other first last →
-      plain ≡ end_taken shop number first last
+  pub plain-kept : weight shop threshold plain first last ≤ weight shop threshold other first last →
+      plain ≡ end_taken shop threshold first last
   plain-kept lighter =
       plain_is ∙ sym (taken-is
-      ∙ ap (chosen_by (looks_ahead shop number first last)) (le-ltb (weight shop number other first last)
-      (weight shop number plain first last) lighter)
-      ∙ ap (λ b. cond b (other_end shop number first last) (plain_end shop number first last))
-      (and-false (looks_ahead shop number first last)))
+      ∙ ap (chosen_by (looks_ahead shop threshold first last)) (le-ltb (weight shop threshold other first last)
+      (weight shop threshold plain first last) lighter)
+      ∙ ap (λ b. cond b (other_end shop threshold first last) (plain_end shop threshold first last))
+      (and-false (looks_ahead shop threshold first last)))
 
   -- or else the other one
-  pub other-lighter : looks_ahead shop number first last ≡ true →
-      weight shop number other first last < weight shop number plain first last →
-      other ≡ end_taken shop number first last
+  pub other-lighter : looks_ahead shop threshold first last ≡ true →
+      weight shop threshold other first last < weight shop threshold plain first last →
+      other ≡ end_taken shop threshold first last
   other-lighter close lighter =
       other_is ∙ sym (taken-is
-      ∙ ap (λ b. chosen_by b (nat_lt (weight shop number other first last)
-      (weight shop number plain first last))) close
-      ∙ ap (chosen_by true) (lt-ltb (weight shop number other first last)
-      (weight shop number plain first last) lighter))
+      ∙ ap (λ b. chosen_by b (nat_lt (weight shop threshold other first last)
+      (weight shop threshold plain first last))) close
+      ∙ ap (chosen_by true) (lt-ltb (weight shop threshold other first last)
+      (weight shop threshold plain first last) lighter))
 
 some-same : (one two : End) → Some one ≡ Some two → one ≡ two
 some-same one two is = ap the_end is

@@ -30,11 +30,11 @@ use Rattle.flow_directions.proofs.SearchProves.{directions_prove}
 use Rattle.flow_directions.proofs.SearchReaches.{reached_is_below}
 
 -- a sequence that is reached, with its makespan
-pub found-below : (shop : Shop) (number budget : ℕ) (first last jobs text : List ℕ) (found : Advanced) →
-    first_below shop number first last ≡ Some jobs → text ≡ directions_of shop number first last →
-    length text ≤ budget → IsSequenceAfter shop jobs text found → IsAdvanced shop number budget first last found
-found-below shop number budget first last jobs text (advanced.Proved directions) reached written within is = absurd is
-found-below shop number budget first last jobs text (advanced.Below sequence makespan directions) reached written
+pub found-below : (shop : Shop) (threshold budget : ℕ) (first last jobs text : List ℕ) (found : Advanced) →
+    first_below shop threshold first last ≡ Some jobs → text ≡ directions_of shop threshold first last →
+    length text ≤ budget → IsSequenceAfter shop jobs text found → IsAdvanced shop threshold budget first last found
+found-below shop threshold budget first last jobs text (advanced.Proved directions) reached written within is = absurd is
+found-below shop threshold budget first last jobs text (advanced.Below sequence makespan directions) reached written
     within is = (
       (
         reached ∙ ap Some (sym is.0),
@@ -44,35 +44,35 @@ found-below shop number budget first last jobs text (advanced.Below sequence mak
       ),
       is.2 ∙ written,
     )
-found-below shop number budget first last jobs text (advanced.Rest directions parts) reached written within is =
+found-below shop threshold budget first last jobs text (advanced.Rest directions parts) reached written within is =
     absurd is
 
--- what is found at a node whose bound is at least the number
-pub found-high : (shop : Shop) (number budget : ℕ) (first last : List ℕ) (text : Vec ℕ) → text.items ≡ [] →
-    number ≤ end_bound shop first last → IsAdvanced shop number budget first last (advanced.Proved text)
-found-high shop number budget first last text none high =
-    let nothing = visits-high shop number first last high in
+-- what is found at a node whose bound is at least the threshold
+pub found-high : (shop : Shop) (threshold budget : ℕ) (first last : List ℕ) (text : Vec ℕ) → text.items ≡ [] →
+    threshold ≤ end_bound shop first last → IsAdvanced shop threshold budget first last (advanced.Proved text)
+found-high shop threshold budget first last text none high =
+    let nothing = visits-high shop threshold first last high in
     (ap first_reached nothing, none ∙ sym (ap signs nothing), omega (arith, ap length none))
 
--- and at one below the number, without jobs left
-pub found-whole : (shop : Shop) (number budget : ℕ) (first last : List ℕ) (found : Advanced) →
-    length (jobs_left shop.jobs (first ++ last)) ≡ 0 → end_bound shop first last < number →
-    IsSequenceAfter shop (first ++ last) [] found → IsAdvanced shop number budget first last found
-found-whole shop number budget first last found none low is =
-    let one = visits-whole shop number first last none low in
-    found-below shop number budget first last (first ++ last) [] found (ap first_reached one)
+-- and at one below the threshold, without jobs left
+pub found-whole : (shop : Shop) (threshold budget : ℕ) (first last : List ℕ) (found : Advanced) →
+    length (jobs_left shop.jobs (first ++ last)) ≡ 0 → end_bound shop first last < threshold →
+    IsSequenceAfter shop (first ++ last) [] found → IsAdvanced shop threshold budget first last found
+found-whole shop threshold budget first last found none low is =
+    let one = visits-whole shop threshold first last none low in
+    found-below shop threshold budget first last (first ++ last) [] found (ap first_reached one)
     (sym (ap signs one)) (omega arith) is
 
 -- what is found shows that the number is proved, or a sequence below it
-pub found-shows : (shop : Shop) (number budget : ℕ) (first last : List ℕ) (found : Found) →
-    AreJobs shop.jobs (first ++ last) → IsFound shop number budget first last found →
-    Shows shop number first last found
-found-shows shop number budget first last (Proved text) are is =
-    subst (ProvesFrom shop number first last) (sym is.1) (directions_prove shop number first last are is.0)
-found-shows shop number budget first last (Below sequence makespan directions) are is =
-    let reached = reached_is_below shop number first last sequence are is.0 in
+pub found-shows : (shop : Shop) (threshold budget : ℕ) (first last : List ℕ) (found : Found) →
+    AreJobs shop.jobs (first ++ last) → IsFound shop threshold budget first last found →
+    Shows shop threshold first last found
+found-shows shop threshold budget first last (Proved text) are is =
+    subst (ProvesFrom shop threshold first last) (sym is.1) (directions_prove shop threshold first last are is.0)
+found-shows shop threshold budget first last (Below sequence makespan directions) are is =
+    let reached = reached_is_below shop threshold first last sequence are is.0 in
     (reached.0, sym is.1, omega (arith, reached.1, is.1))
-found-shows shop number budget first last Over are is = tt
+found-shows shop threshold budget first last Over are is = tt
 
 -- of what is returned where something is found
 pub each-ok : {T E : Type 0} (P Q : T → Type 0) (result : Result T E) → ((found : T) → P found → Q found) →
@@ -90,48 +90,48 @@ no-jobs-fault (Err fault) is e =
     absurd (cc)
 
 -- what is found past the budget
-pub found-over : (shop : Shop) (number budget left : ℕ) (first last : List ℕ) (text : Vec ℕ) (parts : Vec Part)
+pub found-over : (shop : Shop) (threshold budget left : ℕ) (first last : List ℕ) (text : Vec ℕ) (parts : Vec Part)
     (names : ℕ → List ℕ) (levels : List Level) → length text.items ≡ budget →
-    Continues (visits shop number first last) text.items
-    (met_with shop number names left first last levels
-    (visits shop number (first_of first levels) (last_of last levels))) →
-    end_bound shop (first_of first levels) (last_of last levels) < number →
+    Continues (visits shop threshold first last) text.items
+    (met_with shop threshold names left first last levels
+    (visits shop threshold (first_of first levels) (last_of last levels))) →
+    end_bound shop (first_of first levels) (last_of last levels) < threshold →
     0 < length (jobs_left shop.jobs (first_of first levels ++ last_of last levels)) →
-    parts_visits shop number parts.items
-    ≡ met_with shop number names left first last levels
-    (visits shop number (first_of first levels) (last_of last levels)) →
+    parts_visits shop threshold parts.items
+    ≡ met_with shop threshold names left first last levels
+    (visits shop threshold (first_of first levels) (last_of last levels)) →
     All (IsPart shop) parts.items → length parts.items ≤ length (jobs_left shop.jobs (first ++ last)) →
-    IsAdvanced shop number budget first last (advanced.Rest text parts)
-found-over shop number budget left first last text parts names levels full continues low some met each few =
+    IsAdvanced shop threshold budget first last (advanced.Rest text parts)
+found-over shop threshold budget left first last text parts names levels full continues low some met each few =
     let first2 : List ℕ = first_of first levels in
     let last2 : List ℕ = last_of last levels in
-    let end : End = end_taken shop number first2 last2 in
-    let more : List Visit = flat_map (child_visits shop number end first2 last2) (jobs_left shop.jobs (first2 ++ last2))
+    let end : End = end_taken shop threshold first2 last2 in
+    let more : List Visit = flat_map (child_visits shop threshold end first2 last2) (jobs_left shop.jobs (first2 ++ last2))
     in
-    let opened : met_with shop number names left first last levels (visits shop number first2 last2)
-    ≡ opens end ∷ met_with shop number names left first last levels more =
-    ap (met_with shop number names left first last levels) (visits-open shop number first2 last2 some low)
-    ∙ met-opens shop number names left first last levels end more in
+    let opened : met_with shop threshold names left first last levels (visits shop threshold first2 last2)
+    ≡ opens end ∷ met_with shop threshold names left first last levels more =
+    ap (met_with shop threshold names left first last levels) (visits-open shop threshold first2 last2 some low)
+    ∙ met-opens shop threshold names left first last levels end more in
     let longer = ap length (continues.0 ∙ ap (λ v. text.items ++ signs v) opened) in (
       omega (
         arith,
         longer,
         full,
-        length-append text.items (sign end ∷ signs (met_with shop number names left first last levels more)),
+        length-append text.items (sign end ∷ signs (met_with shop threshold names left first last levels more)),
       ),
       full,
-      subst (Continues (visits shop number first last) text.items) (sym met) continues,
+      subst (Continues (visits shop threshold first last) text.items) (sym met) continues,
       each,
       few,
     )
 
 -- and where nothing may be written
-pub found-none : (shop : Shop) (number budget : ℕ) (first last : List ℕ) (text : Vec ℕ) (parts : Vec Part) →
-    text.items ≡ [] → budget ≡ 0 → end_bound shop first last < number →
-    0 < length (jobs_left shop.jobs (first ++ last)) → parts_visits shop number parts.items ≡ visits shop number first
+pub found-none : (shop : Shop) (threshold budget : ℕ) (first last : List ℕ) (text : Vec ℕ) (parts : Vec Part) →
+    text.items ≡ [] → budget ≡ 0 → end_bound shop first last < threshold →
+    0 < length (jobs_left shop.jobs (first ++ last)) → parts_visits shop threshold parts.items ≡ visits shop threshold first
     last →
     All (IsPart shop) parts.items → length parts.items ≤ length (jobs_left shop.jobs (first ++ last)) →
-    IsAdvanced shop number budget first last (advanced.Rest text parts)
-found-none shop number budget first last text parts empty full low some met each few =
-    found-over shop number budget 0 first last text parts (λ left. []) [] (ap length empty ∙ sym full)
-    (ap (λ xs. xs ++ signs (visits shop number first last)) (sym empty), refl) low some met each few
+    IsAdvanced shop threshold budget first last (advanced.Rest text parts)
+found-none shop threshold budget first last text parts empty full low some met each few =
+    found-over shop threshold budget 0 first last text parts (λ left. []) [] (ap length empty ∙ sym full)
+    (ap (λ xs. xs ++ signs (visits shop threshold first last)) (sym empty), refl) low some met each few

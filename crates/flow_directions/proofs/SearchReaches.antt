@@ -1,4 +1,4 @@
--- What the search reaches is a sequence of the node, below the number; and it reaches none only where there is none.
+-- What the search reaches is a sequence of the node, below the threshold; and it reaches none only where there is none.
 use Rattle.std.proofs.Common.{◌≡◌, ℕ, zero, suc, ◌<◌, ◌≤◌, nat_le, List, [], ◌∷◌, ◌++◌, length, Some, None, refl, ap}
 use Rattle.std.proofs.Common.{sym, ◌∙◌, subst, inl, inr, arith, append_assoc, append-nil}
 use Rattle.std.specs.List.{AllByRecursion}
@@ -43,43 +43,43 @@ of-child shop Back first last job jobs of = (
   of.2,
 )
 
-module _ (shop : Shop) (number : ℕ) where
+module _ (shop : Shop) (threshold : ℕ) where
   -- a sequence that is reached at a node
   abbrev IsReached : List ℕ → List ℕ → List ℕ → Type 0
-  IsReached first last jobs = IsOfNode shop first last jobs × (span shop jobs < number)
+  IsReached first last jobs = IsOfNode shop first last jobs × (span shop jobs < threshold)
 
   -- where no job is left
   at-whole : (first last jobs : List ℕ) → AreJobs shop.jobs (first ++ last) →
-      length (jobs_left shop.jobs (first ++ last)) ≡ 0 → end_bound shop first last < number →
-      first_below shop number first last ≡ Some jobs → IsReached first last jobs
+      length (jobs_left shop.jobs (first ++ last)) ≡ 0 → end_bound shop first last < threshold →
+      first_below shop threshold first last ≡ Some jobs → IsReached first last jobs
   at-whole first last jobs are none low reached =
       let is = whole-node shop.jobs (first ++ last) are none in
       let same : first ++ last ≡ jobs = same_Some (first ++ last) jobs
-      (sym (ap first_reached (visits-whole shop number first last none low)) ∙ reached) in (
+      (sym (ap first_reached (visits-whole shop threshold first last none low)) ∙ reached) in (
         of-whole shop first last jobs same is,
         omega (arith, low, end_bound_is_exact shop first last is, ap (span shop) same),
       )
 
-  -- where the bound is at least the number
-  at-high : (first last jobs : List ℕ) → number ≤ end_bound shop first last →
-      first_below shop number first last ≡ Some jobs → IsReached first last jobs
+  -- where the bound is at least the threshold
+  at-high : (first last jobs : List ℕ) → threshold ≤ end_bound shop first last →
+      first_below shop threshold first last ≡ Some jobs → IsReached first last jobs
   at-high first last jobs high reached =
-      absurd (none-some jobs (sym (ap first_reached (visits-high shop number first last high)) ∙ reached))
+      absurd (none-some jobs (sym (ap first_reached (visits-high shop threshold first last high)) ∙ reached))
 
   below : (left : ℕ) (first last jobs : List ℕ) → AreJobs shop.jobs (first ++ last) →
-      length (jobs_left shop.jobs (first ++ last)) ≡ left → first_below shop number first last ≡ Some jobs →
+      length (jobs_left shop.jobs (first ++ last)) ≡ left → first_below shop threshold first last ≡ Some jobs →
       IsReached first last jobs
-  below zero first last jobs are count reached = elim (cases_Bool (nat_le number (end_bound shop first last))) [
-    | inl high ↦ at-high first last jobs (leb-true number (end_bound shop first last) high) reached
-    | inr low ↦ at-whole first last jobs are count (leb-false number (end_bound shop first last) low) reached
+  below zero first last jobs are count reached = elim (cases_Bool (nat_le threshold (end_bound shop first last))) [
+    | inl high ↦ at-high first last jobs (leb-true threshold (end_bound shop first last) high) reached
+    | inr low ↦ at-whole first last jobs are count (leb-false threshold (end_bound shop first last) low) reached
   ]
-  below (suc left) first last jobs are count reached = elim (cases_Bool (nat_le number (end_bound shop first last))) [
-    | inl high ↦ at-high first last jobs (leb-true number (end_bound shop first last) high) reached
+  below (suc left) first last jobs are count reached = elim (cases_Bool (nat_le threshold (end_bound shop first last))) [
+    | inl high ↦ at-high first last jobs (leb-true threshold (end_bound shop first last) high) reached
     | inr low ↦
-        let end : End = end_taken shop number first last in
-        let step = visits-open shop number first last (omega (arith, count))
-        (leb-false number (end_bound shop first last) low) in
-        let part = reached-flat_map (child_visits shop number end first last) (jobs_left shop.jobs (first ++ last)) jobs
+        let end : End = end_taken shop threshold first last in
+        let step = visits-open shop threshold first last (omega (arith, count))
+        (leb-false threshold (end_bound shop first last) low) in
+        let part = reached-flat_map (child_visits shop threshold end first last) (jobs_left shop.jobs (first ++ last)) jobs
         (sym (ap first_reached step) ∙ reached) in
         let job : ℕ = part.1 in
         let child = all-at (IsChild shop.jobs end first last left) part.0 job part.2
@@ -90,30 +90,30 @@ module _ (shop : Shop) (number : ℕ) where
   ]
 
 pub reached_is_below : ReachedIsBelow
-reached_is_below shop number first last jobs are reached =
-    below shop number (length (jobs_left shop.jobs (first ++ last))) first last jobs are refl reached
+reached_is_below shop threshold first last jobs are reached =
+    below shop threshold (length (jobs_left shop.jobs (first ++ last))) first last jobs are refl reached
 
--- where it reaches none, no sequence of the node is below the number
-none-below : (shop : Shop) (number : ℕ) (first last jobs : List ℕ) → AreJobs shop.jobs (first ++ last) →
-    first_below shop number first last ≡ None → IsOfNode shop first last jobs → number ≤ span shop jobs
-none-below shop number first last jobs are none of =
-    subst (λ jobs. number ≤ span shop jobs) (sym of.1)
-    (directions_are_sound shop number first of.0 last (directions_of shop number first last)
-    (directions_prove shop number first last are none) (subst (IsSequence shop.jobs) of.1 of.2))
+-- where it reaches none, no sequence of the node is below the threshold
+none-below : (shop : Shop) (threshold : ℕ) (first last jobs : List ℕ) → AreJobs shop.jobs (first ++ last) →
+    first_below shop threshold first last ≡ None → IsOfNode shop first last jobs → threshold ≤ span shop jobs
+none-below shop threshold first last jobs are none of =
+    subst (λ jobs. threshold ≤ span shop jobs) (sym of.1)
+    (directions_are_sound shop threshold first of.0 last (directions_of shop threshold first last)
+    (directions_prove shop threshold first last are none) (subst (IsSequence shop.jobs) of.1 of.2))
 
--- where none is below the number, it reaches none
-none-reached : (shop : Shop) (number : ℕ) (first last : List ℕ) → AreJobs shop.jobs (first ++ last) →
-    ((jobs : List ℕ) → IsOfNode shop first last jobs → number ≤ span shop jobs) →
-    first_below shop number first last ≡ None
-none-reached shop number first last are lower = elim (none-or-reached (first_below shop number first last)) [
+-- where none is below the threshold, it reaches none
+none-reached : (shop : Shop) (threshold : ℕ) (first last : List ℕ) → AreJobs shop.jobs (first ++ last) →
+    ((jobs : List ℕ) → IsOfNode shop first last jobs → threshold ≤ span shop jobs) →
+    first_below shop threshold first last ≡ None
+none-reached shop threshold first last are lower = elim (none-or-reached (first_below shop threshold first last)) [
   | inl none ↦ none
   | inr found ↦
-      let is = reached_is_below shop number first last found.0 are found.1 in
+      let is = reached_is_below shop threshold first last found.0 are found.1 in
       absurd (omega (arith, is.1, lower found.0 is.0))
 ]
 
 pub reaches_none_below : ReachesNoneBelow
-reaches_none_below shop number first last are = (
-  λ none jobs of. none-below shop number first last jobs are none of,
-  none-reached shop number first last are,
+reaches_none_below shop threshold first last are = (
+  λ none jobs of. none-below shop threshold first last jobs are none of,
+  none-reached shop threshold first last are,
 )

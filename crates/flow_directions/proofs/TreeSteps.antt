@@ -124,7 +124,15 @@ pub room-fewer : {V : Type 0} (shop : Shop) (few many : ℕ) (node : OpenNode V)
 room-fewer shop few many node low room = record {
   at_front = record { enough = omega (arith, low, room.at_front.enough); machines = room.at_front.machines };
   at_back = record { enough = omega (arith, low, room.at_back.enough); machines = room.at_back.machines };
+  front_bounds = omega (arith, low, room.front_bounds);
+  back_bounds = omega (arith, low, room.back_bounds);
 }
+
+-- memory for the bounds of so many groups at an end
+pub bounds-room : {V : Type 0} (shop : Shop) (groups : ℕ) (end : End) (node : OpenNode V) →
+    HasRoomToOpen shop groups node → groups ≤ length (children_at end node).bounds.items
+bounds-room shop groups Front node room = room.front_bounds
+bounds-room shop groups Back node room = room.back_bounds
 
 -- how many names the pack at a place has
 pub names-count : {V : Type 0} (shop : Shop) (packs : List (Pack V)) (place : ℕ) (none : Pack V) →
@@ -134,28 +142,28 @@ names-count shop packs place none have within =
     omega (arith, (have.rooms place none within).names, have.groups place none within)
 
 -- the children of an open node at an end
-pub children-of : {V : Type 0} (list : V → List ℕ) (cap width : ℕ) (shop : Shop) (number : ℕ) (end : End)
+pub children-of : {V : Type 0} (list : V → List ℕ) (cap width : ℕ) (shop : Shop) (threshold : ℕ) (end : End)
     (first last : List ℕ) (pack : Pack V) (node : OpenNode V) →
-    IsOpenNode list cap width shop number first last pack node →
-    AreChildren list cap width shop number end first last pack.names.items node.left (children_at end node)
-children-of list cap width shop number Front first last pack node is = is.at_front
-children-of list cap width shop number Back first last pack node is = is.at_back
+    IsOpenNode list cap width shop threshold first last pack node →
+    AreChildren list cap width shop threshold end first last pack.names.items node.left (children_at end node)
+children-of list cap width shop threshold Front first last pack node is = is.at_front
+children-of list cap width shop threshold Back first last pack node is = is.at_back
 
-module _ {V : Type 0} (list : V → List ℕ) (cap width : ℕ) (shop : Shop) (number : ℕ) where
+module _ {V : Type 0} (list : V → List ℕ) (cap width : ℕ) (shop : Shop) (threshold : ℕ) where
   -- where the pack and the node are the same, the node is still open
   pub open-moved : (first last : List ℕ) (groups place : ℕ) (packs packs2 : List (Pack V))
       (nodes nodes2 : List (OpenNode V)) →
       ((none : Pack V) → slice_index_or packs2 (groups - 1) none ≡ slice_index_or packs (groups - 1) none) →
       ((empty : OpenNode V) → slice_index_or nodes2 place empty ≡ slice_index_or nodes place empty) →
-      IsOpenAt list cap width shop number first last groups place packs nodes →
-      IsOpenAt list cap width shop number first last groups place packs2 nodes2
+      IsOpenAt list cap width shop threshold first last groups place packs nodes →
+      IsOpenAt list cap width shop threshold first last groups place packs2 nodes2
   open-moved first last groups place packs packs2 nodes nodes2 pack node is = record {
     below = is.below;
     is_pack = λ none. subst (IsPack list cap width shop) (sym (pack none)) (is.is_pack none);
     is_open = λ none empty.
-        subst (λ p. IsOpenNode list cap width shop number first last p (slice_index_or nodes2 place empty))
+        subst (λ p. IsOpenNode list cap width shop threshold first last p (slice_index_or nodes2 place empty))
         (sym (pack none))
-        (subst (IsOpenNode list cap width shop number first last (slice_index_or packs (groups - 1) none))
+        (subst (IsOpenNode list cap width shop threshold first last (slice_index_or packs (groups - 1) none))
         (sym (node empty)) (is.is_open none empty));
   }
 
@@ -163,18 +171,18 @@ module _ {V : Type 0} (list : V → List ℕ) (cap width : ℕ) (shop : Shop) (n
   pub open-read : (first last : List ℕ) (groups place : ℕ) (packs : List (Pack V)) (nodes : List (OpenNode V))
       (pack : Pack V) (node : OpenNode V) → pack ≡ slice_index_or packs (groups - 1) pack →
       node ≡ slice_index_or nodes place node →
-      IsOpenAt list cap width shop number first last groups place packs nodes →
-      IsOpenNode list cap width shop number first last pack node
+      IsOpenAt list cap width shop threshold first last groups place packs nodes →
+      IsOpenNode list cap width shop threshold first last pack node
   open-read first last groups place packs nodes pack node pack_is node_is is =
-      subst (λ p. IsOpenNode list cap width shop number first last p node) (sym pack_is)
-      (subst (IsOpenNode list cap width shop number first last (slice_index_or packs (groups - 1) pack)) (sym node_is)
+      subst (λ p. IsOpenNode list cap width shop threshold first last p node) (sym pack_is)
+      (subst (IsOpenNode list cap width shop threshold first last (slice_index_or packs (groups - 1) pack)) (sym node_is)
       (is.is_open pack node))
 
   -- likewise where the packs stay, and the first nodes
   pub open-kept : (first last : List ℕ) (groups place count : ℕ) (packs packs2 : List (Pack V))
       (nodes nodes2 : List (OpenNode V)) → packs2 ≡ packs → take count nodes2 ≡ take count nodes → place < count →
-      IsOpenAt list cap width shop number first last groups place packs nodes →
-      IsOpenAt list cap width shop number first last groups place packs2 nodes2
+      IsOpenAt list cap width shop threshold first last groups place packs nodes →
+      IsOpenAt list cap width shop threshold first last groups place packs2 nodes2
   open-kept first last groups place count packs packs2 nodes nodes2 pack node low =
       open-moved first last groups place packs packs2 nodes nodes2
       (λ none. ap (λ ps. slice_index_or ps (groups - 1) none) pack)
@@ -184,8 +192,8 @@ module _ {V : Type 0} (list : V → List ℕ) (cap width : ℕ) (shop : Shop) (n
   pub children-kept : (end : End) (first last : List ℕ) (groups : ℕ) (jobs : List ℕ) (from count : ℕ)
       (packs packs2 : List (Pack V)) (nodes nodes2 : List (OpenNode V)) → packs2 ≡ packs →
       take count nodes2 ≡ take count nodes → from + length jobs ≤ count →
-      AreKept list cap width shop number end first last groups jobs from packs nodes →
-      AreKept list cap width shop number end first last groups jobs from packs2 nodes2
+      AreKept list cap width shop threshold end first last groups jobs from packs nodes →
+      AreKept list cap width shop threshold end first last groups jobs from packs2 nodes2
   children-kept end first last groups [] from count packs packs2 nodes nodes2 pack node low are = tt
   children-kept end first last groups (job ∷ jobs) from count packs packs2 nodes nodes2 pack node low are = (
     open-kept (first_with end first job) (last_with end last job) groups from count packs packs2 nodes nodes2 pack node
@@ -197,13 +205,13 @@ module _ {V : Type 0} (list : V → List ℕ) (cap width : ℕ) (shop : Shop) (n
   -- one more child behind those that are kept
   pub children-more : (end : End) (first last : List ℕ) (groups : ℕ) (jobs : List ℕ) (job from : ℕ)
       (packs : List (Pack V)) (nodes : List (OpenNode V)) →
-      AreKept list cap width shop number end first last groups jobs from packs nodes →
-      IsOpenAt list cap width shop number (first_with end first job) (last_with end last job) groups
+      AreKept list cap width shop threshold end first last groups jobs from packs nodes →
+      IsOpenAt list cap width shop threshold (first_with end first job) (last_with end last job) groups
       (from + length jobs) packs nodes →
-      AreKept list cap width shop number end first last groups (jobs ++ job ∷ []) from packs nodes
+      AreKept list cap width shop threshold end first last groups (jobs ++ job ∷ []) from packs nodes
   children-more end first last groups [] job from packs nodes are is =
       let e : from + 0 ≡ from = omega arith in (
-        subst (λ p. IsOpenAt list cap width shop number (first_with end first job) (last_with end last job) groups p
+        subst (λ p. IsOpenAt list cap width shop threshold (first_with end first job) (last_with end last job) groups p
             packs nodes) e is,
         tt,
       )
@@ -211,15 +219,15 @@ module _ {V : Type 0} (list : V → List ℕ) (cap width : ℕ) (shop : Shop) (n
       let e : from + length (other ∷ jobs) ≡ from + 1 + length jobs = omega arith in (
         are.0,
         children-more end first last groups jobs job (from + 1) packs nodes are.1
-            (subst (λ p. IsOpenAt list cap width shop number (first_with end first job) (last_with end last job) groups
+            (subst (λ p. IsOpenAt list cap width shop threshold (first_with end first job) (last_with end last job) groups
             p packs nodes) e is),
       )
 
--- few children of a node are below the number
-pub count-small : (shop : Shop) (number : ℕ) (first last : List ℕ) (end : End) (node : Node) →
-    IsNode shop first last node → count_below shop number end first last ≤ most_jobs
-count-small shop number first last end node is =
-    let p : ℕ → Bool = λ job. nat_lt (child_bound shop end first last job) number in
+-- few children of a node are below the threshold
+pub count-small : (shop : Shop) (threshold : ℕ) (first last : List ℕ) (end : End) (node : Node) →
+    IsNode shop first last node → count_below shop threshold end first last ≤ most_jobs
+count-small shop threshold first last end node is =
+    let p : ℕ → Bool = λ job. nat_lt (child_bound shop end first last job) threshold in
     omega (
       arith,
       length-filter_both p (λ job. not (p job)) (λ job. refl) (jobs_left shop.jobs (first ++ last)),
@@ -234,5 +242,5 @@ place-is true place from is = (refl, ap the_place is)
   where
     the_place : Option ℕ → ℕ
     the_place None = 0
-    the_place (Some number) = number
+    the_place (Some threshold) = threshold
 place-is false place from is = absurd (none-some from is)

@@ -125,83 +125,83 @@ flat_map-same f g (job ∷ jobs) same =
 
 -- a node
 
-module _ (shop : Shop) (number : ℕ) where
-  -- whose bound is at least the number
-  visits_with-high : (left : ℕ) (first last : List ℕ) → number ≤ end_bound shop first last →
-      visits_with shop number left first last ≡ []
+module _ (shop : Shop) (threshold : ℕ) where
+  -- whose bound is at least the threshold
+  visits_with-high : (left : ℕ) (first last : List ℕ) → threshold ≤ end_bound shop first last →
+      visits_with shop threshold left first last ≡ []
   unfolding visits_with
   visits_with-high zero first last high =
-      ap (λ b. cond b [] (reaches (first ++ last) ∷ [])) (le-leb number (end_bound shop first last) high)
+      ap (λ b. cond b [] (reaches (first ++ last) ∷ [])) (le-leb threshold (end_bound shop first last) high)
   visits_with-high (suc left) first last high =
-      let end : End = end_taken shop number first last in
+      let end : End = end_taken shop threshold first last in
       ap (λ b. cond b [] (opens end ∷ flat_map
-      (λ job. visits_with shop number left (first_with end first job) (last_with end last job))
-      (jobs_left shop.jobs (first ++ last)))) (le-leb number (end_bound shop first last) high)
+      (λ job. visits_with shop threshold left (first_with end first job) (last_with end last job))
+      (jobs_left shop.jobs (first ++ last)))) (le-leb threshold (end_bound shop first last) high)
 
-  -- below the number, without jobs left
-  visits_with-whole : (first last : List ℕ) → end_bound shop first last < number →
-      visits_with shop number 0 first last ≡ reaches (first ++ last) ∷ []
+  -- below the threshold, without jobs left
+  visits_with-whole : (first last : List ℕ) → end_bound shop first last < threshold →
+      visits_with shop threshold 0 first last ≡ reaches (first ++ last) ∷ []
   unfolding visits_with
   visits_with-whole first last low =
-      ap (λ b. cond b [] (reaches (first ++ last) ∷ [])) (lt-leb number (end_bound shop first last) low)
+      ap (λ b. cond b [] (reaches (first ++ last) ∷ [])) (lt-leb threshold (end_bound shop first last) low)
 
-  -- below the number, with jobs left
-  visits_with-open : (left : ℕ) (first last : List ℕ) → end_bound shop first last < number →
-      visits_with shop number (suc left) first last
-      ≡ opens (end_taken shop number first last) ∷ flat_map
-      (λ job. visits_with shop number left (first_with (end_taken shop number first last) first job)
-      (last_with (end_taken shop number first last) last job))
+  -- below the threshold, with jobs left
+  visits_with-open : (left : ℕ) (first last : List ℕ) → end_bound shop first last < threshold →
+      visits_with shop threshold (suc left) first last
+      ≡ opens (end_taken shop threshold first last) ∷ flat_map
+      (λ job. visits_with shop threshold left (first_with (end_taken shop threshold first last) first job)
+      (last_with (end_taken shop threshold first last) last job))
       (jobs_left shop.jobs (first ++ last))
   unfolding visits_with
   visits_with-open left first last low =
-      let end : End = end_taken shop number first last in
+      let end : End = end_taken shop threshold first last in
       ap (λ b. cond b [] (opens end ∷ flat_map
-      (λ job. visits_with shop number left (first_with end first job) (last_with end last job))
-      (jobs_left shop.jobs (first ++ last)))) (lt-leb number (end_bound shop first last) low)
+      (λ job. visits_with shop threshold left (first_with end first job) (last_with end last job))
+      (jobs_left shop.jobs (first ++ last)))) (lt-leb threshold (end_bound shop first last) low)
 
-  -- nothing is met at a node whose bound is at least the number
-  pub visits-high : (first last : List ℕ) → number ≤ end_bound shop first last → visits shop number first last ≡ []
+  -- nothing is met at a node whose bound is at least the threshold
+  pub visits-high : (first last : List ℕ) → threshold ≤ end_bound shop first last → visits shop threshold first last ≡ []
   visits-high first last high =
       visits_with-high (length (jobs_left shop.jobs (first ++ last))) first last high
 
-  -- below the number, its sequence where no job is left
+  -- below the threshold, its sequence where no job is left
   pub visits-whole : (first last : List ℕ) → length (jobs_left shop.jobs (first ++ last)) ≡ 0 →
-      end_bound shop first last < number → visits shop number first last ≡ reaches (first ++ last) ∷ []
+      end_bound shop first last < threshold → visits shop threshold first last ≡ reaches (first ++ last) ∷ []
   visits-whole first last none low =
-      ap (λ left. visits_with shop number left first last) none ∙ visits_with-whole first last low
+      ap (λ left. visits_with shop threshold left first last) none ∙ visits_with-whole first last low
 
   visits-child : (end : End) (first last : List ℕ) (left : ℕ) →
       length (jobs_left shop.jobs (first ++ last)) ≡ suc left →
-      AllByRecursion (λ job. visits_with shop number left (first_with end first job) (last_with end last job)
-      ≡ child_visits shop number end first last job) (jobs_left shop.jobs (first ++ last))
+      AllByRecursion (λ job. visits_with shop threshold left (first_with end first job) (last_with end last job)
+      ≡ child_visits shop threshold end first last job) (jobs_left shop.jobs (first ++ last))
   visits-child end first last left some =
-      each-left (λ job. visits_with shop number left (first_with end first job) (last_with end last job)
-      ≡ child_visits shop number end first last job) (first ++ last) 1 (shop.jobs + 1 - 1) (λ job from to fresh.
+      each-left (λ job. visits_with shop threshold left (first_with end first job) (last_with end last job)
+      ≡ child_visits shop threshold end first last job) (first ++ last) 1 (shop.jobs + 1 - 1) (λ job from to fresh.
       let high : job ≤ shop.jobs = omega (arith, to) in
       let same : left ≡ length (jobs_left shop.jobs (first_with end first job ++ last_with end last job)) =
       omega (arith, some, count-child shop.jobs end first last job from high fresh) in
-      ap (λ left. visits_with shop number left (first_with end first job) (last_with end last job)) same)
+      ap (λ left. visits_with shop threshold left (first_with end first job) (last_with end last job)) same)
 
   opened : (first last : List ℕ) (left : ℕ) → length (jobs_left shop.jobs (first ++ last)) ≡ left → 0 < left →
-      end_bound shop first last < number →
-      visits shop number first last
-      ≡ opens (end_taken shop number first last) ∷ flat_map
-      (child_visits shop number (end_taken shop number first last) first last) (jobs_left shop.jobs (first ++ last))
+      end_bound shop first last < threshold →
+      visits shop threshold first last
+      ≡ opens (end_taken shop threshold first last) ∷ flat_map
+      (child_visits shop threshold (end_taken shop threshold first last) first last) (jobs_left shop.jobs (first ++ last))
   opened first last zero is some low = absurd (omega arith)
   opened first last (suc left) is some low =
-      let end : End = end_taken shop number first last in
-      ap (λ left. visits_with shop number left first last) is
+      let end : End = end_taken shop threshold first last in
+      ap (λ left. visits_with shop threshold left first last) is
       ∙ visits_with-open left first last low
       ∙ ap (λ xs. opens end ∷ xs) (flat_map-same
-      (λ job. visits_with shop number left (first_with end first job) (last_with end last job))
-      (child_visits shop number end first last) (jobs_left shop.jobs (first ++ last))
+      (λ job. visits_with shop threshold left (first_with end first job) (last_with end last job))
+      (child_visits shop threshold end first last) (jobs_left shop.jobs (first ++ last))
       (visits-child end first last left is))
 
   -- or else the node, and what is met at its children
   pub visits-open : (first last : List ℕ) → 0 < length (jobs_left shop.jobs (first ++ last)) →
-      end_bound shop first last < number →
-      visits shop number first last
-      ≡ opens (end_taken shop number first last) ∷ flat_map
-      (child_visits shop number (end_taken shop number first last) first last) (jobs_left shop.jobs (first ++ last))
+      end_bound shop first last < threshold →
+      visits shop threshold first last
+      ≡ opens (end_taken shop threshold first last) ∷ flat_map
+      (child_visits shop threshold (end_taken shop threshold first last) first last) (jobs_left shop.jobs (first ++ last))
   visits-open first last some low =
       opened first last (length (jobs_left shop.jobs (first ++ last))) refl some low

@@ -32,37 +32,37 @@ use Rattle.flow_directions.proofs.WalkSteps.{met-opened, whole-lists}
 
 -- the walk wrote a text, and searches the children of a level, below the nodes of others, of which the first is where
 -- the search began: these lists were its own, and so many jobs were left there
-pub record StandsAt {V : Type 0} (list : V → List ℕ) (cap width : ℕ) (shop : Shop) (number : ℕ) (first last : List ℕ)
+pub record StandsAt {V : Type 0} (list : V → List ℕ) (cap width : ℕ) (shop : Shop) (threshold : ℕ) (first last : List ℕ)
     (left : ℕ) (text : List ℕ) (lists : Lists) (packs : List (Pack V)) (nodes : List (OpenNode V))
     (levels : List Level) (here : Level) (begin behind : List ℕ) (more : ℕ) : Type 0 where
-  pub are_levels : AreLevels (IsAbove list cap width shop number packs nodes) left first last levels
-  pub is_here : IsLevel list cap width shop number packs nodes more begin behind here
+  pub are_levels : AreLevels (IsAbove list cap width shop threshold packs nodes) left first last levels
+  pub is_here : IsLevel list cap width shop threshold packs nodes more begin behind here
   pub nested : AreNested levels here.top
   pub has_lists : HasLists shop.jobs begin behind lists
-  pub continues : Continues (visits shop number first last) text
-      (met_with shop number (names_of packs) left first last levels
-      (rest_met shop number (names_of packs) more begin behind here))
+  pub continues : Continues (visits shop threshold first last) text
+      (met_with shop threshold (names_of packs) left first last levels
+      (rest_met shop threshold (names_of packs) more begin behind here))
 
 abbrev pub Stands : {V : Type 0} → (V → List ℕ) → ℕ → ℕ → Shop → ℕ → List ℕ → List ℕ → ℕ → List ℕ → Lists →
     List (Pack V) → List (OpenNode V) → List Level → Level → Type 0
-Stands list cap width shop number first last left text lists packs nodes levels here =
-    StandsAt list cap width shop number first last left text lists packs nodes levels here (first_of first levels)
+Stands list cap width shop threshold first last left text lists packs nodes levels here =
+    StandsAt list cap width shop threshold first last left text lists packs nodes levels here (first_of first levels)
     (last_of last levels) (left - length levels)
 
-module _ {V : Type 0} (list : V → List ℕ) (cap width : ℕ) (shop : Shop) (number : ℕ) (first last : List ℕ)
+module _ {V : Type 0} (list : V → List ℕ) (cap width : ℕ) (shop : Shop) (threshold : ℕ) (first last : List ℕ)
     (left : ℕ) where
   -- at first
   pub stands-first : (lists : Lists) (before : Tree V) (packs : List (Pack V)) (nodes : List (OpenNode V))
-      (here : Level) (text : List ℕ) → IsAt list cap width shop number first last left lists before → 1 ≤ left →
-      IsBegun list cap width shop number packs nodes left first last here → text ≡ sign here.end ∷ [] →
-      Stands list cap width shop number first last left text lists packs nodes [] here
+      (here : Level) (text : List ℕ) → IsAt list cap width shop threshold first last left lists before → 1 ≤ left →
+      IsBegun list cap width shop threshold packs nodes left first last here → text ≡ sign here.end ∷ [] →
+      Stands list cap width shop threshold first last left text lists packs nodes [] here
   stands-first lists before packs nodes here text at some begun written =
       let all : left ≡ left - 0 = omega arith in
-      let rest : List Visit = rest_met shop number (names_of packs) left first last here in
-      let opened : visits shop number first last ≡ opens here.end ∷ rest =
-      met-opened shop number first last here.end (jobs_of (names_of packs) left here)
+      let rest : List Visit = rest_met shop threshold (names_of packs) left first last here in
+      let opened : visits shop threshold first last ≡ opens here.end ∷ rest =
+      met-opened shop threshold first last here.end (jobs_of (names_of packs) left here)
       (omega (arith, at.count, some)) at.is_open.below begun.end begun.rest in
-      subst (StandsAt list cap width shop number first last left text lists packs nodes [] here first last) all
+      subst (StandsAt list cap width shop threshold first last left text lists packs nodes [] here first last) all
       (record {
         are_levels = tt;
         is_here = begun.is_level;
@@ -77,12 +77,12 @@ module _ {V : Type 0} (list : V → List ℕ) (cap width : ℕ) (shop : Shop) (n
   module _ (text : List ℕ) (lists : Lists) (packs : List (Pack V)) (nodes : List (OpenNode V)) where
     -- once all is searched
     pub stands-done : (levels : List Level) (here : Level) →
-        Stands list cap width shop number first last left text lists packs nodes levels here → length levels ≡ 0 →
+        Stands list cap width shop threshold first last left text lists packs nodes levels here → length levels ≡ 0 →
         jobs_of (names_of packs) (left - length levels) here ≡ [] →
-        (first_below shop number first last ≡ None) × (text ≡ directions_of shop number first last)
+        (first_below shop threshold first last ≡ None) × (text ≡ directions_of shop threshold first last)
     stands-done [] here stands none empty =
-        let rest : rest_met shop number (names_of packs) (left - 0) first last here ≡ [] =
-        ap (flat_map (child_visits shop number here.end first last)) empty in (
+        let rest : rest_met shop threshold (names_of packs) (left - 0) first last here ≡ [] =
+        ap (flat_map (child_visits shop threshold here.end first last)) empty in (
           stands.continues.1 ∙ ap first_reached rest,
           sym (stands.continues.0 ∙ ap (λ v. text ++ signs v) rest ∙ append-nil-right text),
         )
@@ -94,35 +94,35 @@ module _ {V : Type 0} (list : V → List ℕ) (cap width : ℕ) (shop : Shop) (n
 
     -- once the children of a level are searched, the walk goes back
     pub stands-back : (levels aboves : List Level) (here above : Level) (lists2 : Lists) →
-        Stands list cap width shop number first last left text lists packs nodes levels here →
+        Stands list cap width shop threshold first last left text lists packs nodes levels here →
         jobs_of (names_of packs) (left - length levels) here ≡ [] → levels ≡ aboves ++ above ∷ [] →
         HasLists shop.jobs (first_of first aboves) (last_of last aboves) lists2 →
-        Stands list cap width shop number first last left text lists2 packs nodes aboves above
+        Stands list cap width shop threshold first last left text lists2 packs nodes aboves above
     stands-back levels aboves here above lists2 stands empty is has_lists =
-        let P : ℕ → List ℕ → List ℕ → Level → Type 0 = IsAbove list cap width shop number packs nodes in
+        let P : ℕ → List ℕ → List ℕ → Level → Type 0 = IsAbove list cap width shop threshold packs nodes in
         let are = levels-pop P left first last aboves above
         (subst (AreLevels P left first last) is stands.are_levels) in
         let nested = nested-pop aboves above here.top (subst (λ ls. AreNested ls here.top) is stands.nested) in
         let names : ℕ → List ℕ = names_of packs in
-        let same : met_with shop number names left first last levels
-        (rest_met shop number names (left - length levels) (first_of first levels) (last_of last levels) here)
-        ≡ met_with shop number names left first last aboves
-        (rest_met shop number names (left - length aboves) (first_of first aboves) (last_of last aboves) above) =
-        ap (λ jobs. met_with shop number names left first last levels (flat_map (child_visits shop number here.end
+        let same : met_with shop threshold names left first last levels
+        (rest_met shop threshold names (left - length levels) (first_of first levels) (last_of last levels) here)
+        ≡ met_with shop threshold names left first last aboves
+        (rest_met shop threshold names (left - length aboves) (first_of first aboves) (last_of last aboves) above) =
+        ap (λ jobs. met_with shop threshold names left first last levels (flat_map (child_visits shop threshold here.end
         (first_of first levels) (last_of last levels)) jobs)) empty
-        ∙ ap (λ ls. met_with shop number names left first last ls []) is
-        ∙ met-push shop number names left first last aboves above [] in
+        ∙ ap (λ ls. met_with shop threshold names left first last ls []) is
+        ∙ met-push shop threshold names left first last aboves above [] in
         record {
           are_levels = are.0;
           is_here = are.1.is_level;
           nested = nested.0;
           has_lists = has_lists;
-          continues = subst (Continues (visits shop number first last) text) same stands.continues;
+          continues = subst (Continues (visits shop threshold first last) text) same stands.continues;
         }
 
     -- the child of a level's job is searched next
     module _ (levels : List Level) (old here : Level) (place : ℕ)
-        (stands : Stands list cap width shop number first last left text lists packs nodes levels old)
+        (stands : Stands list cap width shop threshold first last left text lists packs nodes levels old)
         (turn : IsTurn (names_of packs (left - length levels)) place old here) where
       abbrev pub begin : List ℕ
       begin = first_of first levels
@@ -140,53 +140,53 @@ module _ {V : Type 0} (list : V → List ℕ) (cap width : ℕ) (shop : Shop) (n
       last2 = last_with here.end behind here.job
 
       abbrev pub rest : List Visit
-      rest = rest_met shop number (names_of packs) more begin behind here
+      rest = rest_met shop threshold (names_of packs) more begin behind here
 
       pub turn-next : length (names_of packs (left - length levels)) ≡ group_count (left - length levels) * 16 →
-          IsNext list cap width shop number packs nodes (left - length levels) (first_of first levels)
+          IsNext list cap width shop threshold packs nodes (left - length levels) (first_of first levels)
           (last_of last levels) place here
       turn-next size =
-          next-turn list cap width shop number packs nodes (left - length levels) (first_of first levels)
+          next-turn list cap width shop threshold packs nodes (left - length levels) (first_of first levels)
           (last_of last levels) place old here size turn stands.is_here
 
-      pub turn-open : IsOpen shop number here.end (first_of first levels) (last_of last levels) here.job
+      pub turn-open : IsOpen shop threshold here.end (first_of first levels) (last_of last levels) here.job
       turn-open =
-          let each : AllByRecursion (IsOpen shop number old.end begin behind)
+          let each : AllByRecursion (IsOpen shop threshold old.end begin behind)
           (here.job ∷ jobs_of (names_of packs) (left - length levels) here) =
-          subst (AllByRecursion (IsOpen shop number old.end begin behind)) turn.first stands.is_here.each in
-          subst (λ end. IsOpen shop number end begin behind here.job) (sym turn.end) each.0
+          subst (AllByRecursion (IsOpen shop threshold old.end begin behind)) turn.first stands.is_here.each in
+          subst (λ end. IsOpen shop threshold end begin behind here.job) (sym turn.end) each.0
 
       -- what is met from then on
-      turn-met : Continues (visits shop number first last) text
-          (met_with shop number (names_of packs) left first last levels (visits shop number first2 last2 ++ rest))
+      turn-met : Continues (visits shop threshold first last) text
+          (met_with shop threshold (names_of packs) left first last levels (visits shop threshold first2 last2 ++ rest))
       turn-met =
-          let e : rest_met shop number (names_of packs) more begin behind old
-          ≡ visits shop number first2 last2 ++ rest =
-          ap (flat_map (child_visits shop number old.end begin behind)) turn.first
-          ∙ ap (λ end. flat_map (child_visits shop number end begin behind)
+          let e : rest_met shop threshold (names_of packs) more begin behind old
+          ≡ visits shop threshold first2 last2 ++ rest =
+          ap (flat_map (child_visits shop threshold old.end begin behind)) turn.first
+          ∙ ap (λ end. flat_map (child_visits shop threshold end begin behind)
           (here.job ∷ jobs_of (names_of packs) more here)) (sym turn.end) in
-          subst (λ v. Continues (visits shop number first last) text
-          (met_with shop number (names_of packs) left first last levels v)) e stands.continues
+          subst (λ v. Continues (visits shop threshold first last) text
+          (met_with shop threshold (names_of packs) left first last levels v)) e stands.continues
 
-      low : end_bound shop first2 last2 < number
+      low : end_bound shop first2 last2 < threshold
       low = turn-open.below
 
       -- where the search stops there, the levels are those above the child
       pub turn-stopped : (total : ℕ) (lists2 : Lists) → total ≡ left → HasLists shop.jobs first2 last2 lists2 →
-          StandsBelow shop number (names_of packs) first last total lists2 (levels ++ here ∷ [])
+          StandsBelow shop threshold (names_of packs) first last total lists2 (levels ++ here ∷ [])
       turn-stopped total lists2 all has_lists =
-          let R : ℕ → List ℕ → List ℕ → Level → Type 0 = IsStopped shop number (names_of packs) in
+          let R : ℕ → List ℕ → List ℕ → Level → Type 0 = IsStopped shop threshold (names_of packs) in
           let jobs : List ℕ = jobs_of (names_of packs) (left - length levels) here in
-          let each : AllByRecursion (IsOpen shop number old.end begin behind) (here.job ∷ jobs) =
-          subst (AllByRecursion (IsOpen shop number old.end begin behind)) turn.first stands.is_here.each in
+          let each : AllByRecursion (IsOpen shop threshold old.end begin behind) (here.job ∷ jobs) =
+          subst (AllByRecursion (IsOpen shop threshold old.end begin behind)) turn.first stands.is_here.each in
           let distinct : AreDistinct (here.job ∷ jobs) = subst AreDistinct turn.first stands.is_here.distinct in
           let last_is : R (left - length levels) begin behind here = record {
-            each = subst (λ end. AllByRecursion (IsOpen shop number end begin behind) jobs) (sym turn.end) each.1;
+            each = subst (λ end. AllByRecursion (IsOpen shop threshold end begin behind) jobs) (sym turn.end) each.1;
             distinct = distinct.1;
             opened = turn-open;
           } in
           let are : AreLevels R left first last levels =
-          levels-map (IsAbove list cap width shop number packs nodes) R old.top left first last levels
+          levels-map (IsAbove list cap width shop threshold packs nodes) R old.top left first last levels
           (λ n f b level least most top is. record {
             each = is.is_level.each;
             distinct = is.is_level.distinct;
@@ -198,18 +198,18 @@ module _ {V : Type 0} (list : V → List ℕ) (cap width : ℕ) (shop : Shop) (n
             has_lists = lists-push (λ f l. HasLists shop.jobs f l lists2) first last levels here has_lists;
           }
 
-      -- where it was the last job, a sequence below the number is reached
+      -- where it was the last job, a sequence below the threshold is reached
       pub turn-low : (lists2 : Lists) → length (jobs_left shop.jobs (first2 ++ last2)) ≡ 0 →
           length first2 + length last2 ≡ shop.jobs → HasLists shop.jobs first2 last2 lists2 →
-          (first_below shop number first last ≡ Some lists2.jobs.items)
-          × (text ≡ directions_of shop number first last)
+          (first_below shop threshold first last ≡ Some lists2.jobs.items)
+          × (text ≡ directions_of shop threshold first last)
       turn-low lists2 none all has_lists =
-          let met : met_with shop number (names_of packs) left first last levels
-          (visits shop number first2 last2 ++ rest)
-          ≡ reaches (first2 ++ last2) ∷ met_with shop number (names_of packs) left first last levels rest =
-          ap (λ v. met_with shop number (names_of packs) left first last levels (v ++ rest))
-          (visits-whole shop number first2 last2 none low)
-          ∙ met-reaches shop number (names_of packs) left first last levels (first2 ++ last2) rest in (
+          let met : met_with shop threshold (names_of packs) left first last levels
+          (visits shop threshold first2 last2 ++ rest)
+          ≡ reaches (first2 ++ last2) ∷ met_with shop threshold (names_of packs) left first last levels rest =
+          ap (λ v. met_with shop threshold (names_of packs) left first last levels (v ++ rest))
+          (visits-whole shop threshold first2 last2 none low)
+          ∙ met-reaches shop threshold (names_of packs) left first last levels (first2 ++ last2) rest in (
             turn-met.1 ∙ ap first_reached met ∙ ap Some (sym (whole-lists shop.jobs first2 last2 lists2 has_lists all)),
             sym (turn-met.0 ∙ ap (λ v. text ++ signs v) met ∙ append-nil-right text),
           )
@@ -219,21 +219,21 @@ module _ {V : Type 0} (list : V → List ℕ) (cap width : ℕ) (shop : Shop) (n
           append-nil-right (x ∷ xs) = ap (λ ys. x ∷ ys) (append-nil-right xs)
 
       -- where the search is over there, this is what it goes on with
-      pub turn-over : Continues (visits shop number first last) text
-          (met_with shop number (names_of packs) left first last (levels ++ here ∷ [])
-          (visits shop number (first_of first (levels ++ here ∷ [])) (last_of last (levels ++ here ∷ []))))
+      pub turn-over : Continues (visits shop threshold first last) text
+          (met_with shop threshold (names_of packs) left first last (levels ++ here ∷ [])
+          (visits shop threshold (first_of first (levels ++ here ∷ [])) (last_of last (levels ++ here ∷ []))))
       turn-over =
           let all : List Level = levels ++ here ∷ [] in
-          let met : met_with shop number (names_of packs) left first last levels
-          (visits shop number first2 last2 ++ rest)
-          ≡ met_with shop number (names_of packs) left first last all
-          (visits shop number (first_of first all) (last_of last all)) =
-          sym (met-push shop number (names_of packs) left first last levels here (visits shop number first2 last2))
-          ∙ ap (λ f. met_with shop number (names_of packs) left first last all (visits shop number f last2))
+          let met : met_with shop threshold (names_of packs) left first last levels
+          (visits shop threshold first2 last2 ++ rest)
+          ≡ met_with shop threshold (names_of packs) left first last all
+          (visits shop threshold (first_of first all) (last_of last all)) =
+          sym (met-push shop threshold (names_of packs) left first last levels here (visits shop threshold first2 last2))
+          ∙ ap (λ f. met_with shop threshold (names_of packs) left first last all (visits shop threshold f last2))
           (sym (first-push first levels here))
-          ∙ ap (λ l. met_with shop number (names_of packs) left first last all
-          (visits shop number (first_of first all) l)) (sym (last-push last levels here)) in
-          subst (Continues (visits shop number first last) text) met turn-met
+          ∙ ap (λ l. met_with shop threshold (names_of packs) left first last all
+          (visits shop threshold (first_of first all) l)) (sym (last-push last levels here)) in
+          subst (Continues (visits shop threshold first last) text) met turn-met
 
       -- the walk goes to the child, whose level is begun. The packs and the nodes may be others from then on, but not
       -- for the levels above
@@ -245,20 +245,20 @@ module _ {V : Type 0} (list : V → List ℕ) (cap width : ℕ) (shop : Shop) (n
           (same : take here.top nodes2 ≡ take here.top nodes)
           (end_is : parent.end ≡ here.end) (job_is : parent.job ≡ here.job) (top_is : parent.top ≡ here.top)
           (rest_is : parent.rest ≡ here.rest)
-          (is_parent : IsLevel list cap width shop number packs2 nodes2 more begin behind parent)
-          (begun : IsBegun list cap width shop number packs2 nodes2 (more - 1) first2 last2 child)
+          (is_parent : IsLevel list cap width shop threshold packs2 nodes2 more begin behind parent)
+          (begun : IsBegun list cap width shop threshold packs2 nodes2 (more - 1) first2 last2 child)
           (below : here.top ≤ child.top) (has_lists : HasLists shop.jobs first2 last2 lists2) where
         abbrev pub P : ℕ → List ℕ → List ℕ → Level → Type 0
-        P = IsAbove list cap width shop number packs nodes
+        P = IsAbove list cap width shop threshold packs nodes
 
         abbrev pub Q : ℕ → List ℕ → List ℕ → Level → Type 0
-        Q = IsAbove list cap width shop number packs2 nodes2
+        Q = IsAbove list cap width shop threshold packs2 nodes2
 
         is-above : Q more begin behind parent
         is-above = record {
           is_level = is_parent;
-          opened = subst (λ j. IsOpen shop number parent.end begin behind j) (sym job_is)
-              (subst (λ e. IsOpen shop number e begin behind here.job) (sym end_is) turn-open);
+          opened = subst (λ j. IsOpen shop threshold parent.end begin behind j) (sym job_is)
+              (subst (λ e. IsOpen shop threshold e begin behind here.job) (sym end_is) turn-open);
         }
 
         nested : AreNested levels here.top
@@ -273,44 +273,44 @@ module _ {V : Type 0} (list : V → List ℕ) (cap width : ℕ) (shop : Shop) (n
         are-levels =
             levels-map P Q here.top left first last levels
             (λ n f b level least most top is. record {
-              is_level = level-moved list cap width shop number packs packs2 nodes nodes2 n f b level
+              is_level = level-moved list cap width shop threshold packs packs2 nodes nodes2 n f b level
                   (omega (arith, most, least, enough, room)) size
                   (λ none. others n none (omega (arith, least, room)))
                   (fewer-kept nodes nodes2 level.top here.top top same) is.is_level;
               opened = is.opened;
             }) nested stands.are_levels
 
-        rest-kept : rest ≡ rest_met shop number (names_of packs2) more begin behind parent
+        rest-kept : rest ≡ rest_met shop threshold (names_of packs2) more begin behind parent
         rest-kept =
-            ap (λ ns. flat_map (child_visits shop number here.end begin behind) (chosen here.rest.words ns))
+            ap (λ ns. flat_map (child_visits shop threshold here.end begin behind) (chosen here.rest.words ns))
             (names-kept more (omega arith) (omega arith))
-            ∙ ap (λ e. flat_map (child_visits shop number e begin behind)
+            ∙ ap (λ e. flat_map (child_visits shop threshold e begin behind)
             (chosen here.rest.words (names_of packs2 more))) (sym end_is)
-            ∙ ap (λ m. flat_map (child_visits shop number parent.end begin behind)
+            ∙ ap (λ m. flat_map (child_visits shop threshold parent.end begin behind)
             (chosen m.words (names_of packs2 more))) (sym rest_is)
 
         abbrev found : List Visit
-        found = rest_met shop number (names_of packs2) (more - 1) first2 last2 child
+        found = rest_met shop threshold (names_of packs2) (more - 1) first2 last2 child
 
-        met-down : met_with shop number (names_of packs) left first last levels
-            (visits shop number first2 last2 ++ rest)
-            ≡ opens child.end ∷ met_with shop number (names_of packs2) left first last (levels ++ parent ∷ []) found
+        met-down : met_with shop threshold (names_of packs) left first last levels
+            (visits shop threshold first2 last2 ++ rest)
+            ≡ opens child.end ∷ met_with shop threshold (names_of packs2) left first last (levels ++ parent ∷ []) found
         met-down =
-            ap (λ v. met_with shop number (names_of packs) left first last levels (v ++ rest))
-            (met-opened shop number first2 last2 child.end (jobs_of (names_of packs2) (more - 1) child)
+            ap (λ v. met_with shop threshold (names_of packs) left first last levels (v ++ rest))
+            (met-opened shop threshold first2 last2 child.end (jobs_of (names_of packs2) (more - 1) child)
             (omega (arith, begun.is_level.count, room)) low begun.end begun.rest)
-            ∙ met-opens shop number (names_of packs) left first last levels child.end (found ++ rest)
+            ∙ met-opens shop threshold (names_of packs) left first last levels child.end (found ++ rest)
             ∙ ap (λ v. opens child.end ∷ v)
-            (met-same shop number (names_of packs) (names_of packs2) left first last levels (found ++ rest)
+            (met-same shop threshold (names_of packs) (names_of packs2) left first last levels (found ++ rest)
             (λ n least most. names-kept n (omega (arith, least, room)) most)
-            ∙ ap (λ v. met_with shop number (names_of packs2) left first last levels (found ++ v)) rest-kept
-            ∙ sym (met-push shop number (names_of packs2) left first last levels parent found))
+            ∙ ap (λ v. met_with shop threshold (names_of packs2) left first last levels (found ++ v)) rest-kept
+            ∙ sym (met-push shop threshold (names_of packs2) left first last levels parent found))
 
         pub turn-down : (text2 : List ℕ) → text2 ≡ text ++ sign child.end ∷ [] →
-            Stands list cap width shop number first last left text2 lists2 packs2 nodes2 (levels ++ parent ∷ []) child
+            Stands list cap width shop threshold first last left text2 lists2 packs2 nodes2 (levels ++ parent ∷ []) child
         turn-down text2 written =
             let all : List Level = levels ++ parent ∷ [] in
-            let v : List Visit = met_with shop number (names_of packs2) left first last all found in
+            let v : List Visit = met_with shop threshold (names_of packs2) left first last all found in
             let deep : left - length levels - 1 ≡ left - length all =
             omega (arith, length-append levels (parent ∷ [])) in
             let first_is : first2 ≡ first_of first all =
@@ -319,7 +319,7 @@ module _ {V : Type 0} (list : V → List ℕ) (cap width : ℕ) (shop : Shop) (n
             let last_is : last2 ≡ last_of last all =
             ap (λ e. last_with e behind here.job) (sym end_is)
             ∙ ap (λ j. last_with parent.end behind j) (sym job_is) ∙ sym (last-push last levels parent) in
-            let at : StandsAt list cap width shop number first last left text2 lists2 packs2 nodes2 all child first2
+            let at : StandsAt list cap width shop threshold first last left text2 lists2 packs2 nodes2 all child first2
             last2
             (left - length levels - 1) =
             record {
@@ -335,10 +335,10 @@ module _ {V : Type 0} (list : V → List ℕ) (cap width : ℕ) (shop : Shop) (n
                 turn-met.1 ∙ ap first_reached met-down,
               );
             } in
-            subst (StandsAt list cap width shop number first last left text2 lists2 packs2 nodes2 all child
+            subst (StandsAt list cap width shop threshold first last left text2 lists2 packs2 nodes2 all child
             (first_of first all) (last_of last all)) deep
-            (subst (λ l. StandsAt list cap width shop number first last left text2 lists2 packs2 nodes2 all child
+            (subst (λ l. StandsAt list cap width shop threshold first last left text2 lists2 packs2 nodes2 all child
             (first_of first all) l (left - length levels - 1)) last_is
-            (subst (λ f. StandsAt list cap width shop number first last left text2 lists2 packs2 nodes2 all child f
+            (subst (λ f. StandsAt list cap width shop threshold first last left text2 lists2 packs2 nodes2 all child f
             last2
             (left - length levels - 1)) first_is at))

@@ -1,4 +1,4 @@
--- The children of a node that are below the number, and what is met there.
+-- The children of a node that are below the threshold, and what is met there.
 use Rattle.std.proofs.Common.{◌≡◌, ℕ, ◌+◌, ◌-◌, ◌<◌, Bool, true, false, cond, not, ◌||◌, nat_eq, nat_lt}
 use Rattle.std.proofs.Common.{List, [], ◌∷◌, ◌++◌, length, drop, filter, refl, ap, sym, ◌∙◌, subst}
 use Rattle.std.proofs.Common.{inl, inr, arith, append_assoc, append-nil}
@@ -75,53 +75,53 @@ kept-distinct p (job ∷ jobs) are =
       | inr is ↦ subst (λ b. AreDistinct (cond b (job ∷ filter p jobs) (filter p jobs))) (sym is) more
     ]
 
-module _ (shop : Shop) (number : ℕ) (first last : List ℕ) where
-  below-kept : (end : End) → flat_map (child_visits shop number end first last) (jobs_left shop.jobs (first ++ last))
-      ≡ flat_map (child_visits shop number end first last) (left_below shop number end first last)
+module _ (shop : Shop) (threshold : ℕ) (first last : List ℕ) where
+  below-kept : (end : End) → flat_map (child_visits shop threshold end first last) (jobs_left shop.jobs (first ++ last))
+      ≡ flat_map (child_visits shop threshold end first last) (left_below shop threshold end first last)
   below-kept end =
-      let p : ℕ → Bool = λ job. nat_lt (child_bound shop end first last job) number in
-      flat-kept (child_visits shop number end first last) p (jobs_left shop.jobs (first ++ last))
-      (each-left (λ job. p job ≡ false → child_visits shop number end first last job ≡ []) (first ++ last) 1
+      let p : ℕ → Bool = λ job. nat_lt (child_bound shop end first last job) threshold in
+      flat-kept (child_visits shop threshold end first last) p (jobs_left shop.jobs (first ++ last))
+      (each-left (λ job. p job ≡ false → child_visits shop threshold end first last job ≡ []) (first ++ last) 1
       (shop.jobs + 1 - 1) (λ job from to fresh above.
-      visits-high shop number (first_with end first job) (last_with end last job)
-      (ltb-false (child_bound shop end first last job) number above)))
+      visits-high shop threshold (first_with end first job) (last_with end last job)
+      (ltb-false (child_bound shop end first last job) threshold above)))
 
-  pub below-each : (end : End) → AllByRecursion (IsOpen shop number end first last) (left_below shop number end first
+  pub below-each : (end : End) → AllByRecursion (IsOpen shop threshold end first last) (left_below shop threshold end first
       last)
   below-each end =
-      let p : ℕ → Bool = λ job. nat_lt (child_bound shop end first last job) number in
-      each-kept (IsOpen shop number end first last) p (jobs_left shop.jobs (first ++ last))
-      (each-left (λ job. p job ≡ true → IsOpen shop number end first last job) (first ++ last) 1
+      let p : ℕ → Bool = λ job. nat_lt (child_bound shop end first last job) threshold in
+      each-kept (IsOpen shop threshold end first last) p (jobs_left shop.jobs (first ++ last))
+      (each-left (λ job. p job ≡ true → IsOpen shop threshold end first last job) (first ++ last) 1
       (shop.jobs + 1 - 1) (λ job from to fresh under. record {
         is_job = (from, omega (arith, to));
         left = fresh;
-        below = ltb-true (child_bound shop end first last job) number under;
+        below = ltb-true (child_bound shop end first last job) threshold under;
       }))
 
-  pub below-distinct : (end : End) → AreDistinct (left_below shop number end first last)
+  pub below-distinct : (end : End) → AreDistinct (left_below shop threshold end first last)
   below-distinct end =
-      kept-distinct (λ job. nat_lt (child_bound shop end first last job) number) (jobs_left shop.jobs (first ++ last))
+      kept-distinct (λ job. nat_lt (child_bound shop end first last job) threshold) (jobs_left shop.jobs (first ++ last))
       (kept-distinct (λ job. not (has (first ++ last) job)) (numbers 1 shop.jobs) (in-order shop.jobs).each.distinct)
 
   -- what is met at the node, where it is opened
   pub met-opened : (end : End) (jobs : List ℕ) → 0 < length (jobs_left shop.jobs (first ++ last)) →
-      end_bound shop first last < number → end ≡ end_taken shop number first last →
-      jobs ≡ left_below shop number end first last →
-      visits shop number first last ≡ opens end ∷ flat_map (child_visits shop number end first last) jobs
+      end_bound shop first last < threshold → end ≡ end_taken shop threshold first last →
+      jobs ≡ left_below shop threshold end first last →
+      visits shop threshold first last ≡ opens end ∷ flat_map (child_visits shop threshold end first last) jobs
   met-opened end jobs some low is are =
-      visits-open shop number first last some low
-      ∙ ap (λ e. opens e ∷ flat_map (child_visits shop number e first last) (jobs_left shop.jobs (first ++ last)))
+      visits-open shop threshold first last some low
+      ∙ ap (λ e. opens e ∷ flat_map (child_visits shop threshold e first last) (jobs_left shop.jobs (first ++ last)))
       (sym is)
       ∙ ap (λ v. opens end ∷ v) (below-kept end)
-      ∙ ap (λ js. opens end ∷ flat_map (child_visits shop number end first last) js) (sym are)
+      ∙ ap (λ js. opens end ∷ flat_map (child_visits shop threshold end first last) js) (sym are)
 
 -- what is met at one more part
-pub parts-more : (shop : Shop) (number : ℕ) (parts : List Part) (part : Part) →
-    parts_visits shop number (parts ++ part ∷ []) ≡ parts_visits shop number parts ++ part_visits shop number part
-parts-more shop number [] part = append-nil (part_visits shop number part)
-parts-more shop number (p ∷ parts) part =
-    ap (λ v. part_visits shop number p ++ v) (parts-more shop number parts part)
-    ∙ sym (append_assoc (part_visits shop number p) (parts_visits shop number parts) (part_visits shop number part))
+pub parts-more : (shop : Shop) (threshold : ℕ) (parts : List Part) (part : Part) →
+    parts_visits shop threshold (parts ++ part ∷ []) ≡ parts_visits shop threshold parts ++ part_visits shop threshold part
+parts-more shop threshold [] part = append-nil (part_visits shop threshold part)
+parts-more shop threshold (p ∷ parts) part =
+    ap (λ v. part_visits shop threshold p ++ v) (parts-more shop threshold parts part)
+    ∙ sym (append_assoc (part_visits shop threshold p) (parts_visits shop threshold parts) (part_visits shop threshold part))
 
 -- the lists of a node, where no job is left
 pub whole-lists : (jobs : ℕ) (first last : List ℕ) (lists : Lists) → HasLists jobs first last lists →

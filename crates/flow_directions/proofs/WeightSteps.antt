@@ -9,25 +9,25 @@ use Rattle.flow_directions.specs.Search.{fewest_below, weight}
 
 -- what the child that puts a job at an end adds to its weight
 abbrev pub fewest_at : Shop → ℕ → End → List ℕ → List ℕ → ℕ → ℕ
-fewest_at shop number end first last job =
-    fewest_below shop number (first_with end first job) (last_with end last job)
+fewest_at shop threshold end first last job =
+    fewest_below shop threshold (first_with end first job) (last_with end last job)
 
-module _ (shop : Shop) (number : ℕ) (end : End) (first last : List ℕ) where
-  pub weight-is : weight shop number end first last
-      ≡ sum_by (fewest_at shop number end first last) (left_below shop number end first last)
+module _ (shop : Shop) (threshold : ℕ) (end : End) (first last : List ℕ) where
+  pub weight-is : weight shop threshold end first last
+      ≡ sum_by (fewest_at shop threshold end first last) (left_below shop threshold end first last)
   unfolding weight
   weight-is = refl
 
   -- once a child is added
   pub weight-more : (job : ℕ) (old rest : List ℕ) (sum fewest : ℕ) → old ≡ job ∷ rest →
-      fewest ≡ fewest_at shop number end first last job →
-      sum + sum_by (fewest_at shop number end first last) old ≡ weight shop number end first last →
-      sum + fewest + sum_by (fewest_at shop number end first last) rest ≡ weight shop number end first last
+      fewest ≡ fewest_at shop threshold end first last job →
+      sum + sum_by (fewest_at shop threshold end first last) old ≡ weight shop threshold end first last →
+      sum + fewest + sum_by (fewest_at shop threshold end first last) rest ≡ weight shop threshold end first last
   weight-more job old rest sum fewest parted is before =
       omega (
         arith,
         before,
         is,
-        ap (sum_by (fewest_at shop number end first last)) parted,
-        sum_by-cons (fewest_at shop number end first last) job rest,
+        ap (sum_by (fewest_at shop threshold end first last)) parted,
+        sum_by-cons (fewest_at shop threshold end first last) job rest,
       )

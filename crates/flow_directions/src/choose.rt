@@ -12,7 +12,7 @@ ghost use Rattle.flow_nodes.specs.declared.open.OpenNode.{OpenNode};
 
 use crate::sums::sum_of_bounds;
 use crate::tree::Tree;
-use flow_nodes::{Lanes, OpenNode, Put, fewer_below, greater_sum};
+use flow_nodes::{OpenNode, Put, Vector, fewer_below, greater_sum};
 use flow_shop::{End, Instance};
 use std::alloc::AllocError;
 
@@ -26,12 +26,12 @@ pub(crate) struct Chosen {
     /// The end.
     pub(crate) end: End,
     /// Where the first of them stands in the list of nodes, where all of them are kept there, one behind the other.
-    pub(crate) kept: Option<usize>,
+    pub(crate) kept: Option<u32>,
     /// The first place of the list behind the node and the children that are kept.
     pub(crate) top: usize,
 }
 
-/// How the children of a node at an end that are below the number are made and weighed.
+/// How the children of a node at an end that are below the threshold are made and weighed.
 #[derive(Clone, Copy)]
 struct Weighing {
     /// The end.
@@ -55,8 +55,8 @@ fn other_end(end: End) -> End
     }
 }
 
-/// Whether the search looks ahead at a node, by how many of its children are below the number at the plain rule's end
-/// and at the other end, and by how many jobs are left.
+/// Whether the search looks ahead at a node, by how many of its children are below the threshold at the plain rule's
+/// end and at the other end, and by how many jobs are left.
 #[inline(always)]
 fn looks_ahead(plain: u32, other: u32, left: u32) -> bool
     ensures { result ≡ nat_le 2 plain && nat_le (2 * other) (3 * plain) && nat_le 3 left }
@@ -64,22 +64,23 @@ fn looks_ahead(plain: u32, other: u32, left: u32) -> bool
     plain >= 2 && 2 * u64::from(other) <= 3 * u64::from(plain) && left >= 3
 }
 
-/// How many children of a node are below the number at the end where they are fewer.
+/// How many children of a node are below the threshold at the end where they are fewer.
 #[inline(always)]
-fn fewest<V: Lanes>(node: &OpenNode<V>) -> u32
-    ensures { (shop : Shop) (number : ℕ) (first last : List ℕ) (pack : Pack V) →
-        IsOpenNode V.list V.CAP V.WIDTH shop number first last pack node.now →
-        result ≡ fewest_below shop number first last }
+fn fewest<V: Vector>(node: &OpenNode<V>) -> u32
+    ensures { (shop : Shop) (threshold : ℕ) (first last : List ℕ) (pack : Pack V) →
+        IsOpenNode V.list V.CAP V.WIDTH shop threshold first last pack node.now →
+        result ≡ fewest_below shop threshold first last }
 {
     node.front.count.min(node.back.count)
 }
 
 /// A place, where children are kept.
 #[inline(always)]
-fn place_kept(keeps: bool, place: usize) -> Option<usize>
+fn place_kept(keeps: bool, place: usize) -> Option<u32>
+    requires { keeps ≡ true → place ≤ 4294967295 }
     ensures { result ≡ cond keeps (Some place) None }
 {
-    if keeps { Some(place) } else { None }
+    if keeps { Some(place as u32) } else { None }
 }
 
 /// How many of so many children are kept.
@@ -90,7 +91,7 @@ fn count_kept(keeps: bool, count: u32) -> usize
     if keeps { count as usize } else { 0 }
 }
 
-impl<V: Lanes> Tree<V> {
+impl<V: Vector> Tree<V> {
     /// The end that the plain rule takes at the node at a place.
     #[inline(always)]
     fn plain_end(&self, instance: &Instance, groups: usize, at: usize) -> End
@@ -98,22 +99,22 @@ impl<V: Lanes> Tree<V> {
         requires some { 1 ≤ groups }
         requires few { groups ≤ length self.now.packs.items }
         requires within { at < length self.now.nodes.items }
-        requires at { (number : ℕ) × (first : List ℕ) × (last : List ℕ)
-            × IsTree V.CAP instance.now number self.now
-            × IsOpenAt V.list V.CAP V.WIDTH instance.now number first last groups at self.now.packs.items
+        requires at { (threshold : ℕ) × (first : List ℕ) × (last : List ℕ)
+            × IsTree V.CAP instance.now threshold self.now
+            × IsOpenAt V.list V.CAP V.WIDTH instance.now threshold first last groups at self.now.packs.items
             self.now.nodes.items }
-        ensures { (number : ℕ) (first last : List ℕ) →
-            IsOpenAt V.list V.CAP V.WIDTH instance.now number first last groups at self.now.packs.items
+        ensures { (threshold : ℕ) (first last : List ℕ) →
+            IsOpenAt V.list V.CAP V.WIDTH instance.now threshold first last groups at self.now.packs.items
             self.now.nodes.items →
-            result ≡ plain_end instance.now number first last }
+            result ≡ plain_end instance.now threshold first last }
     {
         let open = &self.nodes[at];
         match fewer_below(open.front.count, open.back.count) {
             Some(end) => end,
             None => {
                 let pack = &self.packs[groups - 1];
-                let front = sum_of_bounds(instance, pack, &open.node, &open.left, End::Front);
-                let back = sum_of_bounds(instance, pack, &open.node, &open.left, End::Back);
+                let front = sum_of_bounds(instance, pack, open, End::Front);
+                let back = sum_of_bounds(instance, pack, open, End::Back);
                 greater_sum(front, back)
             }
         }
@@ -121,14 +122,16 @@ impl<V: Lanes> Tree<V> {
 
     /// Whether so many nodes may be kept.
     #[inline(always)]
-    fn has_room(&self, instance: &Instance, count: usize) -> bool {
-        count
+    fn has_room(&self, instance: &Instance, count: usize) -> bool
+        ensures { result ≡ true → count ≤ 4294967295 }
+    {
+        let starts = count
             .saturating_mul(self.packs.len())
-            .saturating_mul(usize::from(instance.machines()))
-            <= MOST_STARTS
+            .saturating_mul(usize::from(instance.machines()));
+        count <= MOST_STARTS && starts <= MOST_STARTS
     }
 
-    /// Makes the children of the node at a place at an end that are below the number, until their weight is enough.
+    /// Makes the children of the node at a place at an end that are below the threshold, until their weight is enough.
     /// Returns the weight of those that were made.
     #[inline(never)]
     fn weigh(&mut self, instance: &Instance, groups: usize, at: usize, weighing: Weighing) -> u32
@@ -140,29 +143,29 @@ impl<V: Lanes> Tree<V> {
         requires kept { (empty : OpenNode V) → weighing.keeps ≡ true →
             weighing.to + (children_at weighing.end (slice_index_or self.old.nodes.items at empty)).count
             ≤ length self.old.nodes.items }
-        requires at { (number : ℕ) × (first : List ℕ) × (last : List ℕ)
-            × IsTree V.CAP instance.now number self.old
-            × IsOpenAt V.list V.CAP V.WIDTH instance.now number first last groups at self.old.packs.items
+        requires at { (threshold : ℕ) × (first : List ℕ) × (last : List ℕ)
+            × IsTree V.CAP instance.now threshold self.old
+            × IsOpenAt V.list V.CAP V.WIDTH instance.now threshold first last groups at self.old.packs.items
             self.old.nodes.items }
-        ensures tree { (number : ℕ) → IsTree V.CAP instance.now number self.old →
-            IsTree V.CAP instance.now number self.new }
+        ensures tree { (threshold : ℕ) → IsTree V.CAP instance.now threshold self.old →
+            IsTree V.CAP instance.now threshold self.new }
         ensures packs { self.new.packs ≡ self.old.packs }
         ensures size { length self.new.nodes.items ≡ length self.old.nodes.items }
         ensures above { take weighing.to self.new.nodes.items ≡ take weighing.to self.old.nodes.items }
         ensures small { result ≤ 640000 }
-        ensures exact { (number : ℕ) (first last : List ℕ) → IsTree V.CAP instance.now number self.old →
-            IsOpenAt V.list V.CAP V.WIDTH instance.now number first last groups at self.old.packs.items
+        ensures exact { (threshold : ℕ) (first last : List ℕ) → IsTree V.CAP instance.now threshold self.old →
+            IsOpenAt V.list V.CAP V.WIDTH instance.now threshold first last groups at self.old.packs.items
             self.old.nodes.items → result < weighing.enough →
-            result ≡ weight instance.now number weighing.end first last }
-        ensures reaches { (number : ℕ) (first last : List ℕ) → IsTree V.CAP instance.now number self.old →
-            IsOpenAt V.list V.CAP V.WIDTH instance.now number first last groups at self.old.packs.items
+            result ≡ weight instance.now threshold weighing.end first last }
+        ensures reaches { (threshold : ℕ) (first last : List ℕ) → IsTree V.CAP instance.now threshold self.old →
+            IsOpenAt V.list V.CAP V.WIDTH instance.now threshold first last groups at self.old.packs.items
             self.old.nodes.items → weighing.enough ≤ result →
-            weighing.enough ≤ weight instance.now number weighing.end first last }
-        ensures kept { (number : ℕ) (first last : List ℕ) → IsTree V.CAP instance.now number self.old →
-            IsOpenAt V.list V.CAP V.WIDTH instance.now number first last groups at self.old.packs.items
+            weighing.enough ≤ weight instance.now threshold weighing.end first last }
+        ensures kept { (threshold : ℕ) (first last : List ℕ) → IsTree V.CAP instance.now threshold self.old →
+            IsOpenAt V.list V.CAP V.WIDTH instance.now threshold first last groups at self.old.packs.items
             self.old.nodes.items → weighing.keeps ≡ true → result < weighing.enough →
-            AreKept V.list V.CAP V.WIDTH instance.now number weighing.end first last groups
-            (left_below instance.now number weighing.end first last) weighing.to self.new.packs.items
+            AreKept V.list V.CAP V.WIDTH instance.now threshold weighing.end first last groups
+            (left_below instance.now threshold weighing.end first last) weighing.to self.new.packs.items
             self.new.nodes.items }
     {
         let end = weighing.end;
@@ -199,29 +202,30 @@ impl<V: Lanes> Tree<V> {
         requires few { groups ≤ length self.old.packs.items }
         requires order { at < top }
         requires room { top ≤ length self.old.nodes.items }
-        requires at { (number : ℕ) × (first : List ℕ) × (last : List ℕ)
-            × IsTree V.CAP instance.now number self.old
-            × IsOpenAt V.list V.CAP V.WIDTH instance.now number first last groups at self.old.packs.items
+        requires at { (threshold : ℕ) × (first : List ℕ) × (last : List ℕ)
+            × IsTree V.CAP instance.now threshold self.old
+            × IsOpenAt V.list V.CAP V.WIDTH instance.now threshold first last groups at self.old.packs.items
             self.old.nodes.items }
-        ensures tree { (number : ℕ) → IsTree V.CAP instance.now number self.old →
-            OnOk result (IsTree V.CAP instance.now number self.new) }
+        ensures tree { (threshold : ℕ) → IsTree V.CAP instance.now threshold self.old →
+            OnOk result (IsTree V.CAP instance.now threshold self.new) }
         ensures packs { self.new.packs ≡ self.old.packs }
         ensures above { take top self.new.nodes.items ≡ take top self.old.nodes.items }
         ensures top { IfOk result (λ chosen. top ≤ chosen.top) }
         ensures room { IfOk result (λ chosen. chosen.top < length self.new.nodes.items) }
-        ensures end { (number : ℕ) (first last : List ℕ) → IsTree V.CAP instance.now number self.old →
-            IsOpenAt V.list V.CAP V.WIDTH instance.now number first last groups at self.old.packs.items
-            self.old.nodes.items → plain ≡ plain_end instance.now number first last →
-            looks_ahead instance.now number first last ≡ true →
-            IfOk result (λ chosen. chosen.end ≡ end_taken instance.now number first last) }
+        ensures end { (threshold : ℕ) (first last : List ℕ) → IsTree V.CAP instance.now threshold self.old →
+            IsOpenAt V.list V.CAP V.WIDTH instance.now threshold first last groups at self.old.packs.items
+            self.old.nodes.items → plain ≡ plain_end instance.now threshold first last →
+            looks_ahead instance.now threshold first last ≡ true →
+            IfOk result (λ chosen. chosen.end ≡ end_taken instance.now threshold first last) }
         ensures from { IfOk result (λ chosen. (from : ℕ) → chosen.kept ≡ Some from → top ≤ from) }
-        ensures kept { (number : ℕ) (first last : List ℕ) → IsTree V.CAP instance.now number self.old →
-            IsOpenAt V.list V.CAP V.WIDTH instance.now number first last groups at self.old.packs.items
+        ensures small { IfOk result (λ chosen. (from : ℕ) → chosen.kept ≡ Some from → chosen.top ≤ 4294967295) }
+        ensures kept { (threshold : ℕ) (first last : List ℕ) → IsTree V.CAP instance.now threshold self.old →
+            IsOpenAt V.list V.CAP V.WIDTH instance.now threshold first last groups at self.old.packs.items
             self.old.nodes.items →
             IfOk result (λ chosen. (from : ℕ) → chosen.kept ≡ Some from →
-            (from + length (left_below instance.now number chosen.end first last) ≤ chosen.top)
-            × AreKept V.list V.CAP V.WIDTH instance.now number chosen.end first last groups
-            (left_below instance.now number chosen.end first last) from self.new.packs.items self.new.nodes.items) }
+            (from + length (left_below instance.now threshold chosen.end first last) ≤ chosen.top)
+            × AreKept V.list V.CAP V.WIDTH instance.now threshold chosen.end first last groups
+            (left_below instance.now threshold chosen.end first last) from self.new.packs.items self.new.nodes.items) }
     {
         let other = other_end(plain);
         let plain_count = self.nodes[at].at(plain).count;
@@ -271,28 +275,29 @@ impl<V: Lanes> Tree<V> {
         requires few { groups ≤ length self.old.packs.items }
         requires order { at < top }
         requires room { top ≤ length self.old.nodes.items }
-        requires at { (number : ℕ) × (first : List ℕ) × (last : List ℕ)
-            × IsTree V.CAP instance.now number self.old
-            × IsOpenAt V.list V.CAP V.WIDTH instance.now number first last groups at self.old.packs.items
+        requires at { (threshold : ℕ) × (first : List ℕ) × (last : List ℕ)
+            × IsTree V.CAP instance.now threshold self.old
+            × IsOpenAt V.list V.CAP V.WIDTH instance.now threshold first last groups at self.old.packs.items
             self.old.nodes.items }
-        ensures tree { (number : ℕ) → IsTree V.CAP instance.now number self.old →
-            OnOk result (IsTree V.CAP instance.now number self.new) }
+        ensures tree { (threshold : ℕ) → IsTree V.CAP instance.now threshold self.old →
+            OnOk result (IsTree V.CAP instance.now threshold self.new) }
         ensures packs { self.new.packs ≡ self.old.packs }
         ensures above { take top self.new.nodes.items ≡ take top self.old.nodes.items }
         ensures top { IfOk result (λ chosen. top ≤ chosen.top) }
         ensures room { IfOk result (λ chosen. chosen.top < length self.new.nodes.items) }
-        ensures end { (number : ℕ) (first last : List ℕ) → IsTree V.CAP instance.now number self.old →
-            IsOpenAt V.list V.CAP V.WIDTH instance.now number first last groups at self.old.packs.items
+        ensures end { (threshold : ℕ) (first last : List ℕ) → IsTree V.CAP instance.now threshold self.old →
+            IsOpenAt V.list V.CAP V.WIDTH instance.now threshold first last groups at self.old.packs.items
             self.old.nodes.items →
-            IfOk result (λ chosen. chosen.end ≡ end_taken instance.now number first last) }
+            IfOk result (λ chosen. chosen.end ≡ end_taken instance.now threshold first last) }
         ensures from { IfOk result (λ chosen. (from : ℕ) → chosen.kept ≡ Some from → top ≤ from) }
-        ensures kept { (number : ℕ) (first last : List ℕ) → IsTree V.CAP instance.now number self.old →
-            IsOpenAt V.list V.CAP V.WIDTH instance.now number first last groups at self.old.packs.items
+        ensures small { IfOk result (λ chosen. (from : ℕ) → chosen.kept ≡ Some from → chosen.top ≤ 4294967295) }
+        ensures kept { (threshold : ℕ) (first last : List ℕ) → IsTree V.CAP instance.now threshold self.old →
+            IsOpenAt V.list V.CAP V.WIDTH instance.now threshold first last groups at self.old.packs.items
             self.old.nodes.items →
             IfOk result (λ chosen. (from : ℕ) → chosen.kept ≡ Some from →
-            (from + length (left_below instance.now number chosen.end first last) ≤ chosen.top)
-            × AreKept V.list V.CAP V.WIDTH instance.now number chosen.end first last groups
-            (left_below instance.now number chosen.end first last) from self.new.packs.items self.new.nodes.items) }
+            (from + length (left_below instance.now threshold chosen.end first last) ≤ chosen.top)
+            × AreKept V.list V.CAP V.WIDTH instance.now threshold chosen.end first last groups
+            (left_below instance.now threshold chosen.end first last) from self.new.packs.items self.new.nodes.items) }
     {
         let plain = self.plain_end(instance, groups, at);
         let open = &self.nodes[at];

@@ -33,10 +33,10 @@ pub enum Part {
 /// What a search for directions found.
 #[derive(Debug, PartialEq, Eq, Drop)]
 pub enum Found {
-    /// Directions that prove the number: no sequence of the node has a makespan below it. Each byte is `+`, for the
+    /// Directions that prove the threshold: no sequence of the node has a makespan below it. Each byte is `+`, for the
     /// front, or `-`, for the back.
     Proved(Vec<u8>),
-    /// The first sequence of the node, in the order of the search, whose makespan is below the number.
+    /// The first sequence of the node, in the order of the search, whose makespan is below the threshold.
     Below {
         /// The sequence.
         sequence: Sequence,
@@ -45,16 +45,16 @@ pub enum Found {
         /// How many directions the search wrote before it.
         directions: u64,
     },
-    /// There are more directions than the budget, in all or before the first sequence below the number.
+    /// There are more directions than the budget, in all or before the first sequence below the threshold.
     Over,
 }
 
 /// What a search of a node came to.
 #[derive(Debug, PartialEq, Eq, Drop)]
 pub enum Advanced {
-    /// Directions that prove the number, as those of `Found`.
+    /// Directions that prove the threshold, as those of `Found`.
     Proved(Vec<u8>),
-    /// The first sequence of the node, in the order of the search, whose makespan is below the number.
+    /// The first sequence of the node, in the order of the search, whose makespan is below the threshold.
     Below {
         /// The sequence.
         sequence: Sequence,
@@ -63,7 +63,7 @@ pub enum Advanced {
         /// The directions that the search wrote before it.
         directions: Vec<u8>,
     },
-    /// There are more directions than the budget, in all or before the first sequence below the number.
+    /// There are more directions than the budget, in all or before the first sequence below the threshold.
     Rest {
         /// The first directions, as many as the budget.
         directions: Vec<u8>,

@@ -13,7 +13,7 @@ ghost use Rattle.flow_directions.specs.internal.Levels.{IsBegun, IsLevel, IsNext
 ghost use Rattle.flow_directions.specs.internal.Tree.{IsOpenAt, IsTree};
 
 use crate::tree::Tree;
-use flow_nodes::{LANES, Lanes, Marks, Pack, Put, group_count};
+use flow_nodes::{LANES, Marks, Pack, Put, Vector, group_count};
 use flow_shop::{End, Instance};
 use std::alloc::AllocError;
 
@@ -33,14 +33,15 @@ pub(crate) struct Level {
     pub(crate) at: usize,
     /// The first free place of the list, behind the node and its children that are kept.
     pub(crate) top: usize,
-    /// The end.
-    pub(crate) end: End,
+    /// Where the first of the children that are still to be searched stands in the list, where they are kept there, one
+    /// behind the other.
+    pub(crate) kept: Option<u32>,
     /// The places of the jobs whose children are still to be searched.
     pub(crate) rest: Marks,
-    /// Where the first of these children stands in the list, where they are kept there, one behind the other.
-    pub(crate) kept: Option<usize>,
     /// The job of the child that is searched, or 0 before the first.
     pub(crate) job: u16,
+    /// The end.
+    pub(crate) end: End,
 }
 
 impl Level {
@@ -49,17 +50,17 @@ impl Level {
         Level {
             at: 0,
             top: 0,
-            end: End::Front,
-            rest: Marks::none(),
             kept: None,
+            rest: Marks::none(),
             job: 0,
+            end: End::Front,
         }
     }
 
     /// The place of the next job whose child is to be searched, in the pack that has the jobs left. `None` where
     /// there is none.
     #[inline(always)]
-    pub(crate) fn next<V: Lanes>(&mut self, pack: &Pack<V>) -> Option<usize>
+    pub(crate) fn next<V: Vector>(&mut self, pack: &Pack<V>) -> Option<usize>
         requires few { length pack.now.groups.items ≤ 50 }
         requires names { length pack.now.names.items ≡ length pack.now.groups.items * 16 }
         ensures at { self.new.at ≡ self.old.at }
@@ -80,7 +81,7 @@ impl Level {
     }
 }
 
-impl<V: Lanes> Tree<V> {
+impl<V: Vector> Tree<V> {
     /// Begins with the children of the node at a spot, at the end that is taken, where so many jobs are left. Writes
     /// the level over another one.
     #[inline(always)]
@@ -96,21 +97,21 @@ impl<V: Lanes> Tree<V> {
         requires few { group_count left ≤ length self.old.packs.items }
         requires order { spot.at < spot.top }
         requires room { spot.top ≤ length self.old.nodes.items }
-        requires at { (number : ℕ) × (first : List ℕ) × (last : List ℕ)
-            × IsTree V.CAP instance.now number self.old
-            × IsOpenAt V.list V.CAP V.WIDTH instance.now number first last (group_count left) spot.at
+        requires at { (threshold : ℕ) × (first : List ℕ) × (last : List ℕ)
+            × IsTree V.CAP instance.now threshold self.old
+            × IsOpenAt V.list V.CAP V.WIDTH instance.now threshold first last (group_count left) spot.at
             self.old.packs.items self.old.nodes.items }
-        ensures tree { (number : ℕ) → IsTree V.CAP instance.now number self.old →
-            OnOk result (IsTree V.CAP instance.now number self.new) }
+        ensures tree { (threshold : ℕ) → IsTree V.CAP instance.now threshold self.old →
+            OnOk result (IsTree V.CAP instance.now threshold self.new) }
         ensures packs { self.new.packs ≡ self.old.packs }
         ensures above { take spot.top self.new.nodes.items ≡ take spot.top self.old.nodes.items }
         ensures top { OnOk result (spot.top ≤ level.new.top) }
         ensures room { OnOk result (level.new.top < length self.new.nodes.items) }
-        ensures level { (number : ℕ) (first last : List ℕ) → IsTree V.CAP instance.now number self.old →
-            IsOpenAt V.list V.CAP V.WIDTH instance.now number first last (group_count left) spot.at
+        ensures level { (threshold : ℕ) (first last : List ℕ) → IsTree V.CAP instance.now threshold self.old →
+            IsOpenAt V.list V.CAP V.WIDTH instance.now threshold first last (group_count left) spot.at
             self.old.packs.items self.old.nodes.items →
             length (jobs_left instance.now.jobs (first ++ last)) ≡ left →
-            OnOk result (IsBegun V.list V.CAP V.WIDTH instance.now number self.new.packs.items
+            OnOk result (IsBegun V.list V.CAP V.WIDTH instance.now threshold self.new.packs.items
             self.new.nodes.items left first last level.new) }
     {
         let chosen = self.choose(instance, group_count(left), spot.at, spot.top)?;
@@ -131,12 +132,12 @@ impl<V: Lanes> Tree<V> {
         requires some { 1 ≤ left }
         requires few { group_count (left + 1) ≤ length self.old.packs.items }
         requires room { here.old.top < length self.old.nodes.items }
-        requires at { (number : ℕ) × (first : List ℕ) × (last : List ℕ)
-            × IsTree V.CAP instance.now number self.old
-            × IsNext V.list V.CAP V.WIDTH instance.now number self.old.packs.items self.old.nodes.items (left + 1)
+        requires at { (threshold : ℕ) × (first : List ℕ) × (last : List ℕ)
+            × IsTree V.CAP instance.now threshold self.old
+            × IsNext V.list V.CAP V.WIDTH instance.now threshold self.old.packs.items self.old.nodes.items (left + 1)
             first last place here.old }
-        ensures tree { (number : ℕ) → IsTree V.CAP instance.now number self.old →
-            IsTree V.CAP instance.now number self.new }
+        ensures tree { (threshold : ℕ) → IsTree V.CAP instance.now threshold self.old →
+            IsTree V.CAP instance.now threshold self.new }
         ensures packs { self.new.packs ≡ self.old.packs }
         ensures above { take here.old.top self.new.nodes.items ≡ take here.old.top self.old.nodes.items }
         ensures size { length self.new.nodes.items ≡ length self.old.nodes.items }
@@ -147,21 +148,24 @@ impl<V: Lanes> Tree<V> {
         ensures order { result.at < result.top }
         ensures behind { here.old.top ≤ result.top }
         ensures room { result.top ≤ length self.new.nodes.items }
-        ensures level { (number : ℕ) (first last : List ℕ) → IsTree V.CAP instance.now number self.old →
-            IsNext V.list V.CAP V.WIDTH instance.now number self.old.packs.items self.old.nodes.items (left + 1)
+        ensures level { (threshold : ℕ) (first last : List ℕ) → IsTree V.CAP instance.now threshold self.old →
+            IsNext V.list V.CAP V.WIDTH instance.now threshold self.old.packs.items self.old.nodes.items (left + 1)
             first last place here.old →
-            IsLevel V.list V.CAP V.WIDTH instance.now number self.new.packs.items self.new.nodes.items (left + 1)
+            IsLevel V.list V.CAP V.WIDTH instance.now threshold self.new.packs.items self.new.nodes.items (left + 1)
             first last here.new }
-        ensures child { (number : ℕ) (first last : List ℕ) → IsTree V.CAP instance.now number self.old →
-            IsNext V.list V.CAP V.WIDTH instance.now number self.old.packs.items self.old.nodes.items (left + 1)
+        ensures child { (threshold : ℕ) (first last : List ℕ) → IsTree V.CAP instance.now threshold self.old →
+            IsNext V.list V.CAP V.WIDTH instance.now threshold self.old.packs.items self.old.nodes.items (left + 1)
             first last place here.old →
-            IsOpenAt V.list V.CAP V.WIDTH instance.now number
+            IsOpenAt V.list V.CAP V.WIDTH instance.now threshold
             (first_with here.old.end first here.old.job) (last_with here.old.end last here.old.job)
             (group_count (left + 1)) result.at self.new.packs.items self.new.nodes.items }
     {
         if let Some(at) = here.kept {
             here.kept = Some(at + 1);
-            return Spot { at, top: here.top };
+            return Spot {
+                at: at as usize,
+                top: here.top,
+            };
         }
         let put = Put {
             end: here.end,
@@ -183,13 +187,13 @@ impl<V: Lanes> Tree<V> {
         requires few { group_count (left + 1) ≤ length self.old.packs.items }
         requires order { spot.at < spot.top }
         requires room { spot.top ≤ length self.old.nodes.items }
-        requires at { (number : ℕ) × (first : List ℕ) × (last : List ℕ)
-            × IsTree V.CAP instance.now number self.old
-            × IsOpenAt V.list V.CAP V.WIDTH instance.now number first last (group_count (left + 1)) spot.at
+        requires at { (threshold : ℕ) × (first : List ℕ) × (last : List ℕ)
+            × IsTree V.CAP instance.now threshold self.old
+            × IsOpenAt V.list V.CAP V.WIDTH instance.now threshold first last (group_count (left + 1)) spot.at
             self.old.packs.items self.old.nodes.items
             × (length (jobs_left instance.now.jobs (first ++ last)) ≡ left) }
-        ensures tree { (number : ℕ) → IsTree V.CAP instance.now number self.old →
-            OnOk result (IsTree V.CAP instance.now number self.new) }
+        ensures tree { (threshold : ℕ) → IsTree V.CAP instance.now threshold self.old →
+            OnOk result (IsTree V.CAP instance.now threshold self.new) }
         ensures count { length self.new.packs.items ≡ length self.old.packs.items }
         ensures others { (more : ℕ) (none : Pack V) → left < more →
             slice_index_or self.new.packs.items (group_count more - 1) none
@@ -198,11 +202,12 @@ impl<V: Lanes> Tree<V> {
         ensures order { IfOk result (λ new. new.at < new.top) }
         ensures behind { IfOk result (λ new. spot.top ≤ new.top) }
         ensures room { IfOk result (λ new. new.top ≤ length self.new.nodes.items) }
-        ensures node { (number : ℕ) (first last : List ℕ) → IsTree V.CAP instance.now number self.old →
-            IsOpenAt V.list V.CAP V.WIDTH instance.now number first last (group_count (left + 1)) spot.at
+        ensures node { (threshold : ℕ) (first last : List ℕ) → IsTree V.CAP instance.now threshold self.old →
+            IsOpenAt V.list V.CAP V.WIDTH instance.now threshold first last (group_count (left + 1)) spot.at
             self.old.packs.items self.old.nodes.items →
             length (jobs_left instance.now.jobs (first ++ last)) ≡ left →
-            IfOk result (λ new. IsOpenAt V.list V.CAP V.WIDTH instance.now number first last (group_count left) new.at
+            IfOk result (λ new. IsOpenAt V.list V.CAP V.WIDTH instance.now threshold first last (group_count left)
+            new.at
             self.new.packs.items self.new.nodes.items) }
     {
         let spare = left as usize % LANES;
@@ -232,12 +237,12 @@ impl<V: Lanes> Tree<V> {
         requires some { 1 ≤ left }
         requires few { group_count (left + 1) ≤ length self.old.packs.items }
         requires room { here.old.top < length self.old.nodes.items }
-        requires at { (number : ℕ) × (first : List ℕ) × (last : List ℕ)
-            × IsTree V.CAP instance.now number self.old
-            × IsNext V.list V.CAP V.WIDTH instance.now number self.old.packs.items self.old.nodes.items (left + 1)
+        requires at { (threshold : ℕ) × (first : List ℕ) × (last : List ℕ)
+            × IsTree V.CAP instance.now threshold self.old
+            × IsNext V.list V.CAP V.WIDTH instance.now threshold self.old.packs.items self.old.nodes.items (left + 1)
             first last place here.old }
-        ensures tree { (number : ℕ) → IsTree V.CAP instance.now number self.old →
-            OnOk result (IsTree V.CAP instance.now number self.new) }
+        ensures tree { (threshold : ℕ) → IsTree V.CAP instance.now threshold self.old →
+            OnOk result (IsTree V.CAP instance.now threshold self.new) }
         ensures count { length self.new.packs.items ≡ length self.old.packs.items }
         ensures others { (more : ℕ) (none : Pack V) → left < more →
             slice_index_or self.new.packs.items (group_count more - 1) none
@@ -248,16 +253,16 @@ impl<V: Lanes> Tree<V> {
         ensures room { OnOk result (here.new.top < length self.new.nodes.items) }
         ensures above_it { OnOk result ((level : Level) × (levels.new.items ≡ levels.old.items ++ level ∷ [])
             × (level.end ≡ here.old.end) × (level.job ≡ here.old.job) × (level.top ≡ here.old.top)
-            × (level.rest ≡ here.old.rest) × ((number : ℕ) (first last : List ℕ) →
-            IsTree V.CAP instance.now number self.old →
-            IsNext V.list V.CAP V.WIDTH instance.now number self.old.packs.items self.old.nodes.items (left + 1)
+            × (level.rest ≡ here.old.rest) × ((threshold : ℕ) (first last : List ℕ) →
+            IsTree V.CAP instance.now threshold self.old →
+            IsNext V.list V.CAP V.WIDTH instance.now threshold self.old.packs.items self.old.nodes.items (left + 1)
             first last place here.old →
-            IsLevel V.list V.CAP V.WIDTH instance.now number self.new.packs.items self.new.nodes.items (left + 1)
+            IsLevel V.list V.CAP V.WIDTH instance.now threshold self.new.packs.items self.new.nodes.items (left + 1)
             first last level)) }
-        ensures level { (number : ℕ) (first last : List ℕ) → IsTree V.CAP instance.now number self.old →
-            IsNext V.list V.CAP V.WIDTH instance.now number self.old.packs.items self.old.nodes.items (left + 1)
+        ensures level { (threshold : ℕ) (first last : List ℕ) → IsTree V.CAP instance.now threshold self.old →
+            IsNext V.list V.CAP V.WIDTH instance.now threshold self.old.packs.items self.old.nodes.items (left + 1)
             first last place here.old →
-            OnOk result (IsBegun V.list V.CAP V.WIDTH instance.now number self.new.packs.items
+            OnOk result (IsBegun V.list V.CAP V.WIDTH instance.now threshold self.new.packs.items
             self.new.nodes.items left (first_with here.old.end first here.old.job)
             (last_with here.old.end last here.old.job) here.new) }
     {

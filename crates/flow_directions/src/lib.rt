@@ -1,4 +1,16 @@
 //! The search for directions that prove a lower bound on the makespans of a node's sequences.
+//!
+//! - `directions.rt`: the search for directions that prove a threshold for a node.
+//! - `found.rt`: what a search finds.
+//! - `prover.rt`: who searches an instance for directions.
+//! - `start.rt`: the node at which a search begins.
+//! - `walk.rt`: the walk through the nodes that the search opens.
+//! - `tree.rt`: the open nodes of a search, and what they share.
+//! - `level.rt`: the nodes whose children are searched.
+//! - `lists.rt`: the lists of a node.
+//! - `choose.rt`: the end at which a node is opened.
+//! - `sums.rt`: the sums of the bounds of a node's children.
+//! - `laws.rt`: laws of the definitions.
 #![tactic(auto)]
 
 mod choose;

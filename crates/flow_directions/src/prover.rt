@@ -25,25 +25,33 @@ pub enum News {
 
 /// Searches an instance for directions.
 pub trait Prover {
-    ghost use Rattle.std.specs.Prelude.{[], IfOk};
+    ghost use Rattle.std.specs.Prelude.{[], IfOk, IfSome};
     ghost use Rattle.flow_directions.specs.News.{MayBeTold};
     ghost use Rattle.flow_directions.specs.Search.{IsFound, Shows};
 
     // What has to hold where it searches.
     ghost is_ready: { Self → Type 0 };
 
-    /// Searches for directions that prove that no sequence of an instance has a makespan below a number, with a budget,
-    /// as `prove` does from the node of two empty lists. The fault is that memory ran out.
+    /// Searches for directions that prove that no sequence of an instance has a makespan below a threshold, with a
+    /// budget, as `prove` does from the node of two empty lists. Returns none where the time was over before it was
+    /// found. The fault is that memory ran out.
     fn prove(
         &self,
         alloc: Global,
         instance: &Instance,
-        number: u64,
+        threshold: u64,
         budget: u64,
-    ) -> Result<Found, AllocError>
+    ) -> Result<Option<Found>, AllocError>
         requires { is_ready self.now }
-        ensures found { IfOk result (λ found. IsFound instance.now number budget [] [] found) }
-        ensures shown { IfOk result (λ found. Shows instance.now number [] [] found) };
+        ensures found { IfOk result (λ found. IfSome found (λ found.
+            IsFound instance.now threshold budget [] [] found)) }
+        ensures shown { IfOk result (λ found. IfSome found (λ found. Shows instance.now threshold [] [] found)) };
+
+    /// Whether the time of the run is limited.
+    fn is_limited(&self) -> bool;
+
+    /// Whether the time of the run is over.
+    fn is_over(&self) -> bool;
 
     /// Is told something new of an instance: bounds are told only where they are proved. It changes nothing of what is
     /// found.
@@ -62,14 +70,22 @@ impl Prover for Alone {
         &self,
         alloc: Global,
         instance: &Instance,
-        number: u64,
+        threshold: u64,
         budget: u64,
-    ) -> Result<Found, AllocError> {
-        match prove(alloc, instance, &[], &[], number, budget) {
-            Ok(found) => Ok(found),
+    ) -> Result<Option<Found>, AllocError> {
+        match prove(alloc, instance, &[], &[], threshold, budget) {
+            Ok(found) => Ok(Some(found)),
             // Two empty lists are a node, so a fault is that memory ran out.
             Err(_) => Err(AllocError),
         }
+    }
+
+    fn is_limited(&self) -> bool {
+        false
+    }
+
+    fn is_over(&self) -> bool {
+        false
     }
 
     fn tell(&self, _instance: &Instance, _news: News) {}

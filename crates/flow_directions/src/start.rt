@@ -14,7 +14,7 @@ ghost use Rattle.flow_directions.specs.declared.found.ProveFault.TheVariants.{Jo
 use crate::found::ProveFault;
 use crate::lists::Lists;
 use crate::tree::Tree;
-use flow_nodes::{Lanes, Marks, Node, OpenNode, Pack, group_count};
+use flow_nodes::{Marks, Node, OpenNode, Pack, Vector, group_count};
 use flow_shop::{End, Instance, JobSet, Row, insert_all};
 use std::alloc::{AllocError, Global};
 
@@ -68,7 +68,7 @@ impl StartNode {
     }
 
     /// Fills a pack with the jobs left, in order.
-    fn pack<V: Lanes>(&self, instance: &Instance, rows: &[Row], pack: &mut Pack<V>)
+    fn pack<V: Vector>(&self, instance: &Instance, rows: &[Row], pack: &mut Pack<V>)
         requires wide { V.WIDTH ≡ 16 }
         requires rows { AreRows instance.now rows.now }
         requires room { HasRoom instance.now pack.old }
@@ -90,7 +90,7 @@ impl StartNode {
     }
 
     /// Packs the jobs left in the last pack of a tree that has no node yet, and puts the node, opened, into its list.
-    pub(crate) fn open<V: Lanes>(
+    pub(crate) fn open<V: Vector>(
         &self,
         instance: &Instance,
         tree: &mut Tree<V>,
@@ -99,16 +99,16 @@ impl StartNode {
         requires some { 1 ≤ self.now.left }
         requires packs { length tree.old.packs.items ≡ group_count self.now.left }
         requires nodes { tree.old.nodes.items ≡ [] }
-        requires at { (number : ℕ) × (first : List ℕ) × (last : List ℕ) × IsStart instance.now first last self.now
-            × (end_bound instance.now first last < number) × IsTree V.CAP instance.now number tree.old }
+        requires at { (threshold : ℕ) × (first : List ℕ) × (last : List ℕ) × IsStart instance.now first last self.now
+            × (end_bound instance.now first last < threshold) × IsTree V.CAP instance.now threshold tree.old }
         ensures count { OnOk result (length tree.new.packs.items ≡ length tree.old.packs.items) }
         ensures size { OnOk result (1 ≤ length tree.new.nodes.items) }
-        ensures tree { (number : ℕ) (first last : List ℕ) → IsStart instance.now first last self.now →
-            end_bound instance.now first last < number → IsTree V.CAP instance.now number tree.old →
-            OnOk result (IsTree V.CAP instance.now number tree.new) }
-        ensures at { (number : ℕ) (first last : List ℕ) → IsStart instance.now first last self.now →
-            end_bound instance.now first last < number → IsTree V.CAP instance.now number tree.old →
-            OnOk result (IsAt V.list V.CAP V.WIDTH instance.now number first last self.now.left self.now.lists
+        ensures tree { (threshold : ℕ) (first last : List ℕ) → IsStart instance.now first last self.now →
+            end_bound instance.now first last < threshold → IsTree V.CAP instance.now threshold tree.old →
+            OnOk result (IsTree V.CAP instance.now threshold tree.new) }
+        ensures at { (threshold : ℕ) (first last : List ℕ) → IsStart instance.now first last self.now →
+            end_bound instance.now first last < threshold → IsTree V.CAP instance.now threshold tree.old →
+            OnOk result (IsAt V.list V.CAP V.WIDTH instance.now threshold first last self.now.left self.now.lists
             tree.new) }
     {
         let groups = group_count(self.left);

@@ -7,7 +7,7 @@ ghost use Rattle.flow_shop.specs.Ends.{end_bound};
 ghost use Rattle.flow_shop.specs.Rows.{AreRows};
 ghost use Rattle.flow_shop.specs.Sequences.{jobs_left};
 ghost use Rattle.flow_shop.specs.Directions.{first_with, last_with};
-ghost use Rattle.flow_nodes.specs.Lanes.{limit_of};
+ghost use Rattle.flow_nodes.specs.Vectors.{limit_of};
 ghost use Rattle.flow_nodes.specs.Marks.{mark};
 ghost use Rattle.flow_nodes.specs.Packs.{HasRoom, HasRoomFor, IsPack, jobs_at};
 ghost use Rattle.flow_nodes.specs.declared.pack.Pack.{Pack};
@@ -15,7 +15,7 @@ ghost use Rattle.flow_nodes.specs.Open.{HasRoomToOpen, IsOpenNode, children_at};
 ghost use Rattle.flow_directions.specs.internal.Tree.{IsOpenAt, IsTree};
 ghost use Rattle.flow_nodes.specs.declared.open.OpenNode.{OpenNode};
 
-use flow_nodes::{LANES, Lanes, Marks, OpenNode, Opener, Pack, Put};
+use flow_nodes::{LANES, Marks, OpenNode, Opener, Pack, Put, Vector};
 use flow_shop::{Instance, Row};
 use std::alloc::{AllocError, Global};
 
@@ -45,39 +45,37 @@ struct Making {
 
 /// Makes a child of a node of a list.
 #[inline(always)]
-fn make_child<V: Lanes>(
+fn make_child<V: Vector>(
     nodes: &mut [OpenNode<V>],
-    opener: &mut Opener<V>,
+    opener: &Opener<V>,
     instance: &Instance,
     pack: &Pack<V>,
     making: Making,
 )
     requires wide { V.WIDTH ≡ 16 }
-    requires limit { opener.old.limit ≤ V.CAP }
+    requires limit { opener.now.limit ≤ V.CAP }
     requires order { making.at < making.to }
     requires room { making.to < length nodes.old }
-    requires at { (empty : OpenNode V) → (number : ℕ) × (first : List ℕ) × (last : List ℕ)
-        × IsOpenNode V.list V.CAP V.WIDTH instance.now number first last pack.now
+    requires at { (empty : OpenNode V) → (threshold : ℕ) × (first : List ℕ) × (last : List ℕ)
+        × IsOpenNode V.list V.CAP V.WIDTH instance.now threshold first last pack.now
         (slice_index_or nodes.old making.at empty)
-        × IsPack V.list V.CAP V.WIDTH instance.now pack.now × HasRoomFor instance.now opener.old
-        × (opener.old.limit ≡ limit_of number) × (end_bound instance.now first last < number)
+        × IsPack V.list V.CAP V.WIDTH instance.now pack.now × HasRoomFor instance.now opener.now
+        × (opener.now.limit ≡ limit_of threshold) × (end_bound instance.now first last < threshold)
         × (making.put.place < length pack.now.names.items)
         × (mark (children_at making.put.end (slice_index_or nodes.old making.at empty)).below.words making.put.place
         ≡ 1)
         × HasRoomToOpen instance.now (length pack.now.groups.items) (slice_index_or nodes.old making.at empty)
         × HasRoomToOpen instance.now (length pack.now.groups.items) (slice_index_or nodes.old making.to empty) }
-    ensures limit { opener.new.limit ≡ opener.old.limit }
-    ensures opener { (shop : Shop) → HasRoomFor shop opener.old → HasRoomFor shop opener.new }
-    ensures child { (child : OpenNode V) × (nodes.new ≡ set nodes.old making.to child)
+    ensures { (child : OpenNode V) × (nodes.new ≡ set nodes.old making.to child)
         × ((shop : Shop) (groups : ℕ) (empty : OpenNode V) →
         HasRoomToOpen shop groups (slice_index_or nodes.old making.to empty) → HasRoomToOpen shop groups child)
-        × ((number : ℕ) (first last : List ℕ) (empty : OpenNode V) →
-        IsOpenNode V.list V.CAP V.WIDTH instance.now number first last pack.now
+        × ((threshold : ℕ) (first last : List ℕ) (empty : OpenNode V) →
+        IsOpenNode V.list V.CAP V.WIDTH instance.now threshold first last pack.now
         (slice_index_or nodes.old making.at empty) →
-        IsPack V.list V.CAP V.WIDTH instance.now pack.now → HasRoomFor instance.now opener.old →
-        opener.old.limit ≡ limit_of number →
+        IsPack V.list V.CAP V.WIDTH instance.now pack.now → HasRoomFor instance.now opener.now →
+        opener.now.limit ≡ limit_of threshold →
         mark (children_at making.put.end (slice_index_or nodes.old making.at empty)).below.words making.put.place ≡ 1 →
-        IsOpenNode V.list V.CAP V.WIDTH instance.now number
+        IsOpenNode V.list V.CAP V.WIDTH instance.now threshold
         (first_with making.put.end first (slice_index pack.now.names.items making.put.place))
         (last_with making.put.end last (slice_index pack.now.names.items making.put.place)) pack.now child) }
 {
@@ -93,7 +91,7 @@ fn make_child<V: Lanes>(
 
 /// Fills the pack of so many groups with the jobs at marked places of the pack that has one group more.
 #[inline(always)]
-fn refill<V: Lanes>(
+fn refill<V: Vector>(
     packs: &mut [Pack<V>],
     instance: &Instance,
     rows: &[Row],
@@ -119,7 +117,7 @@ fn refill<V: Lanes>(
     fewer[groups - 1].fill(instance, rows, &more[0], left);
 }
 
-impl<V: Lanes> Tree<V> {
+impl<V: Vector> Tree<V> {
     /// A tree with no node yet, with packs of up to so many groups.
     pub(crate) fn new(
         alloc: Global,
@@ -128,8 +126,8 @@ impl<V: Lanes> Tree<V> {
         limit: u32,
     ) -> Result<Tree<V>, AllocError>
         requires few { groups ≤ 50 }
-        ensures tree { (number : ℕ) → limit ≡ limit_of number → limit ≤ V.CAP →
-            IfOk result (λ tree. IsTree V.CAP instance.now number tree) }
+        ensures tree { (threshold : ℕ) → limit ≡ limit_of threshold → limit ≤ V.CAP →
+            IfOk result (λ tree. IsTree V.CAP instance.now threshold tree) }
         ensures packs { IfOk result (λ tree. length tree.packs.items ≡ groups) }
         ensures nodes { IfOk result (λ tree. tree.nodes.items ≡ []) }
     {
@@ -151,8 +149,8 @@ impl<V: Lanes> Tree<V> {
     #[inline(never)]
     fn add_nodes(&mut self, instance: &Instance, count: usize) -> Result<(), AllocError>
         requires few { length self.old.packs.items ≤ 50 }
-        ensures tree { (number : ℕ) → IsTree V.CAP instance.now number self.old →
-            IsTree V.CAP instance.now number self.new }
+        ensures tree { (threshold : ℕ) → IsTree V.CAP instance.now threshold self.old →
+            IsTree V.CAP instance.now threshold self.new }
         ensures packs { self.new.packs ≡ self.old.packs }
         ensures begin { take (length self.old.nodes.items) self.new.nodes.items ≡ self.old.nodes.items }
         ensures more { length self.old.nodes.items ≤ length self.new.nodes.items }
@@ -169,8 +167,8 @@ impl<V: Lanes> Tree<V> {
     #[inline(always)]
     pub(crate) fn grow(&mut self, instance: &Instance, count: usize) -> Result<(), AllocError>
         requires few { length self.old.packs.items ≤ 50 }
-        ensures tree { (number : ℕ) → IsTree V.CAP instance.now number self.old →
-            IsTree V.CAP instance.now number self.new }
+        ensures tree { (threshold : ℕ) → IsTree V.CAP instance.now threshold self.old →
+            IsTree V.CAP instance.now threshold self.new }
         ensures packs { self.new.packs ≡ self.old.packs }
         ensures begin { take (length self.old.nodes.items) self.new.nodes.items ≡ self.old.nodes.items }
         ensures more { length self.old.nodes.items ≤ length self.new.nodes.items }
@@ -197,23 +195,23 @@ impl<V: Lanes> Tree<V> {
         requires few { groups ≤ length self.old.packs.items }
         requires order { at < to }
         requires room { to < length self.old.nodes.items }
-        requires at { (number : ℕ) × (first : List ℕ) × (last : List ℕ)
-            × IsTree V.CAP instance.now number self.old
-            × IsOpenAt V.list V.CAP V.WIDTH instance.now number first last groups at self.old.packs.items
+        requires at { (threshold : ℕ) × (first : List ℕ) × (last : List ℕ)
+            × IsTree V.CAP instance.now threshold self.old
+            × IsOpenAt V.list V.CAP V.WIDTH instance.now threshold first last groups at self.old.packs.items
             self.old.nodes.items }
         requires place { put.place < groups * 16 }
         requires marked { (empty : OpenNode V) →
             mark (children_at put.end (slice_index_or self.old.nodes.items at empty)).below.words put.place ≡ 1 }
-        ensures tree { (number : ℕ) → IsTree V.CAP instance.now number self.old →
-            IsTree V.CAP instance.now number self.new }
+        ensures tree { (threshold : ℕ) → IsTree V.CAP instance.now threshold self.old →
+            IsTree V.CAP instance.now threshold self.new }
         ensures packs { self.new.packs ≡ self.old.packs }
         ensures size { length self.new.nodes.items ≡ length self.old.nodes.items }
         ensures above { take to self.new.nodes.items ≡ take to self.old.nodes.items }
-        ensures child { (number : ℕ) (first last : List ℕ) (none : Pack V) →
-            IsTree V.CAP instance.now number self.old →
-            IsOpenAt V.list V.CAP V.WIDTH instance.now number first last groups at self.old.packs.items
+        ensures child { (threshold : ℕ) (first last : List ℕ) (none : Pack V) →
+            IsTree V.CAP instance.now threshold self.old →
+            IsOpenAt V.list V.CAP V.WIDTH instance.now threshold first last groups at self.old.packs.items
             self.old.nodes.items →
-            IsOpenAt V.list V.CAP V.WIDTH instance.now number
+            IsOpenAt V.list V.CAP V.WIDTH instance.now threshold
             (first_with put.end first
             (slice_index (slice_index_or self.old.packs.items (groups - 1) none).names.items put.place))
             (last_with put.end last
@@ -222,7 +220,7 @@ impl<V: Lanes> Tree<V> {
     {
         make_child(
             self.nodes.as_mut_slice(),
-            &mut self.opener,
+            &self.opener,
             instance,
             &self.packs[groups - 1],
             Making { at, put, to },
@@ -238,24 +236,24 @@ impl<V: Lanes> Tree<V> {
         requires more { groups < length self.old.packs.items }
         requires order { at < to }
         requires room { to < length self.old.nodes.items }
-        requires at { (number : ℕ) × (first : List ℕ) × (last : List ℕ)
-            × IsTree V.CAP instance.now number self.old
-            × IsOpenAt V.list V.CAP V.WIDTH instance.now number first last (groups + 1) at self.old.packs.items
+        requires at { (threshold : ℕ) × (first : List ℕ) × (last : List ℕ)
+            × IsTree V.CAP instance.now threshold self.old
+            × IsOpenAt V.list V.CAP V.WIDTH instance.now threshold first last (groups + 1) at self.old.packs.items
             self.old.nodes.items
             × (length (jobs_left instance.now.jobs (first ++ last)) ≡ groups * 16) }
-        ensures tree { (number : ℕ) → IsTree V.CAP instance.now number self.old →
-            IsTree V.CAP instance.now number self.new }
+        ensures tree { (threshold : ℕ) → IsTree V.CAP instance.now threshold self.old →
+            IsTree V.CAP instance.now threshold self.new }
         ensures count { length self.new.packs.items ≡ length self.old.packs.items }
         ensures others { (place : ℕ) (none : Pack V) → place ≢ groups - 1 →
             slice_index_or self.new.packs.items place none ≡ slice_index_or self.old.packs.items place none }
         ensures size { length self.new.nodes.items ≡ length self.old.nodes.items }
         ensures above { take to self.new.nodes.items ≡ take to self.old.nodes.items }
-        ensures node { (number : ℕ) (first last : List ℕ) →
-            IsTree V.CAP instance.now number self.old →
-            IsOpenAt V.list V.CAP V.WIDTH instance.now number first last (groups + 1) at self.old.packs.items
+        ensures node { (threshold : ℕ) (first last : List ℕ) →
+            IsTree V.CAP instance.now threshold self.old →
+            IsOpenAt V.list V.CAP V.WIDTH instance.now threshold first last (groups + 1) at self.old.packs.items
             self.old.nodes.items →
             length (jobs_left instance.now.jobs (first ++ last)) ≡ groups * 16 →
-            IsOpenAt V.list V.CAP V.WIDTH instance.now number first last groups to self.new.packs.items
+            IsOpenAt V.list V.CAP V.WIDTH instance.now threshold first last groups to self.new.packs.items
             self.new.nodes.items }
     {
         refill(

@@ -5,7 +5,7 @@ ghost use Rattle.flow_shop.specs.Shop.{Shop};
 ghost use Rattle.flow_shop.specs.Directions.{sign};
 ghost use Rattle.flow_shop.specs.Sequences.{AreJobs, IsSequence};
 ghost use Rattle.flow_nodes.specs.Groups.{group_count};
-ghost use Rattle.flow_nodes.specs.Lanes.{limit_of};
+ghost use Rattle.flow_nodes.specs.Vectors.{limit_of};
 ghost use Rattle.flow_nodes.specs.Marks.{chosen};
 ghost use Rattle.flow_directions.specs.Search.{IsAdvanced, IsPart, Visit, parts_visits, visits};
 ghost use Rattle.flow_directions.specs.internal.Levels.{IsAt, StandsBelow, first_of, last_of, met_with, names_of};
@@ -16,7 +16,7 @@ use crate::found::{Advanced, Part};
 use crate::level::{Level, Spot};
 use crate::lists::Lists;
 use crate::tree::Tree;
-use flow_nodes::{Lanes, Marks, Pack, group_count};
+use flow_nodes::{Marks, Pack, Vector, group_count};
 use flow_shop::{End, Instance, Sequence, makespan};
 use std::alloc::{AllocError, Global};
 
@@ -24,7 +24,7 @@ use std::alloc::{AllocError, Global};
 #[derive(Clone, Copy)]
 pub(crate) struct Terms {
     /// The number.
-    pub(crate) number: u64,
+    pub(crate) threshold: u64,
     /// The most directions.
     pub(crate) budget: u64,
 }
@@ -41,7 +41,7 @@ fn sign_of(end: End) -> u8
 }
 
 /// The jobs that a pack has at marked places, in order.
-fn jobs_at<V: Lanes>(alloc: Global, pack: &Pack<V>, marks: &Marks) -> Result<Vec<u16>, AllocError>
+fn jobs_at<V: Vector>(alloc: Global, pack: &Pack<V>, marks: &Marks) -> Result<Vec<u16>, AllocError>
     requires few { length pack.now.groups.items ≤ 50 }
     requires names { length pack.now.names.items ≡ length pack.now.groups.items * 16 }
     ensures { IfOk result (λ jobs. jobs.items ≡ chosen marks.now.words pack.now.names.items) }
@@ -77,23 +77,25 @@ pub(crate) fn sequence_of(
 /// and then the children of each level that are still to be searched, the last one's first. So many jobs are left at
 /// the child.
 #[inline(never)]
-fn parts_left<V: Lanes>(
+fn parts_left<V: Vector>(
     tree: &Tree<V>,
     lists: &mut Lists,
     levels: &mut Vec<Level>,
     left: u16,
 ) -> Result<Vec<Part>, AllocError>
     requires few { group_count (left + length levels.old.items) ≤ length tree.now.packs.items }
-    requires at { (shop : Shop) × (number : ℕ) × (first : List ℕ) × (last : List ℕ) × IsTree V.CAP shop number tree.now
-        × StandsBelow shop number (names_of tree.now.packs.items) first last (left + length levels.old.items) lists.old
+    requires at { (shop : Shop) × (threshold : ℕ) × (first : List ℕ) × (last : List ℕ)
+        × IsTree V.CAP shop threshold tree.now
+        × StandsBelow shop threshold (names_of tree.now.packs.items) first last (left + length levels.old.items)
+        lists.old
         levels.old.items }
-    ensures parts { (shop : Shop) (number : ℕ) (first last : List ℕ) → IsTree V.CAP shop number tree.now →
-        StandsBelow shop number (names_of tree.now.packs.items) first last (left + length levels.old.items) lists.old
-        levels.old.items → IfOk result (λ parts. parts_visits shop number parts.items
-        ≡ met_with shop number (names_of tree.now.packs.items) (left + length levels.old.items) first last
-        levels.old.items (visits shop number (first_of first levels.old.items) (last_of last levels.old.items))) }
-    ensures each { (shop : Shop) (number : ℕ) (first last : List ℕ) → IsTree V.CAP shop number tree.now →
-        StandsBelow shop number (names_of tree.now.packs.items) first last (left + length levels.old.items) lists.old
+    ensures parts { (shop : Shop) (threshold : ℕ) (first last : List ℕ) → IsTree V.CAP shop threshold tree.now →
+        StandsBelow shop threshold (names_of tree.now.packs.items) first last (left + length levels.old.items) lists.old
+        levels.old.items → IfOk result (λ parts. parts_visits shop threshold parts.items
+        ≡ met_with shop threshold (names_of tree.now.packs.items) (left + length levels.old.items) first last
+        levels.old.items (visits shop threshold (first_of first levels.old.items) (last_of last levels.old.items))) }
+    ensures each { (shop : Shop) (threshold : ℕ) (first last : List ℕ) → IsTree V.CAP shop threshold tree.now →
+        StandsBelow shop threshold (names_of tree.now.packs.items) first last (left + length levels.old.items) lists.old
         levels.old.items → AreJobs shop.jobs (first ++ last) → IfOk result (λ parts. All (IsPart shop) parts.items) }
     ensures count { IfOk result (λ parts. length parts.items ≡ length levels.old.items + 1) }
 {
@@ -111,7 +113,7 @@ fn parts_left<V: Lanes>(
 }
 
 /// Searches the node that stands at the first place of a tree's list, at which so many jobs are left.
-pub(crate) fn search<V: Lanes>(
+pub(crate) fn search<V: Vector>(
     instance: &Instance,
     terms: Terms,
     mut tree: Tree<V>,
@@ -120,14 +122,14 @@ pub(crate) fn search<V: Lanes>(
 ) -> Result<Advanced, AllocError>
     requires wide { V.WIDTH ≡ 16 }
     requires some { 1 ≤ left }
-    requires tree { IsTree V.CAP instance.now terms.number tree }
+    requires tree { IsTree V.CAP instance.now terms.threshold tree }
     requires few { group_count left ≤ length tree.packs.items }
     requires room { 1 ≤ length tree.nodes.items }
     requires at { (first : List ℕ) × (last : List ℕ) × AreJobs instance.now.jobs (first ++ last)
-        × IsAt V.list V.CAP V.WIDTH instance.now terms.number first last left lists tree }
+        × IsAt V.list V.CAP V.WIDTH instance.now terms.threshold first last left lists tree }
     ensures found { (first last : List ℕ) → AreJobs instance.now.jobs (first ++ last) →
-        IsAt V.list V.CAP V.WIDTH instance.now terms.number first last left lists tree →
-        IfOk result (λ found. IsAdvanced instance.now terms.number terms.budget first last found) }
+        IsAt V.list V.CAP V.WIDTH instance.now terms.threshold first last left lists tree →
+        IfOk result (λ found. IsAdvanced instance.now terms.threshold terms.budget first last found) }
 {
     let alloc = tree.alloc;
     let mut directions = Vec::new(alloc);

@@ -1,4 +1,6 @@
 //! Taillard's generator of random numbers and instances.
+//!
+//! - `generator.rt`: the generator.
 #![tactic(auto)]
 
 mod generator;

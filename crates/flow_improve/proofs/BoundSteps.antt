@@ -9,7 +9,7 @@ use Rattle.std.proofs.lemmas.List.Elements.{All-get_or}
 use Rattle.flow_shop.specs.Shop.{Shop}
 use Rattle.flow_shop.specs.Sequences.{has}
 use Rattle.flow_shop.specs.declared.end.End.{End}
-use Rattle.flow_nodes.specs.Lanes.{capped, HasLane}
+use Rattle.flow_nodes.specs.Vectors.{capped, HasLane}
 use Rattle.flow_nodes.specs.Nodes.{IsJob, IsNode}
 use Rattle.flow_nodes.specs.Groups.{AreNames, IsCappedBound, IsGroup, child_bound}
 use Rattle.flow_improve.specs.internal.Beams.{IsEntry, job_at}
@@ -92,23 +92,23 @@ module _ (shop : Shop) (entry : Entry) (end : End) (place bound : ℕ) (is : IsE
       ∙ sum_by_more (bound_at_end shop entry end) (left_of entry) (place - entry.first) 0 inside
       ∙ ap (λ n. sum_by (bound_at_end shop entry end) (take (place - entry.first) (left_of entry)) + n) job-is
 
-  -- one more child is below a number
-  pub count-yes : (number : ℕ) → bound < number →
-      count_by (λ job. nat_lt (bound_at_end shop entry end job) number) (take (place + 1 - entry.first) (left_of entry))
-      ≡ count_by (λ job. nat_lt (bound_at_end shop entry end job) number)
+  -- one more child is below a threshold
+  pub count-yes : (threshold : ℕ) → bound < threshold →
+      count_by (λ job. nat_lt (bound_at_end shop entry end job) threshold) (take (place + 1 - entry.first) (left_of entry))
+      ≡ count_by (λ job. nat_lt (bound_at_end shop entry end job) threshold)
       (take (place - entry.first) (left_of entry)) + 1
-  count-yes number below =
-      let p : ℕ → Bool = λ job. nat_lt (bound_at_end shop entry end job) number in
+  count-yes threshold below =
+      let p : ℕ → Bool = λ job. nat_lt (bound_at_end shop entry end job) threshold in
       ap (λ n. count_by p (take n (left_of entry))) next-place
       ∙ count_by_more_yes p (left_of entry) (place - entry.first) 0 inside
-      (ap (λ n. nat_lt n number) job-is ∙ lt-ltb bound number below)
+      (ap (λ n. nat_lt n threshold) job-is ∙ lt-ltb bound threshold below)
 
   -- or is not
-  pub count-no : (number : ℕ) → number ≤ bound →
-      count_by (λ job. nat_lt (bound_at_end shop entry end job) number) (take (place + 1 - entry.first) (left_of entry))
-      ≡ count_by (λ job. nat_lt (bound_at_end shop entry end job) number) (take (place - entry.first) (left_of entry))
-  count-no number above =
-      let p : ℕ → Bool = λ job. nat_lt (bound_at_end shop entry end job) number in
+  pub count-no : (threshold : ℕ) → threshold ≤ bound →
+      count_by (λ job. nat_lt (bound_at_end shop entry end job) threshold) (take (place + 1 - entry.first) (left_of entry))
+      ≡ count_by (λ job. nat_lt (bound_at_end shop entry end job) threshold) (take (place - entry.first) (left_of entry))
+  count-no threshold above =
+      let p : ℕ → Bool = λ job. nat_lt (bound_at_end shop entry end job) threshold in
       ap (λ n. count_by p (take n (left_of entry))) next-place
       ∙ count_by_more_no p (left_of entry) (place - entry.first) 0 inside
-      (ap (λ n. nat_lt n number) job-is ∙ le-ltb bound number above)
+      (ap (λ n. nat_lt n threshold) job-is ∙ le-ltb bound threshold above)

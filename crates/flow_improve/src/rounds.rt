@@ -6,6 +6,7 @@ ghost use Rattle.flow_shop.specs.Paths.{span};
 ghost use Rattle.flow_shop.specs.Sequences.{IsSequence};
 ghost use Rattle.flow_improve.specs.internal.Rooms.{IsKnown, IsRunOf};
 
+use crate::deadline::Deadline;
 use crate::effort::RunLimits;
 use crate::reached::Reached;
 use crate::round::Rounds;
@@ -96,12 +97,13 @@ impl RoundsRun {
 }
 
 /// The best sequence of rounds from a start, and its makespan, which is at most that of the start. The rounds also end
-/// where one has Taillard's lower bound.
-pub fn rounds_from(
+/// where one has Taillard's lower bound, and where the time is over.
+pub fn rounds_from<D: Deadline>(
     alloc: Global,
     instance: &Instance,
     start: &Sequence,
     limits: &RunLimits,
+    deadline: &D,
 ) -> Result<Reached, AllocError>
     requires { length start.now ≡ instance.now.jobs }
     ensures each { IfOk result (λ reached. IsSequence instance.now.jobs reached.sequence) }
@@ -112,7 +114,7 @@ pub fn rounds_from(
     let least = taillard_bound(instance);
     let mut run = RoundsRun::new(alloc, instance, start, limits.draws())?;
     for _ in 0..limits.rounds {
-        if run.best.makespan <= least || run.search.steps() >= limits.work {
+        if run.best.makespan <= least || run.search.steps() >= limits.work || deadline.is_over() {
             break;
         }
         run.go_on(instance);

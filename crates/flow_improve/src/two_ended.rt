@@ -16,18 +16,30 @@ mod child_order;
 mod entry;
 mod pass;
 
+use crate::deadline::{Deadline, Never};
 use crate::reached::Reached;
 use crate::two_ended::child_order::Mode;
 use crate::two_ended::pass::{PassPlan, Passes, greatest_time};
 use flow_bound::taillard_bound;
-use flow_nodes::{Lanes, fits_narrow_lanes};
+use flow_nodes::{Vector, fits_narrow_lanes};
 use flow_shop::{Instance, Row, Sequence, rows};
 use std::alloc::{AllocError, Global};
 use std::simd::prelude::*;
 
+/// How far a beam search goes.
+#[derive(Clone, Copy, Debug)]
+pub struct BeamLimits {
+    /// The threshold below which a sequence is sought, if there is one.
+    pub below: Option<u64>,
+    /// The greatest width of a pass.
+    pub width: u32,
+    /// The most steps of all passes.
+    pub work: u64,
+}
+
 /// When a search ends.
-#[derive(Drop)]
-struct Limits {
+#[derive(Clone, Copy)]
+struct Limits<'a, D> {
     /// Taillard's lower bound.
     least: u64,
     /// The number that is aimed at: no child is kept whose bound is not below it, and a sequence below it ends the
@@ -39,26 +51,28 @@ struct Limits {
     steps_by_width: u64,
     /// The most steps of all passes.
     work: u64,
+    deadline: &'a D,
 }
 
-impl Limits {
+impl<'a, D: Deadline> Limits<'a, D> {
     /// Those of an instance.
-    fn of(instance: &Instance, aim: Option<u64>, width: u32, work: u64) -> Limits
+    fn of(instance: &Instance, limits: BeamLimits, deadline: &'a D) -> Limits<'a, D>
         ensures least { result.least ≡ taillard_bound instance.now }
-        ensures aim { result.aim ≡ aim }
-        ensures width { result.width ≡ width }
-        ensures work { result.work ≡ work }
+        ensures aim { result.aim ≡ limits.below }
+        ensures width { result.width ≡ limits.width }
+        ensures work { result.work ≡ limits.work }
     {
         let jobs = u64::from(instance.jobs());
         let machines = u64::from(instance.machines());
         Limits {
             least: taillard_bound(instance),
-            aim,
-            width,
+            aim: limits.below,
+            width: limits.width,
             steps_by_width: jobs
                 .saturating_mul(jobs.saturating_add(1))
                 .saturating_mul(machines),
-            work,
+            work: limits.work,
+            deadline,
         }
     }
 
@@ -72,12 +86,12 @@ impl Limits {
         u64::from(self.width).min(self.work / self.steps_by_width.max(1)) as usize
     }
 
-    /// Whether a sequence of this makespan is below the number that is aimed at.
+    /// Whether a sequence of this makespan is below the threshold that is aimed at.
     fn is_reached(&self, makespan: u64) -> bool
-        ensures aimed { IfSome self.now.aim (λ number. IsTrue result ↔ makespan < number) }
+        ensures aimed { IfSome self.now.aim (λ threshold. IsTrue result ↔ makespan < threshold) }
         ensures free { IfNone self.now.aim (IsFalse result) }
     {
-        self.aim.is_some_and(|number| makespan < number)
+        self.aim.is_some_and(|threshold| makespan < threshold)
     }
 
     /// A pass of a width in a mode. Where a number is aimed at, all children that are kept are below it, so their
@@ -129,11 +143,12 @@ impl Limits {
 }
 
 /// Makes a pass, unless the search has ended, and takes the sequence that it comes to. Returns whether the search had
-/// ended, or the pass dropped nothing. That the pass came to the aim or to Taillard's bound is seen by the next call.
-fn ends_with<V: Lanes>(
+/// ended, or the pass dropped nothing. That the pass came to the aim or to Taillard's bound, or to the end of its time,
+/// is seen by the next call.
+fn ends_with<V: Vector, D: Deadline>(
     alloc: Global,
     instance: &Instance,
-    limits: &Limits,
+    limits: &Limits<D>,
     passes: &mut Passes<V>,
     reached: &mut Reached,
     plan: &PassPlan,
@@ -152,11 +167,12 @@ fn ends_with<V: Lanes>(
         return Ok(true);
     }
     if limits.is_reached(reached.value)
+        || limits.deadline.is_over()
         || passes.steps.saturating_add(limits.steps(plan)) > limits.work
     {
         return Ok(true);
     }
-    let is_whole = passes.pass(instance, &plan.at_most(reached.value))?;
+    let is_whole = passes.pass(instance, &plan.at_most(reached.value), limits.deadline)?;
     if let Some(jobs) = passes.least(instance) {
         reached.take(alloc, instance, jobs)?;
     }
@@ -165,10 +181,10 @@ fn ends_with<V: Lanes>(
 }
 
 /// Makes passes of the widths 1, 2, 4 and so on, two of each, until the search has ended.
-fn search<V: Lanes>(
+fn search<V: Vector, D: Deadline>(
     alloc: Global,
     instance: &Instance,
-    limits: &Limits,
+    limits: &Limits<D>,
     passes: &mut Passes<V>,
     reached: &mut Reached,
 ) -> Result<(), AllocError>
@@ -195,10 +211,10 @@ fn search<V: Lanes>(
 }
 
 /// Makes passes until the search has ended, with bounds side by side in lanes.
-fn search_in<V: Lanes>(
+fn search_in<V: Vector, D: Deadline>(
     alloc: Global,
     instance: &Instance,
-    limits: &Limits,
+    limits: &Limits<D>,
     rows: Vec<Row>,
     reached: &mut Reached,
 ) -> Result<(), AllocError>
@@ -208,16 +224,19 @@ fn search_in<V: Lanes>(
     ensures reached { HasMakespan instance.now reached.new }
     ensures least { reached.new.value ≤ reached.old.value }
 {
+    if limits.deadline.is_over() {
+        return Ok(());
+    }
     let mut passes = Passes::<V>::new(alloc, instance, rows, limits.widest())?;
     search(alloc, instance, limits, &mut passes, reached)
 }
 
 /// The best sequence of a search within limits, and whether the search is whole.
-fn best_within(
+fn best_within<D: Deadline>(
     alloc: Global,
     instance: &Instance,
     start: &Sequence,
-    limits: &Limits,
+    limits: &Limits<D>,
 ) -> Result<Reached, AllocError>
     requires start { length start.now ≡ instance.now.jobs }
     ensures reached { IfOk result (HasMakespan instance.now) }
@@ -226,13 +245,13 @@ fn best_within(
 {
     let mut reached = Reached::new(alloc, instance, start)?;
     let rows = rows(alloc, instance)?;
-    // No bound is the sum of more times than these, so each is below the number `above`.
+    // No bound is the sum of more times than these, so each is below the threshold `above`.
     let most = u64::from(instance.jobs()) + u64::from(instance.machines());
     let above = most * u64::from(greatest_time(rows.as_slice())) + 1;
     if fits_narrow_lanes(above) {
-        search_in::<u16x16>(alloc, instance, limits, rows, &mut reached)?;
+        search_in::<u16x16, D>(alloc, instance, limits, rows, &mut reached)?;
     } else {
-        search_in::<u32x16>(alloc, instance, limits, rows, &mut reached)?;
+        search_in::<u32x16, D>(alloc, instance, limits, rows, &mut reached)?;
     }
     reached.whole = reached.whole || reached.value <= limits.least;
     Ok(reached)
@@ -240,7 +259,29 @@ fn best_within(
 
 /// The best sequence of a two-ended beam search, and its makespan, which is at most that of the start. The search makes
 /// passes of the widths 1, 2, 4 and so on, up to the greatest, and none with which the steps of all passes might exceed
-/// `work`. It takes its memory before the first pass, but for the sequences that it comes to.
+/// `work`. Where a sequence is sought below a threshold, no child is kept whose bound is at least that, and the search
+/// ends as soon as it comes to such a sequence; where it finds none, it ends with the start. Then children are ordered
+/// by the deficit, and the first pass of each width opens a node at the end where fewer of its children are below the
+/// threshold. The search also ends where its time is over. It takes its memory before the first pass, but for the
+/// sequences that it comes to.
+pub fn beam_until<D: Deadline>(
+    alloc: Global,
+    instance: &Instance,
+    start: &Sequence,
+    limits: BeamLimits,
+    deadline: &D,
+) -> Result<Reached, AllocError>
+    requires start { length start.now ≡ instance.now.jobs }
+    ensures each { IfOk result (λ reached. IsSequence instance.now.jobs reached.sequence) }
+    ensures value { IfOk result (λ reached. reached.value ≡ span instance.now reached.sequence) }
+    ensures least { IfOk result (λ reached. reached.value ≤ span instance.now start.now) }
+    ensures whole { IfOk result (λ reached. reached.value ≤ taillard_bound instance.now → reached.whole ≡ true) }
+{
+    let limits = Limits::of(instance, limits, deadline);
+    best_within(alloc, instance, start, &limits)
+}
+
+/// The same with no threshold and no end of time.
 pub fn beam(
     alloc: Global,
     instance: &Instance,
@@ -254,20 +295,20 @@ pub fn beam(
     ensures least { IfOk result (λ reached. reached.value ≤ span instance.now start.now) }
     ensures whole { IfOk result (λ reached. reached.value ≤ taillard_bound instance.now → reached.whole ≡ true) }
 {
-    let limits = Limits::of(instance, None, width, work);
-    best_within(alloc, instance, start, &limits)
+    let limits = BeamLimits {
+        below: None,
+        width,
+        work,
+    };
+    beam_until(alloc, instance, start, limits, &Never)
 }
 
-/// The best sequence of a two-ended beam search for a sequence below a number, and its makespan, which is at most that
-/// of the start. No child is kept whose bound is at least the number, and the search ends as soon as it comes to a
-/// sequence below the number. Where it finds none, it ends with the start. Widths, passes and steps are those of
-/// `beam`, but children are ordered by the deficit, and the first pass of each width opens a node at the end where
-/// fewer of its children are below the number.
+/// The same for a sequence below a threshold, with no end of time.
 pub fn beam_below(
     alloc: Global,
     instance: &Instance,
     start: &Sequence,
-    number: u64,
+    threshold: u64,
     width: u32,
     work: u64,
 ) -> Result<Reached, AllocError>
@@ -277,6 +318,10 @@ pub fn beam_below(
     ensures least { IfOk result (λ reached. reached.value ≤ span instance.now start.now) }
     ensures whole { IfOk result (λ reached. reached.value ≤ taillard_bound instance.now → reached.whole ≡ true) }
 {
-    let limits = Limits::of(instance, Some(number), width, work);
-    best_within(alloc, instance, start, &limits)
+    let limits = BeamLimits {
+        below: Some(threshold),
+        width,
+        work,
+    };
+    beam_until(alloc, instance, start, limits, &Never)
 }

@@ -1,5 +1,9 @@
 //! Lanes: bounded queues from one thread to another, in one direction, over the rings of `rtrb`. The thread that owns
 //! an end uses it, and may give it to another thread. No call waits for the other end.
+//!
+//! - `sender.rt`: the end of a lane that sends.
+//! - `receiver.rt`: the end of a lane that receives.
+//! - `settled.rt`: settled lanes: all that was sent was received, and nothing more can be sent.
 #![tactic(auto)]
 
 ghost use Rattle.std.specs.Prelude.{◌≡◌, ◌≤◌, [], IfOk};

@@ -1,4 +1,6 @@
 //! The limits as constants. Contracts name the numbers in `specs/Limits.antt`; the law says that these are the same.
+//!
+//! - `laws.rt`: that law.
 #![tactic(auto)]
 
 ghost use Rattle.std.specs.Int.{is_in_range};

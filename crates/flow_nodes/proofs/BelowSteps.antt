@@ -1,4 +1,4 @@
--- The marks of the children below a number, word by word.
+-- The marks of the children below a threshold, word by word.
 use Rattle.std.proofs.Common.{◌≡◌, ◌↔◌, ℕ, ◌/◌, ◌%◌, ◌<◌, min, false, List, ◌++◌, length, slice_index, set, ap, sym}
 use Rattle.std.proofs.Common.{◌∙◌, arith}
 use Rattle.std.specs.Prelude.{IsBitSet, bit_and}
@@ -7,7 +7,7 @@ use Rattle.std.proofs.lemmas.Nat.Bits.{bit_at-lt, bit_at_and, bit_at-zero}
 use Rattle.flow_shop.specs.Shop.{Shop}
 use Rattle.flow_shop.specs.Sequences.{has}
 use Rattle.flow_shop.specs.declared.end.End.{End}
-use Rattle.flow_nodes.specs.Lanes.{limit_of}
+use Rattle.flow_nodes.specs.Vectors.{limit_of}
 use Rattle.flow_nodes.specs.Nodes.{IsNode}
 use Rattle.flow_nodes.specs.Groups.{IsGroup, child_bound}
 use Rattle.flow_nodes.specs.Marks.{mark}
@@ -39,9 +39,9 @@ module _ (left words : List ℕ) (group bits word place : ℕ) (within : group <
   written-within marked = omega (arith, marked, written, small)
 
   -- a place left is marked then just where its bit is 1
-  pub written-exact : (bound number : ℕ) → mark left place ≡ 1 → bit_at bits (place % 16) ≡ 1 ↔ (bound < number) →
-      mark (set words group (bit_and bits word)) place ≡ 1 ↔ (bound < number)
-  written-exact bound number is tells =
+  pub written-exact : (bound threshold : ℕ) → mark left place ≡ 1 → bit_at bits (place % 16) ≡ 1 ↔ (bound < threshold) →
+      mark (set words group (bit_and bits word)) place ≡ 1 ↔ (bound < threshold)
+  written-exact bound threshold is tells =
       let few : bit_at bits (place % 16) < 2 = bit_at-lt bits (place % 16) in (
         λ marked. tells.0 (omega (arith, marked, written, is, few)),
         λ under. omega (arith, written, is, tells.1 under),
@@ -61,13 +61,13 @@ module _ (left words : List ℕ) (group word place : ℕ) (within : group < leng
   none-written = mark-there words group 0 place within there ∙ bit_at-zero (place % 16)
 
 -- what the bits of a group say of one of its jobs that is left
-pub lane-tells : {V : Type 0} (list : V → List ℕ) (cap width : ℕ) (wide : width ≡ 16) (shop : Shop) (number limit : ℕ)
+pub lane-tells : {V : Type 0} (list : V → List ℕ) (cap width : ℕ) (wide : width ≡ 16) (shop : Shop) (threshold limit : ℕ)
     (end : End) (first last : List ℕ) (node : Node) (jobs : List ℕ) (vectors : List V) (bits lane : ℕ) →
-    IsNode shop first last node → IsGroup list cap width shop jobs vectors → limit ≡ limit_of number →
+    IsNode shop first last node → IsGroup list cap width shop jobs vectors → limit ≡ limit_of threshold →
     lane < 16 → has (first ++ last) (slice_index jobs lane) ≡ false →
     IsBitSet bits lane ↔ (child_bound shop end first last (slice_index jobs lane) < limit) →
-    bit_at bits lane ≡ 1 ↔ (child_bound shop end first last (slice_index jobs lane) < number)
-lane-tells list cap width wide shop number limit end first last node jobs vectors bits lane is are limit_is low fresh
+    bit_at bits lane ≡ 1 ↔ (child_bound shop end first last (slice_index jobs lane) < threshold)
+lane-tells list cap width wide shop threshold limit end first last node jobs vectors bits lane is are limit_is low fresh
     says =
     let small : child_bound shop end first last (slice_index jobs lane) < 4294967295 =
     child-bound-small shop end first last (slice_index jobs lane) node is (are.each lane (omega (arith, wide, low)))

@@ -9,10 +9,10 @@ use Rattle.std.specs.Simd.Lanes.{zip2, sel_l, top}
 use Rattle.std.proofs.lemmas.Bool.{cases_lt, lt-ltb, le-ltb}
 use Rattle.std.proofs.lemmas.Simd.{tops_compared, length-sel_l, get_or-sel_l, length-zip2, get_or-zip2}
 use Rattle.flow_shop.specs.Shop.{Shop, time}
-use Rattle.flow_nodes.specs.Lanes.{HasLane}
+use Rattle.flow_nodes.specs.Vectors.{HasLane}
 use Rattle.flow_shop.specs.Sequences.{has}
 use Rattle.flow_shop.specs.declared.end.End.{End}
-use Rattle.flow_nodes.specs.Lanes.{limit_of}
+use Rattle.flow_nodes.specs.Vectors.{limit_of}
 use Rattle.flow_nodes.specs.Nodes.{IsJob, IsNode}
 use Rattle.flow_nodes.specs.Groups.{IsGroup, child_bound}
 use Rattle.flow_nodes.specs.Marks.{mark}
@@ -98,7 +98,7 @@ byte-at shop jobs group place lane none are below within =
     subst (λ i. HasLane 255 16 (slice_index_or group i none) lane (time shop (slice_index jobs lane) (place + 1))) same
     (are.times (place + 1) lane none (omega arith) (omega (arith, below)) within)
 
--- a place left is marked by the bits of its group, or its child is at or above the number
+-- a place left is marked by the bits of its group, or its child is at or above the threshold
 pub kept-or-high : (left words : List ℕ) (group bits word place : ℕ) → group < length words →
     word ≡ slice_index left group → place / 16 ≡ group → (shop : Shop) (number limit : ℕ) (end : End)
     (first last : List ℕ) (node : Node) (job : ℕ) → IsNode shop first last node → IsJob shop job →
@@ -125,3 +125,23 @@ pub kept-none : (words : List ℕ) (group value place : ℕ) → group < length 
     mark (set words group value) place ≡ 0
 kept-none words group value place few there none =
     mark-there words group value place few there ∙ ap (λ v. bit_at v (place % 16)) none ∙ bit_at-zero (place % 16)
+
+-- vectors are written from a place on, up to another one
+pub more-written : (P : ℕ → List ℕ → Type 0) (old new : List (List ℕ)) (at to : ℕ) (none : List ℕ) →
+    ((place : ℕ) → place < at → P place (slice_index_or old place none)) →
+    ((place : ℕ) → place < at → slice_index_or new place none ≡ slice_index_or old place none) →
+    ((place : ℕ) → at ≤ place → place < to → P place (slice_index_or new place none)) →
+    (place : ℕ) → place < to → P place (slice_index_or new place none)
+more-written P old new at to none done same more place low = elim (cases_lt place at) [
+  | inl before ↦ subst (P place) (sym (same place before)) (done place before)
+  | inr behind ↦ more place behind low
+]
+
+-- a lane that has the least of a number and 255 has the number
+pub byte-lane : (lanes : List ℕ) (lane number small : ℕ) → small ≡ 255 - (255 - number) → HasLane 255 16 lanes lane small →
+    HasLane 255 16 lanes lane number
+byte-lane lanes lane number small is has = record {
+  count = has.count;
+  within = has.within;
+  value = omega (arith, has.value, is);
+}

@@ -6,7 +6,7 @@ use Rattle.std.proofs.Math.Seq.{get_or-append_seam}
 use Rattle.std.proofs.lemmas.Bool.{cases_lt}
 use Rattle.std.proofs.lemmas.List.{get_or-set_same, get_or-set_other, get_or_append_left}
 use Rattle.flow_shop.specs.Shop.{Shop, time}
-use Rattle.flow_nodes.specs.Lanes.{HasLane}
+use Rattle.flow_nodes.specs.Vectors.{HasLane}
 use Rattle.flow_nodes.specs.Groups.{IsGroup}
 
 module _ {V : Type 0} where

@@ -1,4 +1,4 @@
--- The jobs at the marked places of a pack: those left, and those whose children are below a number.
+-- The jobs at the marked places of a pack: those left, and those whose children are below a threshold.
 use Rattle.std.proofs.Common.{◌≡◌, ℕ, zero, suc, ◌+◌, ◌*◌, ◌<◌, true, false, not}
 use Rattle.std.proofs.Common.{List, [], ◌∷◌, length, slice_index, take, drop, sym}
 use Rattle.std.proofs.Common.{◌∙◌, subst, inl, inr, arith}

@@ -11,7 +11,7 @@ use Rattle.std.proofs.lemmas.Simd.{bitmask_splat, bit_mask_l}
 use native.Mathlib.Nat.{mod-eq_of_lt}
 use mir.Syntax.{Width}
 use mir.Val.{bits, hbits}
-use Rattle.flow_nodes.specs.Lanes.{capped, HasLane}
+use Rattle.flow_nodes.specs.Vectors.{capped, HasLane}
 
 -- the first number where the test holds, and else the second
 abbrev chosen_lanes : Width → List ℕ → List ℕ → List ℕ → List ℕ → List ℕ

@@ -11,7 +11,7 @@ use Rattle.std.proofs.lemmas.Simd.{tops_compared, length-sel_l, get_or-sel_l, le
 use Rattle.std.proofs.lemmas.Simd.{length-replicate, get_or-replicate}
 use mir.Syntax.{Width}
 use mir.Val.{bits, hbits}
-use Rattle.flow_nodes.specs.Lanes.{HasLane}
+use Rattle.flow_nodes.specs.Vectors.{HasLane}
 use Rattle.flow_nodes.specs.Marks.{picked}
 use Rattle.flow_nodes.proofs.MarkedNames.{kept, kept-yes, kept-no}
 use Rattle.flow_nodes.proofs.ChosenNames.{picked-bits}

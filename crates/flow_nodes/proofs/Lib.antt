@@ -23,3 +23,4 @@ pub mod PairSteps
 pub mod PairLanes
 pub mod PassSteps
 pub mod ScanSteps
+pub mod OverSteps

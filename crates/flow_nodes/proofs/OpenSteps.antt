@@ -2,7 +2,7 @@
 use Rattle.std.proofs.Common.{◌≡◌, ◌≢◌, ◌↔◌, ℕ, zero, suc, ◌+◌, ◌-◌, ◌/◌, ◌%◌, ◌<◌, ◌≤◌, min, Bool, true, false}
 use Rattle.std.proofs.Common.{cond, ◌||◌, nat_eq, nat_lt, filter, List, [], ◌∷◌, ◌++◌, length, slice_index}
 use Rattle.std.proofs.Common.{slice_index_or, set, refl, ap, sym, ◌∙◌, subst, inl, inr, arith, All}
-use Rattle.std.specs.Prelude.{IsBitSet, bit_and}
+use Rattle.std.specs.Prelude.{IsBitSet, bit_and, Some, None}
 use Rattle.std.specs.Int.{bit_at}
 use Rattle.std.specs.Global.{Vec}
 use Rattle.std.specs.List.{AllByRecursion}
@@ -20,12 +20,12 @@ use Rattle.flow_shop.specs.declared.end.End.TheVariants.{Front, Back}
 use Rattle.flow_shop.proofs.Extremes.{range-le-greatest, greatest-range-le}
 use Rattle.flow_shop.proofs.EndSteps.{front_by_recurrence, back-is, sum-child, has-child}
 use Rattle.flow_shop.proofs.Taken.{has-push}
-use Rattle.flow_nodes.specs.Lanes.{HasLane, limit_of}
+use Rattle.flow_nodes.specs.Vectors.{HasLane, limit_of}
 use Rattle.flow_nodes.specs.Nodes.{IsJob, IsNode}
 use Rattle.flow_nodes.specs.Groups.{child_bound}
 use Rattle.flow_nodes.specs.Marks.{mark, chosen}
 use Rattle.flow_nodes.specs.Packs.{HasLeft, left_below}
-use Rattle.flow_nodes.specs.Open.{start_at, AreChildren, HasStartRoom}
+use Rattle.flow_nodes.specs.Open.{start_at, AreChildren, HasStartRoom, HasStarts, HasStartsAndBound}
 use Rattle.flow_nodes.specs.declared.node.Node.{Node}
 use Rattle.flow_nodes.specs.declared.marks.Marks.{Marks}
 use Rattle.flow_nodes.specs.declared.open.Children.{Children}
@@ -150,21 +150,21 @@ marked-passes p words names list is place within marked =
     (subst (AllByRecursion (λ job. p job ≡ true)) (sym is ∙ chosen-kept words names) all) place within marked
 
 -- what the marks of the children of a node at an end say of one place
-module _ {V : Type 0} (list : V → List ℕ) (cap width : ℕ) (shop : Shop) (number : ℕ) (end : End)
+module _ {V : Type 0} (list : V → List ℕ) (cap width : ℕ) (shop : Shop) (threshold : ℕ) (end : End)
     (first last names : List ℕ) (left : Marks) (children : Children V)
-    (are : AreChildren list cap width shop number end first last names left children) (place : ℕ)
+    (are : AreChildren list cap width shop threshold end first last names left children) (place : ℕ)
     (inside : place < length names) where
   abbrev bound : ℕ → ℕ
   bound job = child_bound shop end first last job
 
   abbrev passes : ℕ → Bool
-  passes job = nat_lt (bound job) number
+  passes job = nat_lt (bound job) threshold
 
-  -- the child of a marked place is below the number
-  pub below-number : mark children.below.words place ≡ 1 →
-      child_bound shop end first last (slice_index names place) < number
-  below-number marked =
-      (Decides-ltb (bound (slice_index names place)) number).0
+  -- the child of a marked place is below the threshold
+  pub below-threshold : mark children.below.words place ≡ 1 →
+      child_bound shop end first last (slice_index names place) < threshold
+  below-threshold marked =
+      (Decides-ltb (bound (slice_index names place)) threshold).0
       (marked-passes passes children.below.words names (jobs_left shop.jobs (first ++ last)) are.below place inside
       marked)
 
@@ -181,9 +181,9 @@ module _ {V : Type 0} (list : V → List ℕ) (cap width : ℕ) (shop : Shop) (n
         (λ one. absurd (omega (arith, is, one)), λ pair. absurd (false≢true (sym bad ∙ pair.1)))
   ]
 
-  -- and each place left whose child is below the number is marked
+  -- and each place left whose child is below the threshold is marked
   pub below-marked : HasLeft shop first last names left → mark left.words place ≡ 1 →
-      child_bound shop end first last (slice_index names place) < number → mark children.below.words place ≡ 1
+      child_bound shop end first last (slice_index names place) < threshold → mark children.below.words place ≡ 1
   below-marked has_left was under =
       let few : ℕ → ℕ = mark children.below.words in
       let same : kept many names ≡ kept few names =
@@ -196,7 +196,7 @@ module _ {V : Type 0} (list : V → List ℕ) (cap width : ℕ) (shop : Shop) (n
         marked-passes passes children.below.words names (jobs_left shop.jobs (first ++ last)) are.below i low one,
       ))
       (omega (arith, ap length same)) place inside
-      ((both place).1 (was, (Decides-ltb (bound (slice_index names place)) number).1 under))
+      ((both place).1 (was, (Decides-ltb (bound (slice_index names place)) threshold).1 under))
 
 -- a word of the places that are marked twice is met with bits, and written
 module _ (one two words : List ℕ) (group bits word place : ℕ) (within : group < length words)
@@ -225,10 +225,10 @@ module _ (one two words : List ℕ) (group bits word place : ℕ) (within : grou
   met-within marked = (omega (arith, marked, met, small-one), omega (arith, marked, met, small-two))
 
   -- a place that was marked twice is marked then just where its bit is 1
-  pub met-exact : (bound number : ℕ) → mark one place ≡ 1 → mark two place ≡ 1 →
-      bit_at bits (place % 16) ≡ 1 ↔ (bound < number) →
-      mark (set words group (bit_and bits word)) place ≡ 1 ↔ (bound < number)
-  met-exact bound number is also tells =
+  pub met-exact : (bound threshold : ℕ) → mark one place ≡ 1 → mark two place ≡ 1 →
+      bit_at bits (place % 16) ≡ 1 ↔ (bound < threshold) →
+      mark (set words group (bit_and bits word)) place ≡ 1 ↔ (bound < threshold)
+  met-exact bound threshold is also tells =
       let few : bit_at bits (place % 16) < 2 = bit_at-lt bits (place % 16) in (
         λ marked. tells.0 (omega (arith, marked, met, is, also, few)),
         λ under. omega (arith, met, is, also, tells.1 under),
@@ -240,11 +240,11 @@ module _ (one two words : List ℕ) (group bits word place : ℕ) (within : grou
       omega (arith, is, also, meets, ap (λ w. bit_at w (place % 16)) none, bit_at-zero (place % 16))
 
 -- what a bit says of the child that puts a job
-pub job-tells : (shop : Shop) (number limit : ℕ) (end : End) (first last : List ℕ) (node : Node) (job bits lane : ℕ) →
-    IsNode shop first last node → IsJob shop job → limit ≡ limit_of number → has (first ++ last) job ≡ false →
+pub job-tells : (shop : Shop) (threshold limit : ℕ) (end : End) (first last : List ℕ) (node : Node) (job bits lane : ℕ) →
+    IsNode shop first last node → IsJob shop job → limit ≡ limit_of threshold → has (first ++ last) job ≡ false →
     IsBitSet bits lane ↔ (child_bound shop end first last job < limit) →
-    bit_at bits lane ≡ 1 ↔ (child_bound shop end first last job < number)
-job-tells shop number limit end first last node job bits lane is range limit_is fresh says =
+    bit_at bits lane ≡ 1 ↔ (child_bound shop end first last job < threshold)
+job-tells shop threshold limit end first last node job bits lane is range limit_is fresh says =
     let small : child_bound shop end first last job < 4294967295 =
     child-bound-small shop end first last job node is range fresh in (
       λ one. omega (arith, limit_is, says.0 (set-bit bits lane one)),
@@ -330,62 +330,82 @@ pub same-start : (shop : Shop) (end : End) (first last : List ℕ) (put job mach
 same-start shop Front first last put job machine = refl
 same-start shop Back first last put job machine = refl
 
+-- so a job left has them at the child, where the bounds of its group are known at the parent
+pub kept-starts : {V : Type 0} (list : V → List ℕ) (cap width : ℕ) (shop : Shop) {threshold : ℕ} (end : End)
+    (first last names : List ℕ) (put : ℕ) (old : Marks) (parent : Children V) →
+    AreChildren list cap width shop threshold (opposite end) first last names old parent →
+    (place : ℕ) (none : Vec V) (bounds : V) → place < length names → mark old.words place ≡ 1 →
+    slice_index_or parent.bounds.items (place / 16) None ≡ Some bounds →
+    HasStarts list cap width shop (opposite end) (first_with end first put) (last_with end last put)
+    (slice_index names place) (place % 16) (slice_index_or parent.starts.items (place / 16) none).items
+kept-starts list cap width shop end first last names put old parent are place none bounds inside was same machine
+    vector on =
+    subst (HasLane cap width (list (slice_index_or (slice_index_or parent.starts.items (place / 16) none).items
+    (machine - 1) vector)) (place % 16))
+    (sym (same-start shop end first last put (slice_index names place) machine))
+    ((are.whole place none bounds inside was same).start machine vector on)
+
 -- what is kept of the children at the other end
-pub kept-children : {V : Type 0} (list : V → List ℕ) (cap width : ℕ) (shop : Shop) (number : ℕ) (end : End)
+pub kept-children : {V : Type 0} (list : V → List ℕ) (cap width : ℕ) (shop : Shop) (threshold : ℕ) (end : End)
     (first last names : List ℕ) (put : ℕ) (node : Node) (old left : Marks) (parent children : Children V) →
     IsNode shop first last node → IsJob shop put → has (first ++ last) put ≡ false →
     HasLeft shop first last names old → HasLeft shop (first_with end first put) (last_with end last put) names left →
     ((place : ℕ) → mark left.words place ≡ 1 → mark old.words place ≡ 1) →
     ((place : ℕ) → place < length names → IsJob shop (slice_index names place)) →
-    AreChildren list cap width shop number (opposite end) first last names old parent →
+    AreChildren list cap width shop threshold (opposite end) first last names old parent →
     ((place : ℕ) → place < length names → mark children.below.words place ≡ 1 →
     (mark left.words place ≡ 1) × (mark parent.below.words place ≡ 1)) →
     ((place : ℕ) → place < length names → mark left.words place ≡ 1 → mark parent.below.words place ≡ 1 →
     mark children.below.words place ≡ 1
     ↔ (child_bound shop (opposite end) (first_with end first put) (last_with end last put) (slice_index names place)
-    < number)) →
-    ((place : ℕ) (none : Vec V) → place < length names → mark children.below.words place ≡ 1 →
-    (slice_index_or children.starts.items (place / 16) none).items
-    ≡ (slice_index_or parent.starts.items (place / 16) none).items) →
+    < threshold)) →
+    ((place : ℕ) (before : V) → place < length names → mark children.below.words place ≡ 1 →
+    slice_index_or parent.bounds.items (place / 16) None ≡ Some before →
+    (bounds : V) × (slice_index_or children.bounds.items (place / 16) None ≡ Some bounds)) →
+    ((place : ℕ) (none : Vec V) (bounds : V) → place < length names → mark left.words place ≡ 1 →
+    slice_index_or children.bounds.items (place / 16) None ≡ Some bounds →
+    ((before : V) → slice_index_or parent.bounds.items (place / 16) None ≡ Some before →
+    HasStarts list cap width shop (opposite end) (first_with end first put) (last_with end last put)
+    (slice_index names place) (place % 16) (slice_index_or parent.starts.items (place / 16) none).items) →
+    HasStartsAndBound list cap width shop (opposite end) (first_with end first put) (last_with end last put)
+    (slice_index names place) (place % 16) (slice_index_or children.starts.items (place / 16) none).items bounds) →
     children.count ≡ length (chosen children.below.words names) →
-    AreChildren list cap width shop number (opposite end) (first_with end first put) (last_with end last put) names
+    AreChildren list cap width shop threshold (opposite end) (first_with end first put) (last_with end last put) names
     left children
-kept-children list cap width shop number end first last names put node old left parent children is range fresh old_left
-    has_left fewer jobs are within exact copied count =
+kept-children list cap width shop threshold end first last names put node old left parent children is range fresh old_left
+    has_left fewer jobs are within exact known whole count =
     let bound : ℕ → ℕ =
     child_bound shop (opposite end) (first_with end first put) (last_with end last put) in
     let below : chosen children.below.words names
-    ≡ left_below shop number (opposite end) (first_with end first put) (last_with end last put) =
-    chosen-filter (λ job. nat_lt (bound job) number) left.words children.below.words names
+    ≡ left_below shop threshold (opposite end) (first_with end first put) (last_with end last put) =
+    chosen-filter (λ job. nat_lt (bound job) threshold) left.words children.below.words names
     (λ place inside. (
       λ marked.
           let were = within place inside marked in (
             were.0,
-            (Decides-ltb (bound (slice_index names place)) number).1 ((exact place inside were.0 were.1).0 marked),
+            (Decides-ltb (bound (slice_index names place)) threshold).1 ((exact place inside were.0 were.1).0 marked),
           ),
       λ pair.
-          let under : bound (slice_index names place) < number =
-          (Decides-ltb (bound (slice_index names place)) number).0 pair.1 in
+          let under : bound (slice_index names place) < threshold =
+          (Decides-ltb (bound (slice_index names place)) threshold).0 pair.1 in
           let new : has (first_with end first put ++ last_with end last put) (slice_index names place) ≡ false =
           marked-left shop.jobs (first_with end first put ++ last_with end last put) left.words names has_left place
           inside pair.0 in
           let grows = other-grows shop first last put (slice_index names place) fresh end is.first_jobs range
           (jobs place inside) new in
-          let was = below-marked list cap width shop number (opposite end) first last names old parent are place inside
+          let was = below-marked list cap width shop threshold (opposite end) first last names old parent are place inside
           old_left (fewer place pair.0) (omega (arith, grows, under)) in
           (exact place inside pair.0 was).1 under,
     ))
-    ∙ ap (filter (λ job. nat_lt (bound job) number)) has_left in
+    ∙ ap (filter (λ job. nat_lt (bound job) threshold)) has_left in
     record {
       below = below;
       within = λ place inside marked. (within place inside marked).0;
       count = count ∙ ap length below;
-      starts = λ place machine none zero inside marked on.
-          subst (λ items. HasLane cap width (list (slice_index_or items (machine - 1) zero)) (place % 16)
-          (start_at shop (opposite end) (first_with end first put) (last_with end last put) (slice_index names place)
-          machine)) (sym (copied place none inside marked))
-          (subst (HasLane cap width (list (slice_index_or (slice_index_or parent.starts.items (place / 16) none).items
-          (machine - 1) zero)) (place % 16))
-          (sym (same-start shop end first last put (slice_index names place) machine))
-          (are.starts place machine none zero inside ((within place inside marked).1) on));
+      known = λ place inside marked.
+          let was = are.known place inside (within place inside marked).1 in known place was.0 inside marked was.1;
+      whole = λ place none bounds inside marked same. whole place none bounds inside marked same
+          (λ before was.
+          kept-starts list cap width shop end first last names put old parent are place none before inside
+          (fewer place marked) was);
     }

@@ -7,7 +7,7 @@ use Rattle.std.proofs.lemmas.Bool.{cases_eq}
 use Rattle.std.proofs.lemmas.List.{get_or-drop}
 use Rattle.std.proofs.lemmas.Simd.{Each1-replicate, get_or-replicate, get_or_narrower, get_or_wider}
 use Rattle.std.proofs.lemmas.Simd.{length-zip2, get_or-zip2}
-use Rattle.flow_nodes.specs.Lanes.{HasLane}
+use Rattle.flow_nodes.specs.Vectors.{HasLane}
 
 -- digits are below their base, and as many as were asked for
 digits-below : (n x : ℕ) → Each1 (λ d. d < 256) (digits_l 256 n x)

@@ -3,7 +3,7 @@ use Rattle.std.proofs.Common.{◌≡◌, ℕ, ◌<◌, ◌≤◌, List, sym, sub
 use Rattle.std.specs.Prelude.{◌⊎◌}
 use Rattle.flow_shop.specs.Shop.{Shop}
 use Rattle.flow_shop.specs.Ends.{end_bound}
-use Rattle.flow_nodes.specs.Lanes.{limit_of}
+use Rattle.flow_nodes.specs.Vectors.{limit_of}
 use Rattle.flow_nodes.specs.Nodes.{IsNode}
 use Rattle.flow_nodes.specs.internal.Pairs.{fits_at}
 use Rattle.flow_nodes.specs.declared.node.Node.{Node}
@@ -13,7 +13,7 @@ use Rattle.flow_nodes.proofs.SpreadSteps.{node-within, node-small-bound}
 pub constant-is : {given is was : ℕ} → is ≡ was → (given ≡ 0) ⊎ (given ≡ was) → (given ≡ 0) ⊎ (given ≡ is)
 constant-is {given} e known = subst (λ n. (given ≡ 0) ⊎ (given ≡ n)) (sym e) known
 
--- what a node below its number has on each machine fits below the cap
+-- what a node below its threshold has on each machine fits below the cap
 pub node-fits : (shop : Shop) (first last : List ℕ) (node : Node) (cap number limit : ℕ) →
     IsNode shop first last node → end_bound shop first last < number → limit ≡ limit_of number → limit ≤ cap →
     (place : ℕ) → place < shop.machines → fits_at cap node place

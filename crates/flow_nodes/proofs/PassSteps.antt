@@ -9,7 +9,7 @@ use Rattle.flow_shop.specs.Sequences.{has}
 use Rattle.flow_shop.specs.declared.end.End.{End}
 use Rattle.flow_shop.specs.declared.end.End.TheVariants.{Front, Back}
 use Rattle.flow_shop.proofs.Extremes.{range-le-greatest, greatest-range-le}
-use Rattle.flow_nodes.specs.Lanes.{HasLane, limit_of}
+use Rattle.flow_nodes.specs.Vectors.{HasLane, limit_of}
 use Rattle.flow_nodes.specs.Nodes.{IsJob, IsNode}
 use Rattle.flow_nodes.specs.Groups.{child_bound}
 use Rattle.flow_nodes.specs.internal.Children.{front_child_at, back_child_at}
@@ -52,13 +52,13 @@ up-to-all shop Front first last job place node is range fresh all =
 up-to-all shop Back first last job place node is range fresh all =
     ap (greatest_up_to shop Back first last job) all ∙ greatest-is-bound shop first last job node is range Back fresh
 
--- a lane whose greatest so far is not below the limit makes no child below the number
-pub none-so-far : (shop : Shop) (number limit : ℕ) (end : End) (first last : List ℕ) (job place lane bits : ℕ)
-    (node : Node) → limit ≡ limit_of number → IsNode shop first last node → IsJob shop job →
+-- a lane whose greatest so far is not below the limit makes no child below the threshold
+pub none-so-far : (shop : Shop) (threshold limit : ℕ) (end : End) (first last : List ℕ) (job place lane bits : ℕ)
+    (node : Node) → limit ≡ limit_of threshold → IsNode shop first last node → IsJob shop job →
     has (first ++ last) job ≡ false → place ≤ shop.machines → bits ≡ 0 →
     (bit_at bits lane ≡ 1 ↔ (greatest_up_to shop end first last job place < limit)) →
-    bit_at zero lane ≡ 1 ↔ (child_bound shop end first last job < number)
-none-so-far shop number limit end first last job place lane bits node limit_is is range fresh high none tells =
+    bit_at zero lane ≡ 1 ↔ (child_bound shop end first last job < threshold)
+none-so-far shop threshold limit end first last job place lane bits node limit_is is range fresh high none tells =
     let least = so-far-least shop end first last job place node is range fresh high in
     let small = child-bound-small shop end first last job node is range fresh in
     let off : bit_at bits lane ≡ 0 = ap (λ b. bit_at b lane) none ∙ bit_at-zero lane in (
@@ -67,12 +67,12 @@ none-so-far shop number limit end first last job place lane bits node limit_is i
     )
 
 -- a lane whose bits tell of the whole
-pub whole-tells : (shop : Shop) (number limit : ℕ) (end : End) (first last : List ℕ) (job lane bits : ℕ)
-    (node : Node) → limit ≡ limit_of number → IsNode shop first last node → IsJob shop job →
+pub whole-tells : (shop : Shop) (threshold limit : ℕ) (end : End) (first last : List ℕ) (job lane bits : ℕ)
+    (node : Node) → limit ≡ limit_of threshold → IsNode shop first last node → IsJob shop job →
     has (first ++ last) job ≡ false →
     (bit_at bits lane ≡ 1 ↔ (child_bound shop end first last job < limit)) →
-    bit_at bits lane ≡ 1 ↔ (child_bound shop end first last job < number)
-whole-tells shop number limit end first last job lane bits node limit_is is range fresh tells =
+    bit_at bits lane ≡ 1 ↔ (child_bound shop end first last job < threshold)
+whole-tells shop threshold limit end first last job lane bits node limit_is is range fresh tells =
     let small = child-bound-small shop end first last job node is range fresh in (
       λ one. omega (arith, limit_is, tells.0 one),
       λ under. tells.1 (omega (arith, limit_is, small, under)),

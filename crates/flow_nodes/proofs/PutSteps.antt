@@ -1,4 +1,4 @@
--- A job that is put at an end of a node: one of its children there that are below the number.
+-- A job that is put at an end of a node: one of its children there that are below the threshold.
 use Rattle.std.proofs.Common.{◌≡◌, ◌≢◌, ℕ, ◌-◌, ◌<◌, false, List, ◌∷◌, ◌++◌, length, get_or, slice_index}
 use Rattle.std.proofs.Common.{slice_index_or, ap, sym, ◌∙◌, subst, arith}
 use Rattle.std.proofs.lemmas.List.{get_or_read}
@@ -19,7 +19,7 @@ use Rattle.flow_nodes.specs.declared.pack.Pack.{Pack}
 use Rattle.flow_nodes.specs.declared.open.OpenNode.{OpenNode}
 use Rattle.flow_nodes.proofs.JobsMarked.{marked-left}
 use Rattle.flow_nodes.proofs.LeftSteps.{left-parted}
-use Rattle.flow_nodes.proofs.OpenSteps.{below-number}
+use Rattle.flow_nodes.proofs.OpenSteps.{below-threshold}
 
 -- of marks that of a place is taken away
 module _ (old new : List ℕ) (place : ℕ) (is : mark new place ≡ 0)
@@ -30,11 +30,11 @@ module _ (old new : List ℕ) (place : ℕ) (is : mark new place ≡ 0)
   pub cleared-was : (at : ℕ) → mark new at ≡ 1 → mark old at ≡ 1
   cleared-was at one = sym (others at (cleared-apart at one)) ∙ one
 
-module _ {V : Type 0} {list : V → List ℕ} {cap width : ℕ} {shop : Shop} {number : ℕ} {first last : List ℕ}
-    {pack : Pack V} {parent : OpenNode V} (is : IsOpenNode list cap width shop number first last pack parent) where
+module _ {V : Type 0} {list : V → List ℕ} {cap width : ℕ} {shop : Shop} {threshold : ℕ} {first last : List ℕ}
+    {pack : Pack V} {parent : OpenNode V} (is : IsOpenNode list cap width shop threshold first last pack parent) where
   -- its children at an end
   children-are : (end : End) →
-      AreChildren list cap width shop number end first last pack.names.items parent.left (children_at end parent)
+      AreChildren list cap width shop threshold end first last pack.names.items parent.left (children_at end parent)
   children-are Front = is.at_front
   children-are Back = is.at_back
 
@@ -54,10 +54,10 @@ module _ {V : Type 0} {list : V → List ℕ} {cap width : ℕ} {shop : Shop} {n
     put-fresh =
         marked-left shop.jobs (first ++ last) parent.left.words pack.names.items is.has_left place inside put-was
 
-    -- the child is below the number
-    pub put-below : child_bound shop end first last job < number
+    -- the child is below the threshold
+    pub put-below : child_bound shop end first last job < threshold
     put-below =
-        below-number list cap width shop number end first last pack.names.items parent.left (children_at end parent)
+        below-threshold list cap width shop threshold end first last pack.names.items parent.left (children_at end parent)
         (children-are end) place inside marked
 
     -- the row that is read is that of the job

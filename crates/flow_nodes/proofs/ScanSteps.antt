@@ -12,7 +12,7 @@ use Rattle.flow_shop.specs.Ends.{front, back}
 use Rattle.flow_shop.proofs.EndSteps.{front_by_recurrence, back-is, back-past}
 use Rattle.flow_shop.proofs.Fronts.{tail-small}
 use Rattle.flow_shop.proofs.Recurrence.{time_between-first}
-use Rattle.flow_nodes.specs.Lanes.{HasLane}
+use Rattle.flow_nodes.specs.Vectors.{HasLane}
 use Rattle.flow_nodes.specs.Nodes.{IsJob}
 use Rattle.flow_nodes.specs.internal.Scan.{greatest_to, greatest_from, done_at, begun_at}
 use Rattle.flow_nodes.proofs.ChildSteps.{are-at}

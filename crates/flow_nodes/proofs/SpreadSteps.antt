@@ -1,5 +1,5 @@
--- What is read of the vectors that the groups of a node share, and what they are written from.
-use Rattle.std.proofs.Common.{◌≡◌, ◌≢◌, ℕ, ◌+◌, ◌-◌, ◌<◌, ◌≤◌, List, length, get_or, set, slice_index, slice_index_or}
+-- What is written place by place, and what a node has on each machine.
+use Rattle.std.proofs.Common.{◌≡◌, ◌≢◌, ℕ, ◌+◌, ◌-◌, ◌<◌, ◌≤◌, List, length, set, slice_index, slice_index_or}
 use Rattle.std.proofs.Common.{ap, sym, ◌∙◌, subst, inl, inr, arith}
 use Rattle.std.proofs.lemmas.Bool.{cases_lt}
 use Rattle.std.proofs.lemmas.List.{get_or-set_same, get_or-set_other}
@@ -8,27 +8,10 @@ use Rattle.flow_nodes.proofs.ChildBounds.{end-bound-small}
 use Rattle.flow_shop.specs.Shop.{Shop}
 use Rattle.flow_shop.specs.Ends.{end_bound, end_bound_at}
 use Rattle.flow_shop.proofs.Extremes.{range-le-greatest}
-use Rattle.flow_shop.specs.declared.end.End.{End}
-use Rattle.flow_nodes.specs.Lanes.{HasLane}
+use Rattle.flow_nodes.specs.Vectors.{limit_of}
 use Rattle.flow_nodes.specs.Nodes.{IsNode}
-use Rattle.flow_nodes.specs.internal.Spread.{at_end, at_other_end, IsSpread}
+use Rattle.flow_nodes.specs.internal.Small.{IsSmall}
 use Rattle.flow_nodes.specs.declared.node.Node.{Node}
-
-module _ {V : Type 0} {list : V → List ℕ} {cap width : ℕ} {end : End} {node : Node} {near rest : List V}
-    (spread : IsSpread list cap width end node near rest) (place lane : ℕ) {value : V} where
-  pub near-at : place < length near → lane < width → value ≡ get_or near place value →
-      HasLane cap width (list value) lane (slice_index (at_end end node) place)
-  near-at low within read =
-      subst (λ v. HasLane cap width (list v) lane (slice_index (at_end end node) place)) (sym read)
-      (spread.at_end_in place lane value low within)
-
-  pub rest-at : place < length rest → lane < width → value ≡ get_or rest place value →
-      HasLane cap width (list value) lane
-      (slice_index node.work place + slice_index (at_other_end end node) place)
-  rest-at low within read =
-      subst (λ v. HasLane cap width (list v) lane
-      (slice_index node.work place + slice_index (at_other_end end node) place)) (sym read)
-      (spread.others_in place lane value low within)
 
 -- one more place is written
 pub spread-more : {V : Type 0} (P : ℕ → V → Type 0) (lanes : List V) (at : ℕ) (value : V) → at < length lanes →
@@ -70,3 +53,14 @@ pub node-small-bound : (shop : Shop) (first last : List ℕ) (node : Node) → I
 node-small-bound shop first last node is =
     end-bound-small shop first last is.limits (omega (arith, is.count)) (omega (arith, is.count))
     (recursion_from_All (λ job. (1 ≤ job) × (job ≤ shop.jobs)) last is.last_jobs)
+
+-- so what a node below its threshold has fits below the cap
+pub few-small : (shop : Shop) (threshold : ℕ) (first last : List ℕ) (cap limit : ℕ) (node : Node) →
+    IsNode shop first last node → end_bound shop first last < threshold → limit ≡ limit_of threshold → limit ≤ cap →
+    (machines : ℕ) → machines ≡ shop.machines → IsSmall cap machines node
+few-small shop threshold first last cap limit node is under limit_is capped machines few place low =
+    let sum = node-within shop first last node place is (omega (arith, low, few)) in
+    let bound = node-small-bound shop first last node is in (
+      omega (arith, sum, limit_is, under, capped, bound),
+      omega (arith, sum, bound),
+    )

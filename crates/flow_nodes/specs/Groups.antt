@@ -8,7 +8,7 @@ use Rattle.flow_shop.specs.Ends.{end_bound}
 use Rattle.flow_shop.specs.Directions.{first_with, last_with}
 use Rattle.flow_shop.specs.declared.end.End.{End}
 use Rattle.flow_shop.specs.Sequences.{has}
-use Rattle.flow_nodes.specs.Lanes.{HasLane, capped}
+use Rattle.flow_nodes.specs.Vectors.{HasLane, capped}
 use Rattle.flow_nodes.specs.Nodes.{IsJob, IsNode}
 use Rattle.flow_nodes.specs.declared.node.Node.{Node}
 
@@ -51,6 +51,6 @@ child_bound shop end first last job = end_bound shop (first_with end first job) 
 -- a number is the bound of the child of a node that puts a job that is left at an end, or the cap where that is less;
 -- of another job nothing is said
 abbrev pub IsCappedBound : Shop → Node → End → ℕ → ℕ → ℕ → Type 0
-IsCappedBound shop node end job cap number =
+IsCappedBound shop node end job cap threshold =
     (first last : List ℕ) → IsNode shop first last node → has (first ++ last) job ≡ false →
-    number ≡ capped cap (child_bound shop end first last job)
+    threshold ≡ capped cap (child_bound shop end first last job)

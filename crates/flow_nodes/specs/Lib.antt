@@ -1,4 +1,4 @@
-pub mod Lanes
+pub mod Vectors
 pub mod Nodes
 pub mod Groups
 pub mod Marks

@@ -49,14 +49,12 @@ jobs_at pack marks = chosen marks.words pack.names.items
 abbrev pub HasLeft : Shop → List ℕ → List ℕ → List ℕ → Marks → Type 0
 HasLeft shop first last names marks = chosen marks.words names ≡ jobs_left shop.jobs (first ++ last)
 
--- the jobs left whose children at an end are below a number, in increasing order
+-- the jobs left whose children at an end are below a threshold, in increasing order; the other children are pruned
 abbrev pub left_below : Shop → ℕ → End → List ℕ → List ℕ → List ℕ
-left_below shop number end first last =
-    filter (λ job. nat_lt (child_bound shop end first last job) number) (jobs_left shop.jobs (first ++ last))
+left_below shop threshold end first last =
+    filter (λ job. nat_lt (child_bound shop end first last job) threshold) (jobs_left shop.jobs (first ++ last))
 
--- an opener knows how many machines there are, and has a vector for each, and the rows of the jobs
+-- an opener knows how many machines there are, and has the rows of the jobs
 pub record HasRoomFor {V : Type 0} (shop : Shop) (opener : Opener V) : Type 0 where
   pub machines : opener.machines ≡ shop.machines
-  pub near_count : length opener.near.items ≡ shop.machines
-  pub rest_count : length opener.rest.items ≡ shop.machines
   pub rows : AreRows shop opener.rows.items

@@ -1,6 +1,6 @@
 //! The bounds of the children that put the jobs of a group at an end, side by side.
 
-ghost use Rattle.std.specs.Prelude.{◌≡◌, ◌⊎◌, ℕ, ◌/◌, ◌%◌, ◌<◌, ◌≤◌, ◌↔◌, true, false, List, ◌++◌, length};
+ghost use Rattle.std.specs.Prelude.{◌≡◌, ◌⊎◌, ℕ, ◌/◌, ◌%◌, ◌<◌, ◌≤◌, ◌↔◌, false, List, ◌++◌, length};
 ghost use Rattle.std.specs.Prelude.{slice_index, slice_index_or, IsBitSet};
 ghost use Rattle.std.specs.Global.{Vec};
 ghost use Rattle.flow_limits.specs.Limits.{most_machines};
@@ -8,73 +8,53 @@ ghost use Rattle.flow_shop.specs.Shop.{Shop};
 ghost use Rattle.flow_shop.specs.Ends.{end_bound};
 ghost use Rattle.flow_shop.specs.Sequences.{has};
 ghost use Rattle.flow_shop.specs.declared.end.End.TheVariants.{Front, Back};
-ghost use Rattle.flow_nodes.specs.Lanes.{HasLane, limit_of};
+ghost use Rattle.flow_nodes.specs.Vectors.{HasLane, limit_of};
 ghost use Rattle.flow_nodes.specs.Nodes.{IsNode};
 ghost use Rattle.flow_nodes.specs.Groups.{IsGroup, child_bound, most_groups};
 ghost use Rattle.flow_nodes.specs.Marks.{mark};
 ghost use Rattle.flow_nodes.specs.internal.Children.{greatest_at};
-ghost use Rattle.flow_nodes.specs.internal.Small.{IsSmall};
 
-use crate::few_groups::known_or;
-use crate::lanes::Lanes;
+use crate::few_groups::{small_back_bounds, small_front_bounds};
 use crate::marks::Marks;
 use crate::node::Node;
+use crate::vector::Vector;
 use flow_shop::End;
 
-/// The same number in all lanes. The constant says that it is known to be no greater than the cap.
+/// The bounds of the children that put the jobs of a group at the front.
 #[inline(always)]
-fn in_lanes<V: Lanes, const SMALL: bool>(number: u64) -> V
-    requires { SMALL ≡ true → (number ≤ V.CAP) × (number < 4294967295) }
-    ensures { (lane : ℕ) → lane < V.WIDTH → HasLane V.CAP V.WIDTH (V.list result) lane number }
-{
-    if SMALL {
-        V::each(number as u32)
-    } else {
-        V::all(number)
-    }
-}
-
-/// The bounds of the children that put the jobs of a group at the front. The constants are the number of machines, or
-/// 0, and whether the numbers of the node are known to be small.
-#[inline(always)]
-fn front_bounds<V: Lanes, const M: usize, const SMALL: bool>(node: &Node, group: &[V]) -> V
-    requires constant { (M ≡ 0) ⊎ (M ≡ length group.now) }
+fn front_bounds<V: Vector>(node: &Node, group: &[V]) -> V
     requires machines { length group.now ≤ most_machines }
-    requires small { SMALL ≡ true → IsSmall V.CAP (length group.now) node.now }
     ensures { (shop : Shop) (first last jobs : List ℕ) (lane : ℕ) → IsNode shop first last node.now →
         IsGroup V.list V.CAP V.WIDTH shop jobs group.now → lane < V.WIDTH →
         HasLane V.CAP V.WIDTH (V.list result) lane (greatest_at shop Front first last (slice_index jobs lane)) }
 {
     let mut free = V::each(0);
     let mut bounds = free;
-    let machines = known_or::<M>(group.len());
-    for place in 0..machines {
-        let start = free.at_least(in_lanes::<V, SMALL>(u64::from(node.front[place])));
+    for place in 0..group.len() {
+        let start = free.at_least(V::all(u64::from(node.front[place])));
         let rest = u64::from(node.work[place]) + u64::from(node.back[place]);
-        bounds = bounds.at_least(start.plus(in_lanes::<V, SMALL>(rest)));
+        bounds = bounds.at_least(start.plus(V::all(rest)));
         free = start.plus(group[place]);
     }
     bounds
 }
 
-/// The bounds of the children that put the jobs of a group at the back, likewise.
+/// The bounds of the children that put the jobs of a group at the back.
 #[inline(always)]
-fn back_bounds<V: Lanes, const M: usize, const SMALL: bool>(node: &Node, group: &[V]) -> V
-    requires constant { (M ≡ 0) ⊎ (M ≡ length group.now) }
+fn back_bounds<V: Vector>(node: &Node, group: &[V]) -> V
     requires machines { length group.now ≤ most_machines }
-    requires small { SMALL ≡ true → IsSmall V.CAP (length group.now) node.now }
     ensures { (shop : Shop) (first last jobs : List ℕ) (lane : ℕ) → IsNode shop first last node.now →
         IsGroup V.list V.CAP V.WIDTH shop jobs group.now → lane < V.WIDTH →
         HasLane V.CAP V.WIDTH (V.list result) lane (greatest_at shop Back first last (slice_index jobs lane)) }
 {
     let mut free = V::each(0);
     let mut bounds = free;
-    let mut machine = known_or::<M>(group.len());
+    let mut machine = group.len();
     while machine > 0 {
         let place = machine - 1;
-        let start = free.at_least(in_lanes::<V, SMALL>(u64::from(node.back[place])));
+        let start = free.at_least(V::all(u64::from(node.back[place])));
         let rest = u64::from(node.work[place]) + u64::from(node.front[place]);
-        bounds = bounds.at_least(start.plus(in_lanes::<V, SMALL>(rest)));
+        bounds = bounds.at_least(start.plus(V::all(rest)));
         free = start.plus(group[place]);
         machine = place;
     }
@@ -85,7 +65,7 @@ impl Node {
     /// The bounds of the children that put the jobs of a group at an end, a lane for each. A lane whose job is not left
     /// has some number.
     #[inline(always)]
-    pub fn child_bounds<V: Lanes>(&self, end: End, group: &[V]) -> V
+    pub fn child_bounds<V: Vector>(&self, end: End, group: &[V]) -> V
         requires { length group.now ≤ most_machines }
         ensures { (shop : Shop) (first last jobs : List ℕ) (lane : ℕ) → IsNode shop first last self.now →
             IsGroup V.list V.CAP V.WIDTH shop jobs group.now → lane < V.WIDTH →
@@ -93,15 +73,15 @@ impl Node {
             HasLane V.CAP V.WIDTH (V.list result) lane (child_bound shop end first last (slice_index jobs lane)) }
     {
         match end {
-            End::Front => front_bounds::<V, 0, false>(self, group),
-            End::Back => back_bounds::<V, 0, false>(self, group),
+            End::Front => front_bounds(self, group),
+            End::Back => back_bounds(self, group),
         }
     }
 
     /// The same bounds, where the node's own bound is no greater than the cap. The constant is the number of machines,
     /// or 0.
     #[inline(always)]
-    pub fn small_child_bounds<V: Lanes, const M: usize>(&self, end: End, group: &[V]) -> V
+    pub fn small_child_bounds<V: Vector, const M: usize>(&self, end: End, group: &[V]) -> V
         requires constant { (M ≡ 0) ⊎ (M ≡ length group.now) }
         requires machines { length group.now ≤ most_machines }
         requires small { (shop : Shop) × (first : List ℕ) × (last : List ℕ) × IsNode shop first last self.now
@@ -112,30 +92,30 @@ impl Node {
             HasLane V.CAP V.WIDTH (V.list result) lane (child_bound shop end first last (slice_index jobs lane)) }
     {
         match end {
-            End::Front => front_bounds::<V, M, true>(self, group),
-            End::Back => back_bounds::<V, M, true>(self, group),
+            End::Front => small_front_bounds::<V, M>(self, group),
+            End::Back => small_back_bounds::<V, M>(self, group),
         }
     }
 
-    /// The children below a number, of those that put the jobs of a group at an end: a bit for each lane, and no other
-    /// bits. The bit of a lane whose job is not left may be set or not.
+    /// The children below a threshold, of those that put the jobs of a group at an end: a bit for each lane, and no
+    /// other bits. The bit of a lane whose job is not left may be set or not.
     #[inline(always)]
-    pub(crate) fn children_below<V: Lanes>(&self, end: End, group: &[V], number: u32) -> u64
+    pub(crate) fn children_below<V: Vector>(&self, end: End, group: &[V], threshold: u32) -> u64
         requires machines { length group.now ≤ most_machines }
-        requires number { number ≤ V.CAP }
+        requires threshold { threshold ≤ V.CAP }
         ensures each { (shop : Shop) (first last jobs : List ℕ) (lane : ℕ) → IsNode shop first last self.now →
             IsGroup V.list V.CAP V.WIDTH shop jobs group.now → lane < V.WIDTH →
             has (first ++ last) (slice_index jobs lane) ≡ false →
-            IsBitSet result lane ↔ (child_bound shop end first last (slice_index jobs lane) < number) }
+            IsBitSet result lane ↔ (child_bound shop end first last (slice_index jobs lane) < threshold) }
         ensures none { (lane : ℕ) → V.WIDTH ≤ lane → ¬ IsBitSet result lane }
     {
-        self.child_bounds(end, group).below(number)
+        self.child_bounds(end, group).below(threshold)
     }
 
-    /// Marks the jobs left that make children below a number at an end, among those of the groups. The limit is that of
-    /// the number in 32 bits. The places behind those of the groups keep their marks.
+    /// Marks the jobs left that make children below a threshold at an end, among those of the groups. The limit is that
+    /// of the threshold in 32 bits. The places behind those of the groups keep their marks.
     #[inline(always)]
-    pub fn mark_below<V: Lanes>(
+    pub fn mark_below<V: Vector>(
         &self,
         end: End,
         groups: &[Vec<V>],
@@ -152,12 +132,12 @@ impl Node {
             mark below.new.words place ≡ mark below.old.words place }
         ensures within { (place : ℕ) → place / 16 < length groups.now → mark below.new.words place ≡ 1 →
             mark left.now.words place ≡ 1 }
-        ensures exact { (shop : Shop) (number : ℕ) (first last jobs : List ℕ) (place : ℕ) (none : Vec V) →
-            limit ≡ limit_of number → IsNode shop first last self.now → place / 16 < length groups.now →
+        ensures exact { (shop : Shop) (threshold : ℕ) (first last jobs : List ℕ) (place : ℕ) (none : Vec V) →
+            limit ≡ limit_of threshold → IsNode shop first last self.now → place / 16 < length groups.now →
             IsGroup V.list V.CAP V.WIDTH shop jobs (slice_index_or groups.now (place / 16) none).items →
             mark left.now.words place ≡ 1 → has (first ++ last) (slice_index jobs (place % 16)) ≡ false →
             mark below.new.words place ≡ 1
-            ↔ (child_bound shop end first last (slice_index jobs (place % 16)) < number) }
+            ↔ (child_bound shop end first last (slice_index jobs (place % 16)) < threshold) }
     {
         for group in 0..groups.len() {
             let word = left.words[group];

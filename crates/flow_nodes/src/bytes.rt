@@ -1,5 +1,5 @@
-//! The children of a node that are at or above a number, as far as numbers of one byte tell: how much later a job can
-//! start than the node lets it, up to 255.
+//! The children of a node that are at or above a threshold, as far as numbers of one byte tell: how much later a job
+//! can start than the node lets it, up to 255.
 
 ghost use Rattle.std.specs.Prelude.{◌≡◌, ◌⊎◌, ℕ, ◌+◌, ◌-◌, ◌<◌, ◌≤◌, min, List, ◌++◌, length, slice_index};
 ghost use Rattle.std.specs.Prelude.{slice_index_or, IsBitSet};
@@ -7,15 +7,17 @@ ghost use Rattle.std.proofs.Common.{rules};
 ghost use Rattle.flow_limits.specs.Limits.{most_machines};
 ghost use Rattle.flow_shop.specs.Shop.{Shop};
 ghost use Rattle.flow_shop.specs.declared.end.End.TheVariants.{Front, Back};
-ghost use Rattle.flow_nodes.specs.Lanes.{HasLane};
+ghost use Rattle.flow_nodes.specs.Vectors.{HasLane};
 ghost use Rattle.flow_nodes.specs.Nodes.{IsNode};
 ghost use Rattle.flow_nodes.specs.Groups.{IsGroup};
 ghost use Rattle.flow_nodes.specs.declared.node.Node.{Node};
 ghost use Rattle.flow_nodes.specs.internal.Children.{greatest_at};
 ghost use Rattle.flow_nodes.specs.internal.Bytes.{HaveGaps, HaveSlacks};
 
-use crate::lanes::Lanes;
+use crate::few_groups::known_or;
 use crate::node::Node;
+use crate::scan::{FOUR, four_of};
+use crate::vector::Vector;
 use flow_limits::MAX_MACHINES;
 use flow_shop::End;
 use std::simd::prelude::*;
@@ -23,7 +25,7 @@ use std::simd::prelude::*;
 /// The greatest number of a lane of 8 bits.
 const BYTE_CAP: u32 = 255;
 
-impl Lanes for u8x16 {
+impl Vector for u8x16 {
     const CAP: u32 = BYTE_CAP;
 
     ghost CAP = { 255 };
@@ -109,7 +111,12 @@ fn excess(one: u8x16, other: u8x16) -> u8x16
 
 /// The lanes of a group whose children at the front may be below a limit: a bit for each, and no other bits.
 #[inline(always)]
-pub(crate) fn open_at_front(gaps: &[u8x16], slacks: &[u8x16], times: &[u8x16]) -> u64
+pub(crate) fn open_at_front<const M: usize>(
+    gaps: &[u8x16],
+    slacks: &[u8x16],
+    times: &[u8x16],
+) -> u64
+    requires constant { (M ≡ 0) ⊎ (M ≡ length times.now) }
     requires gaps { length gaps.now ≡ length times.now }
     requires slacks { length slacks.now ≡ length times.now }
     ensures { (shop : Shop) (first last jobs : List ℕ) (node : Node) (limit lane : ℕ) → IsNode shop first last node →
@@ -119,7 +126,8 @@ pub(crate) fn open_at_front(gaps: &[u8x16], slacks: &[u8x16], times: &[u8x16]) -
 {
     let mut late = u8x16::each(0);
     let mut over = late;
-    for place in 0..times.len() {
+    let machines = known_or::<M>(times.len());
+    for place in 0..machines {
         let start = excess(late, gaps[place]);
         over = over.at_least(excess(start, slacks[place]));
         late = start.plus(times[place]);
@@ -129,7 +137,8 @@ pub(crate) fn open_at_front(gaps: &[u8x16], slacks: &[u8x16], times: &[u8x16]) -
 
 /// The lanes of a group whose children at the back may be below a limit: a bit for each, and no other bits.
 #[inline(always)]
-pub(crate) fn open_at_back(gaps: &[u8x16], slacks: &[u8x16], times: &[u8x16]) -> u64
+pub(crate) fn open_at_back<const M: usize>(gaps: &[u8x16], slacks: &[u8x16], times: &[u8x16]) -> u64
+    requires constant { (M ≡ 0) ⊎ (M ≡ length times.now) }
     requires gaps { length gaps.now ≡ length times.now }
     requires slacks { length slacks.now ≡ length times.now }
     ensures { (shop : Shop) (first last jobs : List ℕ) (node : Node) (limit lane : ℕ) → IsNode shop first last node →
@@ -139,7 +148,7 @@ pub(crate) fn open_at_back(gaps: &[u8x16], slacks: &[u8x16], times: &[u8x16]) ->
 {
     let mut late = u8x16::each(0);
     let mut over = late;
-    let mut machine = times.len();
+    let mut machine = known_or::<M>(times.len());
     while machine > 0 {
         let place = machine - 1;
         let start = excess(late, gaps[place]);
@@ -150,6 +159,58 @@ pub(crate) fn open_at_back(gaps: &[u8x16], slacks: &[u8x16], times: &[u8x16]) ->
     over.below(1)
 }
 
+/// Of each of four numbers by how much it exceeds another; 0 where it does not.
+#[inline(always)]
+fn excess_of_four(four: u32x4, others: u32x4) -> u32x4
+    requires sizes { (length four ≡ 4) × (length others ≡ 4) }
+    ensures size { length result ≡ 4 }
+    ensures each { (lane : ℕ) → lane < 4 →
+        slice_index result lane ≡ slice_index four lane - slice_index others lane }
+{
+    four.simd_max(others) - others
+}
+
+/// Writes four numbers in bytes, from a place on: each in all lanes of a vector.
+#[inline(always)]
+fn put_bytes(four: u32x4, at: usize, bytes: &mut [u8x16])
+    requires four { length four ≡ 4 }
+    requires at { at + 4 ≤ length bytes.old }
+    ensures each { (place lane : ℕ) (none : List ℕ) → place < at + 4 → lane < 16 → at ≤ place →
+        HasLane 255 16 (slice_index_or bytes.new place none) lane (slice_index four (place - at)) }
+    ensures before { (place : ℕ) (none : List ℕ) → place < at →
+        slice_index_or bytes.new place none ≡ slice_index_or bytes.old place none }
+{
+    let most = u32x4::splat(BYTE_CAP);
+    let small = (most - excess_of_four(most, four)).to_array();
+    for machine in 0..FOUR {
+        bytes[at + machine] = u8x16::each(small[machine]);
+    }
+}
+
+/// Writes, from a machine on, by how much what is at the front of a node exceeds what is there on the machine before:
+/// for four machines where it can, or for one. Returns the place behind them.
+#[inline(always)]
+fn front_gaps_from(fronts: &[u32; MAX_MACHINES], at: usize, gaps: &mut [u8x16]) -> usize
+    requires machines { length gaps.old ≤ most_machines }
+    requires at { at < length gaps.old }
+    ensures more { at < result }
+    ensures within { result ≤ length gaps.old }
+    ensures gaps { (place lane : ℕ) (none : List ℕ) → at ≤ place → place < result → lane < 16 →
+        HasLane 255 16 (slice_index_or gaps.new place none) lane
+        (slice_index fronts.now place - slice_index fronts.now (place - 1)) }
+    ensures before { (place : ℕ) (none : List ℕ) → place < at →
+        slice_index_or gaps.new place none ≡ slice_index_or gaps.old place none }
+{
+    if at > 0 && at + FOUR <= gaps.len() {
+        let four = excess_of_four(four_of(fronts, at), four_of(fronts, at - 1));
+        put_bytes(four, at, gaps);
+        return at + FOUR;
+    }
+    let gap = fronts[at].saturating_sub(fronts[at.saturating_sub(1)]);
+    gaps[at] = u8x16::all(u64::from(gap));
+    at + 1
+}
+
 /// Writes by how much what is at the front of a node exceeds what is there on the machine before.
 #[inline(always)]
 fn write_front_gaps(fronts: &[u32; MAX_MACHINES], gaps: &mut [u8x16])
@@ -158,10 +219,34 @@ fn write_front_gaps(fronts: &[u32; MAX_MACHINES], gaps: &mut [u8x16])
         HasLane 255 16 (slice_index_or gaps.new place none) lane
         (slice_index fronts.now place - slice_index fronts.now (place - 1)) }
 {
-    for place in 0..gaps.len() {
-        let gap = fronts[place].saturating_sub(fronts[place.saturating_sub(1)]);
-        gaps[place] = u8x16::all(u64::from(gap));
+    let mut at = 0;
+    'machines: while at < gaps.len() {
+        at = front_gaps_from(fronts, at, gaps);
     }
+}
+
+/// Writes, from a machine on, by how much what is at the back of a node exceeds what is there on the machine behind:
+/// for four machines where it can, or for one. Returns the place behind them.
+#[inline(always)]
+fn back_gaps_from(backs: &[u32; MAX_MACHINES], at: usize, gaps: &mut [u8x16]) -> usize
+    requires machines { length gaps.old ≤ most_machines }
+    requires at { at < length gaps.old }
+    ensures more { at < result }
+    ensures within { result ≤ length gaps.old }
+    ensures gaps { (place lane : ℕ) (none : List ℕ) → at ≤ place → place < result → lane < 16 →
+        HasLane 255 16 (slice_index_or gaps.new place none) lane
+        (slice_index backs.now place - slice_index backs.now (min (place + 1) 25)) }
+    ensures before { (place : ℕ) (none : List ℕ) → place < at →
+        slice_index_or gaps.new place none ≡ slice_index_or gaps.old place none }
+{
+    if at + FOUR <= gaps.len() && at + FOUR < MAX_MACHINES {
+        let four = excess_of_four(four_of(backs, at), four_of(backs, at + 1));
+        put_bytes(four, at, gaps);
+        return at + FOUR;
+    }
+    let gap = backs[at].saturating_sub(backs[(at + 1).min(MAX_MACHINES - 1)]);
+    gaps[at] = u8x16::all(u64::from(gap));
+    at + 1
 }
 
 /// Writes by how much what is at the back of a node exceeds what is there on the machine behind.
@@ -172,9 +257,9 @@ fn write_back_gaps(backs: &[u32; MAX_MACHINES], gaps: &mut [u8x16])
         HasLane 255 16 (slice_index_or gaps.new place none) lane
         (slice_index backs.now place - slice_index backs.now (min (place + 1) 25)) }
 {
-    for place in 0..gaps.len() {
-        let gap = backs[place].saturating_sub(backs[(place + 1).min(MAX_MACHINES - 1)]);
-        gaps[place] = u8x16::all(u64::from(gap));
+    let mut at = 0;
+    'machines: while at < gaps.len() {
+        at = back_gaps_from(backs, at, gaps);
     }
 }
 
@@ -191,6 +276,32 @@ pub(crate) fn write_gaps(node: &Node, end: End, gaps: &mut [u8x16])
     }
 }
 
+/// Writes, from a machine on, how much later than the node lets it a job may start, where its child is below the limit:
+/// for four machines where it can, or for one. Returns the place behind them.
+#[inline(always)]
+fn slacks_from(node: &Node, limit: u32, at: usize, slacks: &mut [u8x16]) -> usize
+    requires machines { length slacks.old ≤ most_machines }
+    requires at { at < length slacks.old }
+    requires small { (place : ℕ) → place < length slacks.old →
+        slice_index node.now.front place + slice_index node.now.work place + slice_index node.now.back place < limit }
+    ensures more { at < result }
+    ensures within { result ≤ length slacks.old }
+    ensures slacks { (place lane : ℕ) (none : List ℕ) → at ≤ place → place < result → lane < 16 →
+        HasLane 255 16 (slice_index_or slacks.new place none) lane (limit - 1
+        - (slice_index node.now.front place + slice_index node.now.work place + slice_index node.now.back place)) }
+    ensures before { (place : ℕ) (none : List ℕ) → place < at →
+        slice_index_or slacks.new place none ≡ slice_index_or slacks.old place none }
+{
+    if at + FOUR <= slacks.len() {
+        let bounds = four_of(&node.front, at) + four_of(&node.work, at) + four_of(&node.back, at);
+        put_bytes(u32x4::splat(limit - 1) - bounds, at, slacks);
+        return at + FOUR;
+    }
+    let bound = node.front[at] + node.work[at] + node.back[at];
+    slacks[at] = u8x16::all(u64::from(limit - 1 - bound));
+    at + 1
+}
+
 /// Writes how much later than the node lets it a job may start on each machine, where its child is below the limit.
 #[inline(always)]
 pub(crate) fn write_slacks(node: &Node, limit: u32, slacks: &mut [u8x16])
@@ -200,8 +311,8 @@ pub(crate) fn write_slacks(node: &Node, limit: u32, slacks: &mut [u8x16])
     ensures slacks { HaveSlacks limit node.now slacks.new }
     ensures size { length slacks.new ≡ length slacks.old }
 {
-    for place in 0..slacks.len() {
-        let bound = node.front[place] + node.work[place] + node.back[place];
-        slacks[place] = u8x16::all(u64::from(limit - 1 - bound));
+    let mut at = 0;
+    'machines: while at < slacks.len() {
+        at = slacks_from(node, limit, at, slacks);
     }
 }

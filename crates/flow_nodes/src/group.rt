@@ -3,11 +3,11 @@
 ghost use Rattle.std.specs.Prelude.{◌≡◌, ℕ, ◌+◌, ◌-◌, ◌*◌, ◌<◌, ◌≤◌, length, slice_index, slice_index_or, IfOk};
 ghost use Rattle.flow_shop.specs.Shop.{time};
 ghost use Rattle.flow_shop.specs.Rows.{AreRows};
-ghost use Rattle.flow_nodes.specs.Lanes.{HasLane};
+ghost use Rattle.flow_nodes.specs.Vectors.{HasLane};
 ghost use Rattle.flow_nodes.specs.Nodes.{IsJob, IsMachine};
 ghost use Rattle.flow_nodes.specs.Groups.{AreGroups, AreNames, IsGroup, group_count, most_groups};
 
-use crate::lanes::Lanes;
+use crate::vector::Vector;
 use flow_limits::{MAX_JOBS, MAX_MACHINES};
 use flow_shop::{Instance, Row};
 use std::alloc::{AllocError, Global};
@@ -43,7 +43,7 @@ fn write_times(instance: &Instance, jobs: &[u16], machine: u16, times: &mut [u32
 }
 
 /// Writes the group of some jobs, one for each lane. A job may stand in several lanes.
-pub fn write_group<V: Lanes>(instance: &Instance, jobs: &[u16], group: &mut [V])
+pub fn write_group<V: Vector>(instance: &Instance, jobs: &[u16], group: &mut [V])
     requires jobs { length jobs.now ≡ V.WIDTH }
     requires each { (lane : ℕ) → lane < V.WIDTH → IsJob instance.now (slice_index jobs.now lane) }
     requires machines { length group.old ≡ instance.now.machines }
@@ -147,7 +147,7 @@ fn turn_sixteen(
 
 /// Writes the vectors of four machines, from that at a place on, as far as there are so many.
 #[inline(always)]
-fn write_four<V: Lanes>(block: &[u32; BLOCK], at: usize, group: &mut [V])
+fn write_four<V: Vector>(block: &[u32; BLOCK], at: usize, group: &mut [V])
     requires wide { V.WIDTH ≡ 16 }
     requires at { at ≤ 22 }
     requires few { length group.old ≤ 26 }
@@ -166,7 +166,12 @@ fn write_four<V: Lanes>(block: &[u32; BLOCK], at: usize, group: &mut [V])
 }
 
 /// Writes the group of sixteen jobs, by their rows. A job may stand in several lanes.
-pub(crate) fn turn_group<V: Lanes>(instance: &Instance, rows: &[Row], jobs: &[u16], group: &mut [V])
+pub(crate) fn turn_group<V: Vector>(
+    instance: &Instance,
+    rows: &[Row],
+    jobs: &[u16],
+    group: &mut [V],
+)
     requires wide { V.WIDTH ≡ 16 }
     requires rows { AreRows instance.now rows.now }
     requires jobs { length jobs.now ≡ 16 }
@@ -208,7 +213,7 @@ pub fn group_count(jobs: u16) -> usize
 }
 
 /// The groups of all jobs of an instance, in increasing order. The last job also stands in each lane that is left over.
-pub fn groups<V: Lanes>(alloc: Global, instance: &Instance) -> Result<Vec<Vec<V>>, AllocError>
+pub fn groups<V: Vector>(alloc: Global, instance: &Instance) -> Result<Vec<Vec<V>>, AllocError>
     requires wide { V.WIDTH ≡ 16 }
     ensures { IfOk result (λ groups. AreGroups V.list V.CAP V.WIDTH instance.now groups.items) }
 {

@@ -1,11 +1,11 @@
 //! Nodes that are opened at both ends, and the memory for them.
 
-ghost use Rattle.std.specs.Prelude.{◌≡◌, IfOk};
+ghost use Rattle.std.specs.Prelude.{◌≡◌, ◌≤◌, IfOk, length};
 ghost use Rattle.flow_nodes.specs.Open.{HasRoomToOpen, HasStartRoom, children_at};
 
-use crate::lanes::Lanes;
 use crate::marks::Marks;
 use crate::node::Node;
+use crate::vector::Vector;
 use flow_limits::MAX_MACHINES;
 use flow_shop::{End, Instance};
 use std::alloc::{AllocError, Global};
@@ -13,12 +13,14 @@ use std::alloc::{AllocError, Global};
 /// The children of a node at an end.
 #[derive(Drop)]
 pub struct Children<V> {
-    /// The places of those below the number.
+    /// The places of those below the threshold.
     pub below: Marks,
     /// How many they are.
     pub count: u32,
     /// When their jobs start: for each group and machine a vector.
     pub starts: Vec<Vec<V>>,
+    /// The bounds of the children that put the jobs left, for each group a vector, where they are known.
+    pub bounds: Vec<Option<V>>,
 }
 
 /// A node that is opened at both ends.
@@ -43,10 +45,11 @@ pub struct Put {
     pub place: usize,
 }
 
-impl<V: Lanes> Children<V> {
+impl<V: Vector> Children<V> {
     /// Memory for the children of a node whose jobs left stand in so many groups or fewer.
     fn new(alloc: Global, instance: &Instance, groups: usize) -> Result<Children<V>, AllocError>
-        ensures { IfOk result (λ children. HasStartRoom instance.now groups children.starts.items) }
+        ensures starts { IfOk result (λ children. HasStartRoom instance.now groups children.starts.items) }
+        ensures bounds { IfOk result (λ children. groups ≤ length children.bounds.items) }
     {
         let machines = usize::from(instance.machines());
         let mut starts = Vec::with_capacity(alloc, groups)?;
@@ -57,11 +60,12 @@ impl<V: Lanes> Children<V> {
             below: Marks::none(),
             count: 0,
             starts,
+            bounds: vec![in alloc; None; groups]?,
         })
     }
 }
 
-impl<V: Lanes> OpenNode<V> {
+impl<V: Vector> OpenNode<V> {
     /// Memory for a node whose jobs left stand in so many groups or fewer.
     pub fn new(alloc: Global, instance: &Instance, groups: usize) -> Result<OpenNode<V>, AllocError>
         ensures { IfOk result (λ node. HasRoomToOpen instance.now groups node) }

@@ -1,7 +1,7 @@
 //! Opens nodes at both ends, and makes children that are opened at both ends.
 
 ghost use Rattle.std.specs.Prelude.{◌≡◌, ◌⊎◌, ℕ, ◌-◌, ◌*◌, ◌/◌, ◌%◌, ◌<◌, ◌≤◌, ◌↔◌, false, List, ◌++◌, length};
-ghost use Rattle.std.specs.Prelude.{slice_index, slice_index_or, IsBitSet};
+ghost use Rattle.std.specs.Prelude.{slice_index, slice_index_or, Some, None};
 ghost use Rattle.std.specs.Global.{Vec};
 ghost use Rattle.flow_nodes.specs.declared.node.Node.{Node};
 ghost use Rattle.flow_limits.specs.Limits.{most_machines};
@@ -10,16 +10,16 @@ ghost use Rattle.flow_shop.specs.Sequences.{has};
 ghost use Rattle.flow_shop.specs.Directions.{first_with, last_with};
 ghost use Rattle.flow_shop.specs.Ends.{end_bound};
 ghost use Rattle.flow_shop.specs.declared.end.End.{End};
-ghost use Rattle.flow_nodes.specs.Lanes.{HasLane, limit_of};
-ghost use Rattle.flow_nodes.specs.Nodes.{IsJob, IsMachine, IsNode};
+ghost use Rattle.flow_nodes.specs.Vectors.{limit_of};
+ghost use Rattle.flow_nodes.specs.Nodes.{IsJob, IsNode};
 ghost use Rattle.flow_nodes.specs.Groups.{IsGroup, child_bound, most_groups};
 ghost use Rattle.flow_nodes.specs.Marks.{chosen, mark};
 ghost use Rattle.flow_nodes.specs.Packs.{HasLeft, HasRoomFor, IsPack};
-ghost use Rattle.flow_nodes.specs.Open.{AreChildren, HasRoomToOpen, HasStartRoom, IsOpenNode, children_at, start_at};
+ghost use Rattle.flow_nodes.specs.Open.{AreChildren, HasRoomToOpen, HasStartRoom, HasStarts, HasStartsAndBound};
+ghost use Rattle.flow_nodes.specs.Open.{IsOpenNode, children_at};
 ghost use Rattle.flow_nodes.specs.internal.Pairs.{AreRests, IsPaired};
 
 use crate::few_groups::known_or;
-use crate::lanes::Lanes;
 use crate::marks::Marks;
 use crate::node::Node;
 use crate::open::{Children, OpenNode, Put};
@@ -28,6 +28,7 @@ use crate::pack::Pack;
 use crate::pairs::{EndPairs, pairs_of_sums};
 use crate::passes::{Sought, below_at};
 use crate::starts::keep_starts;
+use crate::vector::Vector;
 use flow_limits::MAX_MACHINES;
 use flow_shop::{End, Instance};
 
@@ -43,8 +44,20 @@ fn count_of<const ONE: bool>(groups: usize) -> usize
     if ONE { 1 } else { groups }
 }
 
-impl<V: Lanes> Opener<V> {
-    /// Finds the children of a node at an end that are below the number, and when their jobs start there, among the
+/// The bounds of a group, where those of its parent's children are known.
+#[inline(always)]
+fn where_known<V: Vector>(parent: Option<V>, bounds: V) -> Option<V>
+    ensures known { (old : V) → parent ≡ Some old → result ≡ Some bounds }
+    ensures none { (new : V) → result ≡ Some new → (new ≡ bounds) × ((old : V) × (parent ≡ Some old)) }
+{
+    match parent {
+        Some(_) => Some(bounds),
+        None => None,
+    }
+}
+
+impl<V: Vector> Opener<V> {
+    /// Finds the children of a node at an end that are below the threshold, and when their jobs start there, among the
     /// jobs left that stand in the groups, from what the groups share there.
     #[inline(always)]
     fn find_children<const M: usize, const ONE: bool>(
@@ -66,25 +79,29 @@ impl<V: Lanes> Opener<V> {
         requires room { (shop : Shop) × HasStartRoom shop (length groups.now) children.old.starts.items
             × ((group : ℕ) (none : Vec V) → group < length groups.now →
             length (slice_index_or groups.now group none).items ≡ shop.machines) }
+        requires bounds { length groups.now ≤ length children.old.bounds.items }
         ensures room { (shop : Shop) (count : ℕ) → HasStartRoom shop count children.old.starts.items →
             HasStartRoom shop count children.new.starts.items }
         ensures within { (place : ℕ) → place / 16 < length groups.now → mark children.new.below.words place ≡ 1 →
             mark left.now.words place ≡ 1 }
-        ensures exact { (shop : Shop) (number : ℕ) (first last jobs : List ℕ) (node : Node) (place : ℕ) (none : Vec V) →
-            self.now.limit ≡ limit_of number → IsNode shop first last node →
+        ensures exact { (shop : Shop) (threshold : ℕ) (first last jobs : List ℕ) (node : Node) (place : ℕ)
+            (none : Vec V) → self.now.limit ≡ limit_of threshold → IsNode shop first last node →
             IsPaired V.pair_of V.CAP self.now.machines end node pairs.now → place / 16 < length groups.now →
             IsGroup V.list V.CAP V.WIDTH shop jobs (slice_index_or groups.now (place / 16) none).items →
             mark left.now.words place ≡ 1 → has (first ++ last) (slice_index jobs (place % 16)) ≡ false →
             mark children.new.below.words place ≡ 1
-            ↔ (child_bound shop end first last (slice_index jobs (place % 16)) < number) }
-        ensures starts { (shop : Shop) (first last jobs : List ℕ) (node : Node) (place machine : ℕ) (none : Vec V)
-            (zero : V) → IsNode shop first last node →
+            ↔ (child_bound shop end first last (slice_index jobs (place % 16)) < threshold) }
+        ensures known { (place : ℕ) → place / 16 < length groups.now → mark children.new.below.words place ≡ 1 →
+            (bounds : V) × (slice_index_or children.new.bounds.items (place / 16) None ≡ Some bounds) }
+        ensures whole { (shop : Shop) (first last jobs : List ℕ) (node : Node) (place : ℕ) (none : Vec V)
+            (bounds : V) → IsNode shop first last node →
             IsPaired V.pair_of V.CAP self.now.machines end node pairs.now → place / 16 < length groups.now →
             IsGroup V.list V.CAP V.WIDTH shop jobs (slice_index_or groups.now (place / 16) none).items →
-            mark children.new.below.words place ≡ 1 → IsMachine shop machine →
-            HasLane V.CAP V.WIDTH (V.list (slice_index_or
-            (slice_index_or children.new.starts.items (place / 16) none).items (machine - 1) zero)) (place % 16)
-            (start_at shop end first last (slice_index jobs (place % 16)) machine) }
+            mark left.now.words place ≡ 1 → has (first ++ last) (slice_index jobs (place % 16)) ≡ false →
+            slice_index_or children.new.bounds.items (place / 16) None ≡ Some bounds →
+            HasStartsAndBound V.list V.CAP V.WIDTH shop end first last (slice_index jobs (place % 16)) (place % 16)
+            (slice_index_or children.new.starts.items (place / 16) none).items bounds }
+        ensures bound_count { length children.new.bounds.items ≡ length children.old.bounds.items }
         ensures count { (names : List ℕ) → length names ≡ length groups.now * 16 →
             children.new.count ≡ length (chosen children.new.below.words names) }
     {
@@ -98,8 +115,9 @@ impl<V: Lanes> Opener<V> {
             if word != 0 {
                 let starts = children.starts[group].as_mut_slice();
                 let times = groups[group].as_slice();
-                let below = below_at::<V, M>(end, pairs, times, starts, word, sought);
-                children.below.words[group] = below;
+                let found = below_at::<V, M>(end, pairs, times, starts, word, sought);
+                children.below.words[group] = found.below;
+                children.bounds[group] = found.bounds;
             } else {
                 children.below.words[group] = 0;
             }
@@ -107,7 +125,7 @@ impl<V: Lanes> Opener<V> {
         children.count = children.below.count(count);
     }
 
-    /// Finds the children of a node at an end that are below the number, where its parent has the same list: among
+    /// Finds the children of a node at an end that are below the threshold, where its parent has the same list: among
     /// those that are marked, from their starts at the parent, and from the pairs of the time of the jobs left and what
     /// is at the other end. Copies the starts.
     #[inline(always)]
@@ -125,23 +143,32 @@ impl<V: Lanes> Opener<V> {
         requires one { (ONE ≡ false) ⊎ (groups ≡ 1) }
         requires room { (shop : Shop) × (self.now.machines ≡ shop.machines) × (shop.machines ≤ most_machines)
             × HasStartRoom shop groups parent.now.starts.items × HasStartRoom shop groups children.old.starts.items }
+        requires bounds { (groups ≤ length parent.now.bounds.items) × (groups ≤ length children.old.bounds.items) }
         ensures room { (shop : Shop) (count : ℕ) → HasStartRoom shop count children.old.starts.items →
             HasStartRoom shop count children.new.starts.items }
         ensures within { (place : ℕ) → place / 16 < groups → mark children.new.below.words place ≡ 1 →
             mark children.old.below.words place ≡ 1 }
-        ensures exact { (shop : Shop) (number : ℕ) (end : End) (first last : List ℕ) (job : ℕ) (node : Node)
-            (place : ℕ) → self.now.limit ≡ limit_of number → HasStartRoom shop groups parent.now.starts.items →
+        ensures exact { (shop : Shop) (threshold : ℕ) (end : End) (first last : List ℕ) (job : ℕ) (node : Node)
+            (place : ℕ) → self.now.limit ≡ limit_of threshold → HasStartRoom shop groups parent.now.starts.items →
             IsNode shop first last node → AreRests V.pair_of V.CAP shop.machines end node rest.now → IsJob shop job →
             has (first ++ last) job ≡ false → place / 16 < groups → mark children.old.below.words place ≡ 1 →
-            ((machine : ℕ) (none : Vec V) (zero : V) → IsMachine shop machine →
-            HasLane V.CAP V.WIDTH (V.list (slice_index_or
-            (slice_index_or parent.now.starts.items (place / 16) none).items (machine - 1) zero)) (place % 16)
-            (start_at shop end first last job machine)) →
-            mark children.new.below.words place ≡ 1 ↔ (child_bound shop end first last job < number) }
-        ensures copied { (place : ℕ) (none : Vec V) → place / 16 < groups →
-            mark children.new.below.words place ≡ 1 →
-            (slice_index_or children.new.starts.items (place / 16) none).items
-            ≡ (slice_index_or parent.now.starts.items (place / 16) none).items }
+            ((none : Vec V) → HasStarts V.list V.CAP V.WIDTH shop end first last job (place % 16)
+            (slice_index_or parent.now.starts.items (place / 16) none).items) →
+            mark children.new.below.words place ≡ 1 ↔ (child_bound shop end first last job < threshold) }
+        ensures known { (place : ℕ) (old : V) → place / 16 < groups → mark children.new.below.words place ≡ 1 →
+            slice_index_or parent.now.bounds.items (place / 16) None ≡ Some old →
+            (bounds : V) × (slice_index_or children.new.bounds.items (place / 16) None ≡ Some bounds) }
+        ensures whole { (shop : Shop) (end : End) (first last : List ℕ) (job : ℕ) (node : Node) (place : ℕ)
+            (none : Vec V) (bounds : V) → HasStartRoom shop groups parent.now.starts.items →
+            IsNode shop first last node → AreRests V.pair_of V.CAP shop.machines end node rest.now → IsJob shop job →
+            has (first ++ last) job ≡ false → place / 16 < groups →
+            slice_index_or children.new.bounds.items (place / 16) None ≡ Some bounds →
+            ((old : V) → slice_index_or parent.now.bounds.items (place / 16) None ≡ Some old →
+            HasStarts V.list V.CAP V.WIDTH shop end first last job (place % 16)
+            (slice_index_or parent.now.starts.items (place / 16) none).items) →
+            HasStartsAndBound V.list V.CAP V.WIDTH shop end first last job (place % 16)
+            (slice_index_or children.new.starts.items (place / 16) none).items bounds }
+        ensures bound_count { length children.new.bounds.items ≡ length children.old.bounds.items }
         ensures count { (names : List ℕ) → length names ≡ groups * 16 →
             children.new.count ≡ length (chosen children.new.below.words names) }
     {
@@ -152,8 +179,10 @@ impl<V: Lanes> Opener<V> {
                 let starts = children.starts[group].as_mut_slice();
                 let bounds = keep_starts::<V, M>(parent.starts[group].as_slice(), rest, starts);
                 children.below.words[group] = (bounds.below(self.limit) & u64::from(word)) as u16;
+                children.bounds[group] = where_known(parent.bounds[group], bounds);
             } else {
                 children.below.words[group] = 0;
+                children.bounds[group] = None;
             }
         }
         let kept = children.below.count(count);
@@ -174,16 +203,18 @@ impl<V: Lanes> Opener<V> {
         requires limit { self.now.limit ≤ V.CAP }
         requires constant { (M ≡ 0) ⊎ (M ≡ self.now.machines) }
         requires one { (ONE ≡ false) ⊎ (length pack.now.groups.items ≡ 1) }
-        requires at { (shop : Shop) × (number : ℕ) × (first : List ℕ) × (last : List ℕ)
+        requires at { (shop : Shop) × (threshold : ℕ) × (first : List ℕ) × (last : List ℕ)
             × IsNode shop first last node.now × IsPack V.list V.CAP V.WIDTH shop pack.now × HasRoomFor shop self.now
-            × (self.now.limit ≡ limit_of number) × (end_bound shop first last < number)
+            × (self.now.limit ≡ limit_of threshold) × (end_bound shop first last < threshold)
             × HasStartRoom shop (length pack.now.groups.items) children.old.starts.items }
+        requires bounds { length pack.now.groups.items ≤ length children.old.bounds.items }
         ensures room { (shop : Shop) (count : ℕ) → HasStartRoom shop count children.old.starts.items →
             HasStartRoom shop count children.new.starts.items }
-        ensures children { (shop : Shop) (number : ℕ) (first last : List ℕ) → self.now.limit ≡ limit_of number →
+        ensures children { (shop : Shop) (threshold : ℕ) (first last : List ℕ) → self.now.limit ≡ limit_of threshold →
             IsNode shop first last node.now → IsPack V.list V.CAP V.WIDTH shop pack.now →
             HasLeft shop first last pack.now.names.items left.now →
-            AreChildren V.list V.CAP V.WIDTH shop number end first last pack.now.names.items left.now children.new }
+            AreChildren V.list V.CAP V.WIDTH shop threshold end first last pack.now.names.items left.now children.new }
+        ensures bound_count { length children.new.bounds.items ≡ length children.old.bounds.items }
     {
         let pairs = EndPairs::of::<V, M>(node, end, self.machines);
         self.find_children::<M, ONE>(end, &pairs, pack.groups.as_slice(), left, children);
@@ -195,38 +226,36 @@ impl<V: Lanes> Opener<V> {
         requires wide { V.WIDTH ≡ 16 }
         requires limit { self.now.limit ≤ V.CAP }
         requires constant { (M ≡ 0) ⊎ (M ≡ self.now.machines) }
-        requires at { (shop : Shop) × (number : ℕ) × (first : List ℕ) × (last : List ℕ)
+        requires at { (shop : Shop) × (threshold : ℕ) × (first : List ℕ) × (last : List ℕ)
             × IsNode shop first last node.old.node × IsPack V.list V.CAP V.WIDTH shop pack.now
-            × HasRoomFor shop self.now × (self.now.limit ≡ limit_of number) × (end_bound shop first last < number)
+            × HasRoomFor shop self.now × (self.now.limit ≡ limit_of threshold) × (end_bound shop first last < threshold)
             × HasRoomToOpen shop (length pack.now.groups.items) node.old }
         ensures room { (shop : Shop) (groups : ℕ) → HasRoomToOpen shop groups node.old →
             HasRoomToOpen shop groups node.new }
-        ensures node { (shop : Shop) (number : ℕ) (first last : List ℕ) → self.now.limit ≡ limit_of number →
+        ensures node { (shop : Shop) (threshold : ℕ) (first last : List ℕ) → self.now.limit ≡ limit_of threshold →
             IsNode shop first last node.old.node → IsPack V.list V.CAP V.WIDTH shop pack.now →
             HasLeft shop first last pack.now.names.items node.old.left →
-            IsOpenNode V.list V.CAP V.WIDTH shop number first last pack.now node.new }
+            IsOpenNode V.list V.CAP V.WIDTH shop threshold first last pack.now node.new }
     {
         self.open_at::<M, false>(End::Front, pack, &node.node, &node.left, &mut node.front);
         self.open_at::<M, false>(End::Back, pack, &node.node, &node.left, &mut node.back);
     }
 
     /// Opens a node at both ends. Its jobs left stand at marked places of a pack.
-    pub fn open(&mut self, pack: &Pack<V>, node: &mut OpenNode<V>)
+    pub fn open(&self, pack: &Pack<V>, node: &mut OpenNode<V>)
         requires wide { V.WIDTH ≡ 16 }
-        requires limit { self.old.limit ≤ V.CAP }
-        requires at { (shop : Shop) × (number : ℕ) × (first : List ℕ) × (last : List ℕ)
+        requires limit { self.now.limit ≤ V.CAP }
+        requires at { (shop : Shop) × (threshold : ℕ) × (first : List ℕ) × (last : List ℕ)
             × IsNode shop first last node.old.node × IsPack V.list V.CAP V.WIDTH shop pack.now
-            × HasRoomFor shop self.old × (self.old.limit ≡ limit_of number) × (end_bound shop first last < number)
+            × HasRoomFor shop self.now × (self.now.limit ≡ limit_of threshold) × (end_bound shop first last < threshold)
             × HasLeft shop first last pack.now.names.items node.old.left
             × HasRoomToOpen shop (length pack.now.groups.items) node.old }
-        ensures limit { self.new.limit ≡ self.old.limit }
-        ensures opener { (shop : Shop) → HasRoomFor shop self.old → HasRoomFor shop self.new }
         ensures room { (shop : Shop) (groups : ℕ) → HasRoomToOpen shop groups node.old →
             HasRoomToOpen shop groups node.new }
-        ensures node { (shop : Shop) (number : ℕ) (first last : List ℕ) → self.old.limit ≡ limit_of number →
+        ensures node { (shop : Shop) (threshold : ℕ) (first last : List ℕ) → self.now.limit ≡ limit_of threshold →
             IsNode shop first last node.old.node → IsPack V.list V.CAP V.WIDTH shop pack.now →
             HasLeft shop first last pack.now.names.items node.old.left →
-            IsOpenNode V.list V.CAP V.WIDTH shop number first last pack.now node.new }
+            IsOpenNode V.list V.CAP V.WIDTH shop threshold first last pack.now node.new }
     {
         match self.machines {
             5 => self.open_of::<5>(pack, node),
@@ -250,22 +279,22 @@ impl<V: Lanes> Opener<V> {
         requires limit { self.now.limit ≤ V.CAP }
         requires constant { (M ≡ 0) ⊎ (M ≡ self.now.machines) }
         requires one { (ONE ≡ false) ⊎ (length pack.now.groups.items ≡ 1) }
-        requires at { (number : ℕ) × (first : List ℕ) × (last : List ℕ)
-            × IsOpenNode V.list V.CAP V.WIDTH instance.now number first last pack.now parent.now
+        requires at { (threshold : ℕ) × (first : List ℕ) × (last : List ℕ)
+            × IsOpenNode V.list V.CAP V.WIDTH instance.now threshold first last pack.now parent.now
             × IsPack V.list V.CAP V.WIDTH instance.now pack.now × HasRoomFor instance.now self.now
-            × (self.now.limit ≡ limit_of number) × (end_bound instance.now first last < number)
+            × (self.now.limit ≡ limit_of threshold) × (end_bound instance.now first last < threshold)
             × (put.place < length pack.now.names.items)
             × (mark (children_at put.end parent.now).below.words put.place ≡ 1)
             × HasRoomToOpen instance.now (length pack.now.groups.items) parent.now
             × HasRoomToOpen instance.now (length pack.now.groups.items) child.old }
         ensures room { (shop : Shop) (groups : ℕ) → HasRoomToOpen shop groups child.old →
             HasRoomToOpen shop groups child.new }
-        ensures child { (number : ℕ) (first last : List ℕ) →
-            IsOpenNode V.list V.CAP V.WIDTH instance.now number first last pack.now parent.now →
+        ensures child { (threshold : ℕ) (first last : List ℕ) →
+            IsOpenNode V.list V.CAP V.WIDTH instance.now threshold first last pack.now parent.now →
             IsPack V.list V.CAP V.WIDTH instance.now pack.now → HasRoomFor instance.now self.now →
-            self.now.limit ≡ limit_of number →
+            self.now.limit ≡ limit_of threshold →
             mark (children_at put.end parent.now).below.words put.place ≡ 1 →
-            IsOpenNode V.list V.CAP V.WIDTH instance.now number
+            IsOpenNode V.list V.CAP V.WIDTH instance.now threshold
             (first_with put.end first (slice_index pack.now.names.items put.place))
             (last_with put.end last (slice_index pack.now.names.items put.place)) pack.now child.new }
     {
@@ -304,7 +333,7 @@ impl<V: Lanes> Opener<V> {
 
     /// Makes the child of a node that puts a job at an end, opened at both ends.
     pub fn open_child(
-        &mut self,
+        &self,
         instance: &Instance,
         pack: &Pack<V>,
         parent: &OpenNode<V>,
@@ -312,25 +341,23 @@ impl<V: Lanes> Opener<V> {
         child: &mut OpenNode<V>,
     )
         requires wide { V.WIDTH ≡ 16 }
-        requires limit { self.old.limit ≤ V.CAP }
-        requires at { (number : ℕ) × (first : List ℕ) × (last : List ℕ)
-            × IsOpenNode V.list V.CAP V.WIDTH instance.now number first last pack.now parent.now
-            × IsPack V.list V.CAP V.WIDTH instance.now pack.now × HasRoomFor instance.now self.old
-            × (self.old.limit ≡ limit_of number) × (end_bound instance.now first last < number)
+        requires limit { self.now.limit ≤ V.CAP }
+        requires at { (threshold : ℕ) × (first : List ℕ) × (last : List ℕ)
+            × IsOpenNode V.list V.CAP V.WIDTH instance.now threshold first last pack.now parent.now
+            × IsPack V.list V.CAP V.WIDTH instance.now pack.now × HasRoomFor instance.now self.now
+            × (self.now.limit ≡ limit_of threshold) × (end_bound instance.now first last < threshold)
             × (put.place < length pack.now.names.items)
             × (mark (children_at put.end parent.now).below.words put.place ≡ 1)
             × HasRoomToOpen instance.now (length pack.now.groups.items) parent.now
             × HasRoomToOpen instance.now (length pack.now.groups.items) child.old }
-        ensures limit { self.new.limit ≡ self.old.limit }
-        ensures opener { (shop : Shop) → HasRoomFor shop self.old → HasRoomFor shop self.new }
         ensures room { (shop : Shop) (groups : ℕ) → HasRoomToOpen shop groups child.old →
             HasRoomToOpen shop groups child.new }
-        ensures child { (number : ℕ) (first last : List ℕ) →
-            IsOpenNode V.list V.CAP V.WIDTH instance.now number first last pack.now parent.now →
-            IsPack V.list V.CAP V.WIDTH instance.now pack.now → HasRoomFor instance.now self.old →
-            self.old.limit ≡ limit_of number →
+        ensures child { (threshold : ℕ) (first last : List ℕ) →
+            IsOpenNode V.list V.CAP V.WIDTH instance.now threshold first last pack.now parent.now →
+            IsPack V.list V.CAP V.WIDTH instance.now pack.now → HasRoomFor instance.now self.now →
+            self.now.limit ≡ limit_of threshold →
             mark (children_at put.end parent.now).below.words put.place ≡ 1 →
-            IsOpenNode V.list V.CAP V.WIDTH instance.now number
+            IsOpenNode V.list V.CAP V.WIDTH instance.now threshold
             (first_with put.end first (slice_index pack.now.names.items put.place))
             (last_with put.end last (slice_index pack.now.names.items put.place)) pack.now child.new }
     {

@@ -9,9 +9,9 @@ ghost use Rattle.flow_nodes.specs.Groups.{IsGroup};
 ghost use Rattle.flow_nodes.specs.Packs.{AreBytes, HasByteRoom, HasRoom, IsPack, jobs_at};
 
 use crate::group::{LANES, turn_group};
-use crate::lanes::Lanes;
 use crate::marks::Marks;
 use crate::opener::FEW_GROUPS;
+use crate::vector::Vector;
 use flow_shop::{Instance, Row};
 use std::alloc::{AllocError, Global};
 use std::simd::prelude::*;
@@ -41,7 +41,7 @@ fn turn_bytes(instance: &Instance, rows: &[Row], jobs: &[u16], group: &mut [u8x1
     }
 }
 
-impl<V: Lanes> Pack<V> {
+impl<V: Vector> Pack<V> {
     /// A pack with room for so many groups.
     pub fn new(alloc: Global, instance: &Instance, count: usize) -> Result<Pack<V>, AllocError>
         requires { count ≤ 50 }

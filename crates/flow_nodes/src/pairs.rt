@@ -5,9 +5,9 @@ ghost use Rattle.flow_limits.specs.Limits.{most_machines};
 ghost use Rattle.flow_nodes.specs.internal.Pairs.{IsPaired, fits_at};
 
 use crate::few_groups::known_or;
-use crate::lanes::Lanes;
 use crate::node::Node;
 use crate::scan::{FOUR, four_of, put_four};
+use crate::vector::Vector;
 use flow_limits::MAX_MACHINES;
 use flow_shop::End;
 
@@ -22,7 +22,7 @@ pub(crate) struct EndPairs {
 
 /// The pairs of the numbers of so many machines.
 #[inline(always)]
-fn pairs_of<V: Lanes, const M: usize>(
+fn pairs_of<V: Vector, const M: usize>(
     numbers: &[u32; MAX_MACHINES],
     machines: usize,
 ) -> [u32; MAX_MACHINES]
@@ -45,7 +45,7 @@ fn pairs_of<V: Lanes, const M: usize>(
 
 /// The pairs of the sums of two numbers for each of so many machines.
 #[inline(always)]
-pub(crate) fn pairs_of_sums<V: Lanes, const M: usize>(
+pub(crate) fn pairs_of_sums<V: Vector, const M: usize>(
     first: &[u32; MAX_MACHINES],
     second: &[u32; MAX_MACHINES],
     machines: usize,
@@ -74,7 +74,7 @@ pub(crate) fn pairs_of_sums<V: Lanes, const M: usize>(
 impl EndPairs {
     /// What the groups of a node share at an end.
     #[inline(always)]
-    pub(crate) fn of<V: Lanes, const M: usize>(node: &Node, end: End, machines: usize) -> EndPairs
+    pub(crate) fn of<V: Vector, const M: usize>(node: &Node, end: End, machines: usize) -> EndPairs
         requires constant { (M ≡ 0) ⊎ (M ≡ machines) }
         requires few { machines ≤ most_machines }
         requires fit { (place : ℕ) → place < machines → fits_at V.CAP node.now place }

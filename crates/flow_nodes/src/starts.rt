@@ -6,7 +6,7 @@ ghost use Rattle.flow_limits.specs.Limits.{most_machines};
 ghost use Rattle.flow_shop.specs.Shop.{Shop};
 ghost use Rattle.flow_shop.specs.declared.end.End.{End};
 ghost use Rattle.flow_shop.specs.declared.end.End.TheVariants.{Front, Back};
-ghost use Rattle.flow_nodes.specs.Lanes.{HasLane};
+ghost use Rattle.flow_nodes.specs.Vectors.{HasLane};
 ghost use Rattle.flow_nodes.specs.Nodes.{IsMachine, IsNode};
 ghost use Rattle.flow_nodes.specs.Groups.{IsGroup};
 ghost use Rattle.flow_nodes.specs.Open.{start_at};
@@ -14,14 +14,14 @@ ghost use Rattle.flow_nodes.specs.internal.Children.{greatest_at};
 ghost use Rattle.flow_nodes.specs.internal.Pairs.{AreRests, IsPaired};
 
 use crate::few_groups::known_or;
-use crate::lanes::Lanes;
 use crate::pairs::EndPairs;
+use crate::vector::Vector;
 use flow_limits::MAX_MACHINES;
 
-/// The bounds of the children that put the jobs of a group at an end, from their starts there, and from the pairs of the
-/// time of the jobs left and what is at the other end. Copies the starts.
+/// The bounds of the children that put the jobs of a group at an end, from their starts there, and from the pairs of
+/// the time of the jobs left and what is at the other end. Copies the starts.
 #[inline(always)]
-pub(crate) fn keep_starts<V: Lanes, const M: usize>(
+pub(crate) fn keep_starts<V: Vector, const M: usize>(
     starts: &[V],
     rest: &[u32; MAX_MACHINES],
     kept: &mut [V],

@@ -84,13 +84,20 @@ pub enum Request {
     /// A certificate of the least makespan.
     Solve(SolveRequest),
     /// A better sequence than the starting one.
-    Improve(ImproveRequest),
+    Improve {
+        /// How long it is improved, and by which choices.
+        request: ImproveRequest,
+        /// After how many seconds it ends, where its time is limited.
+        seconds: Option<u32>,
+    },
     /// A two-ended certificate of the least makespan, or of bounds of it.
     Certify {
         /// How the block is certified.
         request: CertifyRequest,
         /// Whether it is told how far it is.
         progress: bool,
+        /// After how many seconds it ends, where its time is limited.
+        seconds: Option<u32>,
     },
     /// What a certificate, two-ended or not, proves, or its sequence.
     Check(CheckRequest),

@@ -51,7 +51,7 @@ round-next number k round above = elim (powers round.exponent k) [
   ]
 ]
 
--- a power of ten below the number, or 1
+-- a power of ten below the threshold, or 1
 pub record IsUnit (number unit : ℕ) : Type 0 where
   pub exponent : ℕ
   pub power : unit ≡ 10 ^ exponent

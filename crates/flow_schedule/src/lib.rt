@@ -1,4 +1,16 @@
 //! The timetable of a sequence: as operations, as a CSV table, and as a picture.
+//!
+//! - `operations.rt`: when each job of a sequence starts and ends on each machine.
+//! - `table.rt`: the timetable as a CSV table.
+//! - `path.rt`: a heaviest staircase path of a sequence.
+//! - `scale.rt`: where times and machines stand on the picture.
+//! - `colours.rt`: the colours of the bars, and of the numbers on them.
+//! - `bar.rt`: the bar of an operation.
+//! - `axis.rt`: the time axis.
+//! - `picture_head.rt`: the head of a picture.
+//! - `picture.rt`: the picture.
+//! - `text.rt`: words and numbers at the end of a text.
+//! - `laws.rt`: laws of the definitions.
 #![tactic(auto)]
 
 mod axis;

@@ -155,7 +155,7 @@ places-gone places made numbers rest at same is within few before behind k low =
           ∙ sym (ap (λ xs. slice_index xs k) is ∙ behind-gone numbers at k more within)
     ]
 
--- the numbers below a number
+-- the numbers below a threshold
 pub below-filter : (p : ℕ → Bool) (from n count : ℕ) → count ≤ n →
     ((k : ℕ) → from ≤ k → k < from + count → p k ≡ true) →
     ((k : ℕ) → from + count ≤ k → k < from + n → p k ≡ false) →

@@ -33,8 +33,8 @@ same-sign Front Back e = absurd (omega arith)
 same-sign Back Front e = absurd (omega arith)
 same-sign Back Back e = refl
 
-module _ (shop : Shop) (number : ℕ) where
-  one-string : (left : ℕ) (first last : List ℕ) → One (ProvesWith shop number left first last)
+module _ (shop : Shop) (threshold : ℕ) where
+  one-string : (left : ℕ) (first last : List ℕ) → One (ProvesWith shop threshold left first last)
   one-string zero first last one other rest others p q e =
       let same : one ≡ other = p.0 ∙ sym q.0 in
       (same, sym (ap (λ xs. xs ++ rest) p.0) ∙ e ∙ ap (λ xs. xs ++ others) q.0)
@@ -50,7 +50,7 @@ module _ (shop : Shop) (number : ℕ) where
       let behind : concat parts ++ rest ≡ concat parts' ++ others = cc in
       let same = same-sign end end' signs in
       let c : End → ℕ → List ℕ → Type 0 =
-      λ end job part. ProvesWith shop number left (first_with end first job) (last_with end last job) part in
+      λ end job part. ProvesWith shop threshold left (first_with end first job) (last_with end last job) part in
       let more = each-one (c end)
       (λ job. one-string left (first_with end first job) (last_with end last job))
       (jobs_left shop.jobs (first ++ last)) parts parts' rest others each
@@ -58,5 +58,5 @@ module _ (shop : Shop) (number : ℕ) where
       (is ∙ ap (λ s. s ∷ concat parts) signs ∙ ap (λ xs. sign end' ∷ xs) more.0 ∙ sym is', more.1)
 
 pub directions_are_one : DirectionsAreOne
-directions_are_one shop number first last one other rest others p q e =
-    one-string shop number (length (jobs_left shop.jobs (first ++ last))) first last one other rest others p q e
+directions_are_one shop threshold first last one other rest others p q e =
+    one-string shop threshold (length (jobs_left shop.jobs (first ++ last))) first last one other rest others p q e

@@ -1,4 +1,4 @@
--- No sequence is below a number that directions prove.
+-- No sequence is below a threshold that directions prove.
 use Rattle.std.proofs.Common.{◌≡◌, ℕ, zero, suc, ◌<◌, ◌≤◌, true, ◌||◌, List, [], ◌∷◌, ◌++◌, length, refl, ap, sym}
 use Rattle.std.proofs.Common.{◌∙◌, subst, inl, inr, arith, append_assoc, append-nil, length-append}
 use Rattle.std.proofs.lemmas.Bool.{eq-eqb}
@@ -60,10 +60,10 @@ child-at Back first (j ∷ js) last some =
       },
     )
 
-module _ (shop : Shop) (number : ℕ) where
-  proved : (left : ℕ) (first between last text : List ℕ) → ProvesWith shop number left first last text →
+module _ (shop : Shop) (threshold : ℕ) where
+  proved : (left : ℕ) (first between last text : List ℕ) → ProvesWith shop threshold left first last text →
       length between ≡ left → IsSequence shop.jobs (first ++ (between ++ last)) →
-      number ≤ span shop (first ++ (between ++ last))
+      threshold ≤ span shop (first ++ (between ++ last))
   proved zero first between last text p count is = omega (arith, p.1, admissible-parts shop first between last is)
   proved (suc left) first between last text (inl reached) count is =
       omega (arith, reached.1, admissible-parts shop first between last is)
@@ -72,23 +72,23 @@ module _ (shop : Shop) (number : ℕ) where
       let job = child.0 in
       let rest = child.1 in
       let part = zip-at
-      (λ job part. ProvesWith shop number left (first_with end first job) (last_with end last job) part)
+      (λ job part. ProvesWith shop threshold left (first_with end first job) (last_with end last job) part)
       (jobs_left shop.jobs (first ++ last)) parts job each
       (is-left shop.jobs first between last job is child.2.found) in
-      subst (λ jobs. number ≤ span shop jobs) (sym child.2.same)
+      subst (λ jobs. threshold ≤ span shop jobs) (sym child.2.same)
       (proved left (first_with end first job) rest (last_with end last job) part.0 part.1
       (omega (arith, child.2.shorter)) (subst (IsSequence shop.jobs) child.2.same is))
 
 pub directions_are_sound : DirectionsAreSound
-directions_are_sound shop number first between last text p is =
+directions_are_sound shop threshold first between last text p is =
     let same : first ++ between ++ last ≡ first ++ (between ++ last) = append_assoc first between last in
     let is' : IsSequence shop.jobs (first ++ (between ++ last)) = subst (IsSequence shop.jobs) same is in
-    subst (λ jobs. number ≤ span shop jobs) (sym same)
-    (proved shop number (length (jobs_left shop.jobs (first ++ last))) first between last text p
+    subst (λ jobs. threshold ≤ span shop jobs) (sym same)
+    (proved shop threshold (length (jobs_left shop.jobs (first ++ last))) first between last text p
     (sym (count-between shop.jobs first between last is')) is')
 
 pub proved_is_lower_bound : ProvedIsLowerBound
-proved_is_lower_bound shop number text p jobs is =
+proved_is_lower_bound shop threshold text p jobs is =
     let same : [] ++ jobs ++ [] ≡ jobs = append-nil jobs in
-    subst (λ jobs. number ≤ span shop jobs) same
-    (directions_are_sound shop number [] jobs [] text p (subst (IsSequence shop.jobs) (sym same) is))
+    subst (λ jobs. threshold ≤ span shop jobs) same
+    (directions_are_sound shop threshold [] jobs [] text p (subst (IsSequence shop.jobs) (sym same) is))

@@ -89,7 +89,7 @@ kept-small f p most (suc n) small =
 abbrev pub with_one : (ℕ → Bool) → ℕ → ℕ → Bool
 with_one p j k = nat_eq k j || p k
 
--- below that number it is as it was
+-- below that threshold it is as it was
 pub filter-before : (p : ℕ → Bool) (j n : ℕ) → n < j → filter (with_one p j) (numbers 1 n) ≡ filter p (numbers 1 n)
 filter-before p j n h =
     filter-same (with_one p j) p n (λ k from to. ap (λ b. b || p k) (ne_eqb k j (omega arith)))

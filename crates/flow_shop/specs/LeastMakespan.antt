@@ -65,7 +65,7 @@ pub record IsSequence (n : ℕ) (jobs : List ℕ) : Type 0 where
   pub whole : length jobs ≡ n
   pub each : AreJobs n jobs
 
--- no sequence of an instance has a makespan below a number
+-- no sequence of an instance has a makespan below a threshold
 abbrev pub IsLowerBound : Shop → ℕ → Type 0
 IsLowerBound shop value = (jobs : List ℕ) → IsSequence shop.jobs jobs → value ≤ span shop jobs
 

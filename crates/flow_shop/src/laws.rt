@@ -62,14 +62,14 @@ pub fn end_bound_is_exact()
     ensures { EndBoundIsExact }
 {}
 
-/// No sequence of a node is below a number that directions prove for the node. No sequence of an instance is below a
-/// number that directions prove.
+/// No sequence of a node is below a threshold that directions prove for the node. No sequence of an instance is below a
+/// threshold that directions prove.
 pub fn directions_are_sound()
     ensures node { DirectionsAreSound }
     ensures all { ProvedIsLowerBound }
 {}
 
-/// A text begins with at most one string of directions that prove a number for a node.
+/// A text begins with at most one string of directions that prove a threshold for a node.
 pub fn directions_are_one()
     ensures { DirectionsAreOne }
 {}

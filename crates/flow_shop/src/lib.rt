@@ -1,4 +1,15 @@
 //! The permutation flow shop: instances, sequences, completion times and bounds.
+//!
+//! - `instance.rt`: an instance: the times of jobs on machines.
+//! - `sequence.rt`: a sequence: the jobs of an instance in some order.
+//! - `job_set.rt`: a set of jobs.
+//! - `end.rt`: the ends of a sequence.
+//! - `front.rt`: fronts: when each machine is free again, after some jobs.
+//! - `row.rt`: the times, tails and lags of the jobs, a row for each.
+//! - `two_least.rt`: the two least of some numbers.
+//! - `least_pairs.rt`: the two least of the numbers that some jobs have at each of several places.
+//! - `version.rt`: which bound a version of certificates has.
+//! - `laws.rt`: laws of the definitions.
 #![tactic(auto)]
 
 mod end;

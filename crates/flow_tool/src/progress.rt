@@ -1,4 +1,4 @@
-//! The lines that `certify --progress` writes to standard error.
+//! The watch of a run: the lines that `certify --progress` writes to standard error, and when its time is over.
 
 use crate::lines::Lines;
 use crate::refusal::Stop;
@@ -12,6 +12,9 @@ use std::sync::Wait;
 
 /// The least time between two lines, in milliseconds; only the last line may come sooner.
 const PAUSE: u64 = 1_000;
+
+/// How long a run is silent on a terminal that was not asked to say how far it is, in milliseconds.
+const SILENCE: u64 = 5_000;
 
 /// A line for standard error.
 #[derive(Drop)]
@@ -59,6 +62,10 @@ pub(crate) struct Progress<'a, R> {
     rt: &'a R,
     start: StartLines,
     ghost can_start: { pre start },
+    /// Whether standard error is a terminal.
+    is_terminal: bool,
+    /// Whether the run was asked to say how far it is.
+    asked: Cell<bool>,
     /// There are none before the first line.
     lines: Cell<Option<Lines<Line>>>,
     /// When the run began, by the clock, in milliseconds.
@@ -71,16 +78,20 @@ pub(crate) struct Progress<'a, R> {
     before: Cell<u64>,
     /// The directions of the search that goes on.
     directions: Cell<u64>,
+    /// When the time is over, by the clock, in milliseconds, where it is limited.
+    ends: Cell<Option<u64>>,
 }
 
 impl<'a, R: Wait + Eprint + Clock> Progress<'a, R> {
     /// No line is written yet, and no thread started.
-    pub(crate) fn new(rt: &'a R, start: StartLines) -> Progress<'a, R>
+    pub(crate) fn new(rt: &'a R, start: StartLines, is_terminal: bool) -> Progress<'a, R>
         requires { pre start }
     {
         Progress {
             rt,
             start,
+            is_terminal,
+            asked: Cell::new(false),
             lines: Cell::new(None),
             begun: Cell::new(None),
             written: Cell::new(0),
@@ -88,6 +99,7 @@ impl<'a, R: Wait + Eprint + Clock> Progress<'a, R> {
             bounds: Cell::new((0, 0)),
             before: Cell::new(0),
             directions: Cell::new(0),
+            ends: Cell::new(None),
         }
     }
 
@@ -99,6 +111,11 @@ impl<'a, R: Wait + Eprint + Clock> Progress<'a, R> {
         }
     }
 
+    /// Whether there is a clock. Without one a time that is limited is over at once.
+    fn has_clock(&self) -> bool {
+        self.rt.monotonic().is_ok()
+    }
+
     /// Writes a line, unless it would come too soon.
     fn write(&self, is_last: bool) {
         let now = self.now();
@@ -107,6 +124,9 @@ impl<'a, R: Wait + Eprint + Clock> Progress<'a, R> {
             self.written.set(now);
             return;
         };
+        if self.is_silent(now.saturating_sub(begun), is_last) {
+            return;
+        }
         if !is_last && now.saturating_sub(self.written.get()) < PAUSE {
             return;
         }
@@ -117,6 +137,13 @@ impl<'a, R: Wait + Eprint + Clock> Progress<'a, R> {
             bounds: self.bounds.get(),
             directions: self.before.get().saturating_add(self.directions.get()),
         });
+    }
+
+    /// Whether nothing is to be said so long after the beginning: no run that was not asked says anything in its first
+    /// seconds, or off a terminal, or only at its end.
+    fn is_silent(&self, elapsed: u64, is_last: bool) -> bool {
+        let has_spoken = self.written.get() > self.begun.get().unwrap_or(0);
+        !self.asked.get() && (!self.is_terminal || elapsed < SILENCE || (is_last && !has_spoken))
     }
 
     /// Hands a line to the thread that writes. It is left out where there is no such thread.
@@ -144,12 +171,22 @@ impl<'a, R: Wait + Eprint + Clock> Progress<'a, R> {
 }
 
 impl<'a, R: Wait + Eprint + Clock> Watch for Progress<'a, R> {
+    fn begin(&self, asked: bool, seconds: Option<u32>) {
+        self.asked.set(asked);
+        if let Some(seconds) = seconds {
+            let ends = self.now().saturating_add(u64::from(seconds) * 1_000);
+            self.ends.set(Some(ends));
+        }
+    }
+
     fn is_on(&self) -> bool {
-        true
+        self.asked.get() || self.is_terminal
     }
 
     fn tell(&self, _instance: &Instance, news: News) {
         match news {
+            // Once the time is over the run only passes through the steps that are left.
+            News::Step(_) if self.is_over() => {}
             News::Step(step) => self.step.set(step),
             News::Bounds { lower, upper } => {
                 let before = self.before.get().saturating_add(self.directions.get());
@@ -161,5 +198,16 @@ impl<'a, R: Wait + Eprint + Clock> Watch for Progress<'a, R> {
             News::Ended => {}
         }
         self.write(matches!(news, News::Ended));
+    }
+
+    fn is_limited(&self) -> bool {
+        self.ends.get().is_some()
+    }
+
+    fn is_over(&self) -> bool {
+        match self.ends.get() {
+            Some(ends) => !self.has_clock() || self.now() >= ends,
+            None => false,
+        }
     }
 }

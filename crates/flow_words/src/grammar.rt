@@ -29,6 +29,10 @@ enum Kind {
         value: &'static str,
         default: &'static str,
     },
+    /// A number after a long name, which may be left out.
+    Limit {
+        value: &'static str,
+    },
     /// The name of a file after a long name, which may be left out.
     File {
         value: &'static str,
@@ -105,11 +109,18 @@ const WORKERS: Word = Word {
     help: "How many workers there are, 1 to 64",
 };
 
+const TIME_LIMIT: Word = Word {
+    name: "time-limit",
+    kind: Kind::Limit { value: "S" },
+    help: "Ends after so many seconds, 0 to 4294967295, with the best that is known",
+};
+
 static NEH: [Word; 2] = [FILE, INDEX];
 
-static CERTIFY: [Word; 10] = [
+static CERTIFY: [Word; 11] = [
     FILE,
     INDEX,
+    TIME_LIMIT,
     WIDTH,
     ROUNDS,
     SEED,
@@ -131,7 +142,7 @@ static CERTIFY: [Word; 10] = [
     START,
 ];
 
-static IMPROVE: [Word; 7] = [FILE, INDEX, WIDTH, ROUNDS, SEED, WORK, START];
+static IMPROVE: [Word; 8] = [FILE, INDEX, TIME_LIMIT, WIDTH, ROUNDS, SEED, WORK, START];
 
 static SPAN: [Word; 3] = [
     FILE,
@@ -342,6 +353,10 @@ fn argument_of<'a>(alloc: Global, word: &Word) -> Arg<'a> {
             .long(word.name)
             .value_name(value)
             .default_value(default)
+            .value_parser(value_parser!(u32)),
+        Kind::Limit { value } => argument
+            .long(word.name)
+            .value_name(value)
             .value_parser(value_parser!(u32)),
         Kind::File { value } => argument
             .long(word.name)

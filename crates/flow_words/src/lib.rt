@@ -1,4 +1,7 @@
 //! The words of the command line, and what they ask for. What is done is not known here.
+//!
+//! - `grammar.rt`: the grammar: each command with its words.
+//! - `requests.rt`: how words become a request.
 #![tactic(auto)]
 
 mod grammar;

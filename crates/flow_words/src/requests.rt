@@ -90,7 +90,10 @@ fn solve_of(given: &ArgMatches) -> Option<Request> {
 }
 
 fn improve_of(given: &ArgMatches) -> Option<Request> {
-    Some(Request::Improve(improvement_of(given)?))
+    Some(Request::Improve {
+        request: improvement_of(given)?,
+        seconds: given.get_one::<u32>("time-limit"),
+    })
 }
 
 fn certify_of(given: &ArgMatches) -> Option<Request> {
@@ -101,6 +104,7 @@ fn certify_of(given: &ArgMatches) -> Option<Request> {
             workers: given.get_one::<u32>("workers")?,
         },
         progress: given.get_flag("progress"),
+        seconds: given.get_one::<u32>("time-limit"),
     })
 }
 

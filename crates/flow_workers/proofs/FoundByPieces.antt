@@ -15,32 +15,32 @@ use Rattle.flow_workers.specs.internal.Found.{ReachedWithin}
 use Rattle.flow_workers.specs.declared.piece.Piece.{Piece}
 use Rattle.flow_workers.specs.declared.piece.Piece.TheVariants.{Reached}
 
-module _ (shop : Shop) (number budget : ℕ) (text : Vec ℕ) (pieces : List Piece) where
+module _ (shop : Shop) (threshold budget : ℕ) (text : Vec ℕ) (pieces : List Piece) where
   -- where no piece is left
   pub none-left : pieces ≡ [] →
-      behind (text.items, None) (pieces_met shop number pieces) ≡ met (visits shop number [] []) →
-      length text.items ≤ budget → IsFound shop number budget [] [] (Proved text)
+      behind (text.items, None) (pieces_met shop threshold pieces) ≡ met (visits shop threshold [] []) →
+      length text.items ≤ budget → IsFound shop threshold budget [] [] (Proved text)
   none-left none stands within =
-      let e = ap (λ xs. behind (text.items, None) (pieces_met shop number xs)) (sym none) ∙ stands in
+      let e = ap (λ xs. behind (text.items, None) (pieces_met shop threshold xs)) (sym none) ∙ stands in
       (sym (ap (λ m. m.1) e), sym (append-nil text.items) ∙ ap (λ m. m.0) e, within)
 
   -- where the first piece has reached a sequence
   module _ (jobs : List ℕ) (more : Vec ℕ) (rest : List Piece) (are : pieces ≡ Reached jobs more ∷ rest)
-      (stands : behind (text.items, None) (pieces_met shop number pieces) ≡ met (visits shop number [] [])) where
-    first-is : ◌≡◌ {A = List ℕ × _} (text.items ++ more.items, Some jobs) (met (visits shop number [] []))
-    first-is = ap (λ xs. behind (text.items, None) (pieces_met shop number xs)) (sym are) ∙ stands
+      (stands : behind (text.items, None) (pieces_met shop threshold pieces) ≡ met (visits shop threshold [] [])) where
+    first-is : ◌≡◌ {A = List ℕ × _} (text.items ++ more.items, Some jobs) (met (visits shop threshold [] []))
+    first-is = ap (λ xs. behind (text.items, None) (pieces_met shop threshold xs)) (sym are) ∙ stands
 
-    pub reached-first : first_below shop number [] [] ≡ Some jobs
+    pub reached-first : first_below shop threshold [] [] ≡ Some jobs
     reached-first = sym (ap (λ m. m.1) first-is)
 
     pub is-reached : IsSequence shop.jobs jobs
-    is-reached = (reached_is_below shop number [] [] jobs (no-jobs shop.jobs) reached-first).0.2
+    is-reached = (reached_is_below shop threshold [] [] jobs (no-jobs shop.jobs) reached-first).0.2
 
-    count-is : length (directions_of shop number [] []) ≡ length text.items + length more.items
+    count-is : length (directions_of shop threshold [] []) ≡ length text.items + length more.items
     count-is = sym (ap (λ m. length m.0) first-is) ∙ length-append text.items more.items
 
     pub found-reached : (count : ℕ) (found : Found) → count ≡ length text.items + length more.items →
-        ReachedWithin shop budget jobs count found → IsFound shop number budget [] [] found
+        ReachedWithin shop budget jobs count found → IsFound shop threshold budget [] [] found
     found-reached count (Proved directions) counted is = absurd is
     found-reached count (Below sequence makespan directions) counted is = (
       reached-first ∙ ap Some (sym is.0),

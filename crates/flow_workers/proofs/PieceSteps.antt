@@ -71,90 +71,90 @@ first-and-others [] others job some is left = absurd (omega (arith, some))
 first-and-others (x ∷ jobs) others job some is left =
     ap (λ j. j ∷ jobs) (sym is) ∙ ap (λ rest. job ∷ rest) (sym left)
 
-module _ (shop : Shop) (number : ℕ) where
+module _ (shop : Shop) (threshold : ℕ) where
   -- pieces that are joined
   pub pieces-append : (xs ys : List Piece) →
-      pieces_met shop number (xs ++ ys) ≡ behind (pieces_met shop number xs) (pieces_met shop number ys)
+      pieces_met shop threshold (xs ++ ys) ≡ behind (pieces_met shop threshold xs) (pieces_met shop threshold ys)
   pieces-append [] ys = refl
   pieces-append (x ∷ xs) ys =
-      ap (behind (piece_met shop number x)) (pieces-append xs ys)
-      ∙ sym (behind-assoc (piece_met shop number x) (pieces_met shop number xs) (pieces_met shop number ys))
+      ap (behind (piece_met shop threshold x)) (pieces-append xs ys)
+      ∙ sym (behind-assoc (piece_met shop threshold x) (pieces_met shop threshold xs) (pieces_met shop threshold ys))
 
   -- one more piece
   pub pieces-more : (xs : List Piece) (x : Piece) →
-      pieces_met shop number (xs ++ x ∷ []) ≡ behind (pieces_met shop number xs) (piece_met shop number x)
+      pieces_met shop threshold (xs ++ x ∷ []) ≡ behind (pieces_met shop threshold xs) (piece_met shop threshold x)
   pieces-more xs x =
-      pieces-append xs (x ∷ []) ∙ ap (behind (pieces_met shop number xs)) (behind-nil (piece_met shop number x))
+      pieces-append xs (x ∷ []) ∙ ap (behind (pieces_met shop threshold xs)) (behind-nil (piece_met shop threshold x))
 
   -- one more piece that was dealt
   pub all-more : (xs : List Dealt) (x : Dealt) →
-      all_met shop number (xs ++ x ∷ []) ≡ behind (all_met shop number xs) (dealt_met shop number x)
-  all-more [] x = behind-nil (dealt_met shop number x)
+      all_met shop threshold (xs ++ x ∷ []) ≡ behind (all_met shop threshold xs) (dealt_met shop threshold x)
+  all-more [] x = behind-nil (dealt_met shop threshold x)
   all-more (y ∷ xs) x =
-      ap (behind (dealt_met shop number y)) (all-more xs x)
-      ∙ sym (behind-assoc (dealt_met shop number y) (all_met shop number xs) (dealt_met shop number x))
+      ap (behind (dealt_met shop threshold y)) (all-more xs x)
+      ∙ sym (behind-assoc (dealt_met shop threshold y) (all_met shop threshold xs) (dealt_met shop threshold x))
 
   -- what was dealt last is put before the pieces
   pub put-more : (xs : List Dealt) (x : Dealt) (one : Met) (pieces put : List Piece) (dealt : List Dealt) →
-      dealt ≡ xs ++ x ∷ [] → dealt_met shop number x ≡ one →
-      pieces_met shop number put ≡ behind one (pieces_met shop number pieces) →
-      behind (all_met shop number xs) (pieces_met shop number put)
-      ≡ behind (all_met shop number dealt) (pieces_met shop number pieces)
+      dealt ≡ xs ++ x ∷ [] → dealt_met shop threshold x ≡ one →
+      pieces_met shop threshold put ≡ behind one (pieces_met shop threshold pieces) →
+      behind (all_met shop threshold xs) (pieces_met shop threshold put)
+      ≡ behind (all_met shop threshold dealt) (pieces_met shop threshold pieces)
   put-more xs x one pieces put dealt are is puts =
-      ap (behind (all_met shop number xs)) puts
-      ∙ sym (behind-assoc (all_met shop number xs) one (pieces_met shop number pieces))
-      ∙ ap (λ m. behind m (pieces_met shop number pieces))
-      (ap (behind (all_met shop number xs)) (sym is) ∙ sym (all-more xs x) ∙ sym (ap (all_met shop number) are))
+      ap (behind (all_met shop threshold xs)) puts
+      ∙ sym (behind-assoc (all_met shop threshold xs) one (pieces_met shop threshold pieces))
+      ∙ ap (λ m. behind m (pieces_met shop threshold pieces))
+      (ap (behind (all_met shop threshold xs)) (sym is) ∙ sym (all-more xs x) ∙ sym (ap (all_met shop threshold) are))
 
   -- pieces that stand for the same, one by one
   pub all-same : (xs ys : List Dealt) → length ys ≡ length xs →
-      ((k : ℕ) (d : Dealt) → k < length xs → dealt_met shop number (slice_index_or ys k d)
-      ≡ dealt_met shop number (slice_index_or xs k d)) →
-      all_met shop number ys ≡ all_met shop number xs
+      ((k : ℕ) (d : Dealt) → k < length xs → dealt_met shop threshold (slice_index_or ys k d)
+      ≡ dealt_met shop threshold (slice_index_or xs k d)) →
+      all_met shop threshold ys ≡ all_met shop threshold xs
   all-same [] [] same each = refl
   all-same [] (y ∷ ys) same each = absurd (omega (arith, same))
   all-same (x ∷ xs) [] same each = absurd (omega (arith, same))
   all-same (x ∷ xs) (y ∷ ys) same each =
-      ap (λ m. behind m (all_met shop number ys)) (each 0 x (omega arith))
-      ∙ ap (behind (dealt_met shop number x))
+      ap (λ m. behind m (all_met shop threshold ys)) (each 0 x (omega arith))
+      ∙ ap (behind (dealt_met shop threshold x))
       (all-same xs ys (omega (arith, same)) (λ k d within. each (suc k) d (omega (arith, within))))
 
   -- parts that are left
   pub parts-met : (parts : List Part) →
-      pieces_met shop number (map Left parts) ≡ met (parts_visits shop number parts)
+      pieces_met shop threshold (map Left parts) ≡ met (parts_visits shop threshold parts)
   parts-met [] = refl
   parts-met (part ∷ parts) =
-      ap (behind (met (part_visits shop number part))) (parts-met parts)
-      ∙ sym (met-append (part_visits shop number part) (parts_visits shop number parts))
+      ap (behind (met (part_visits shop threshold part))) (parts-met parts)
+      ∙ sym (met-append (part_visits shop threshold part) (parts_visits shop threshold parts))
 
   -- where a search goes on with parts
   pub rest-met : (first last text : List ℕ) (parts : List Part) →
-      Continues (visits shop number first last) text (parts_visits shop number parts) →
-      met (visits shop number first last) ≡ behind (text, None) (pieces_met shop number (map Left parts))
+      Continues (visits shop threshold first last) text (parts_visits shop threshold parts) →
+      met (visits shop threshold first last) ≡ behind (text, None) (pieces_met shop threshold (map Left parts))
   rest-met first last text parts goes =
-      pair (signs (visits shop number first last)) (text ++ signs (parts_visits shop number parts))
-      (first_reached (visits shop number first last)) (first_reached (parts_visits shop number parts))
+      pair (signs (visits shop threshold first last)) (text ++ signs (parts_visits shop threshold parts))
+      (first_reached (visits shop threshold first last)) (first_reached (parts_visits shop threshold parts))
       goes.0 goes.1
       ∙ sym (ap (behind (text, None)) (parts-met parts))
 
   -- a part that is the node of some lists
   node-visits : (first last : List ℕ) (part : Part) → IsNodeOf first last part →
-      part_visits shop number part ≡ visits shop number first last
+      part_visits shop threshold part ≡ visits shop threshold first last
   node-visits first last (Node begin end) is =
-      ap (λ xs. visits shop number xs end.items) is.0 ∙ ap (λ xs. visits shop number first xs) is.1
+      ap (λ xs. visits shop threshold xs end.items) is.0 ∙ ap (λ xs. visits shop threshold first xs) is.1
   node-visits first last (Children begin end side jobs) is = absurd is
 
   -- the first child of a part, and then the others
   pub children-met : (end : End) (begin behind_list named others : Vec ℕ) (job : ℕ) (child : Part) (rest : List Piece) →
       IsNodeOf (first_with end begin.items job) (last_with end behind_list.items job) child →
       named.items ≡ job ∷ others.items →
-      behind (met (part_visits shop number child))
-      (pieces_met shop number (Left (Children begin behind_list end others) ∷ rest))
-      ≡ pieces_met shop number (Left (Children begin behind_list end named) ∷ rest)
+      behind (met (part_visits shop threshold child))
+      (pieces_met shop threshold (Left (Children begin behind_list end others) ∷ rest))
+      ≡ pieces_met shop threshold (Left (Children begin behind_list end named) ∷ rest)
   children-met end begin behind_list named others job child rest is named_is =
-      let f : ℕ → List Visit = child_visits shop number end begin.items behind_list.items in
-      ap (λ v. behind (met v) (behind (met (flat_map f others.items)) (pieces_met shop number rest)))
+      let f : ℕ → List Visit = child_visits shop threshold end begin.items behind_list.items in
+      ap (λ v. behind (met v) (behind (met (flat_map f others.items)) (pieces_met shop threshold rest)))
       (node-visits (first_with end begin.items job) (last_with end behind_list.items job) child is)
-      ∙ sym (behind-assoc (met (f job)) (met (flat_map f others.items)) (pieces_met shop number rest))
-      ∙ ap (λ m. behind m (pieces_met shop number rest)) (sym (met-append (f job) (flat_map f others.items)))
-      ∙ sym (ap (λ xs. behind (met (flat_map f xs)) (pieces_met shop number rest)) named_is)
+      ∙ sym (behind-assoc (met (f job)) (met (flat_map f others.items)) (pieces_met shop threshold rest))
+      ∙ ap (λ m. behind m (pieces_met shop threshold rest)) (sym (met-append (f job) (flat_map f others.items)))
+      ∙ sym (ap (λ xs. behind (met (flat_map f xs)) (pieces_met shop threshold rest)) named_is)

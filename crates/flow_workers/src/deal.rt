@@ -31,9 +31,9 @@ fn child(alloc: Global, first: &[u16], last: &[u16], end: End, job: u16) -> Resu
 
 /// Takes the first piece off. Where it is children of a node, takes the first of them, and leaves the others.
 fn take_first(alloc: Global, pieces: &mut VecDeque<Piece>) -> Result<Option<Piece>, AllocError>
-    ensures { (shop : _) (number : _) → IfOk result (λ taken.
-        behind (taken_met shop number taken) (pieces_met shop number pieces.new.items)
-        ≡ pieces_met shop number pieces.old.items) }
+    ensures { (shop : _) (threshold : _) → IfOk result (λ taken.
+        behind (taken_met shop threshold taken) (pieces_met shop threshold pieces.new.items)
+        ≡ pieces_met shop threshold pieces.old.items) }
 {
     let Some(piece) = pieces.pop_front() else {
         return Ok(None);
@@ -71,9 +71,9 @@ pub(crate) fn deal(
     pieces: &mut VecDeque<Piece>,
     pace: &Pace,
 ) -> Result<Vec<Dealt>, AllocError>
-    ensures { (shop : _) (number : _) → IfOk result (λ dealt.
-        behind (all_met shop number dealt.items) (pieces_met shop number pieces.new.items)
-        ≡ pieces_met shop number pieces.old.items) }
+    ensures { (shop : _) (threshold : _) → IfOk result (λ dealt.
+        behind (all_met shop threshold dealt.items) (pieces_met shop threshold pieces.new.items)
+        ≡ pieces_met shop threshold pieces.old.items) }
 {
     let mut dealt = Vec::new(alloc);
     let mut nodes: usize = 0;
@@ -96,8 +96,8 @@ pub(crate) fn deal(
 
 /// Puts a piece before others. Those behind a sequence that is reached are let go.
 fn put_first(pieces: &mut VecDeque<Piece>, piece: Piece) -> Result<(), AllocError>
-    ensures { (shop : _) (number : _) → IfOk result (λ _. pieces_met shop number pieces.new.items
-        ≡ behind (piece_met shop number piece) (pieces_met shop number pieces.old.items)) }
+    ensures { (shop : _) (threshold : _) → IfOk result (λ _. pieces_met shop threshold pieces.new.items
+        ≡ behind (piece_met shop threshold piece) (pieces_met shop threshold pieces.old.items)) }
 {
     if let Piece::Reached { .. } = &piece {
         pieces.clear();
@@ -108,8 +108,8 @@ fn put_first(pieces: &mut VecDeque<Piece>, piece: Piece) -> Result<(), AllocErro
 
 /// Puts some pieces before others.
 fn put_run(pieces: &mut VecDeque<Piece>, run: VecDeque<Piece>) -> Result<(), AllocError>
-    ensures { (shop : _) (number : _) → IfOk result (λ _. pieces_met shop number pieces.new.items
-        ≡ behind (pieces_met shop number run.items) (pieces_met shop number pieces.old.items)) }
+    ensures { (shop : _) (threshold : _) → IfOk result (λ _. pieces_met shop threshold pieces.new.items
+        ≡ behind (pieces_met shop threshold run.items) (pieces_met shop threshold pieces.old.items)) }
 {
     let mut run = run;
     'pieces: while let Some(piece) = run.pop_back() {
@@ -120,8 +120,8 @@ fn put_run(pieces: &mut VecDeque<Piece>, run: VecDeque<Piece>) -> Result<(), All
 
 /// Puts what was dealt before the pieces that were not.
 pub(crate) fn put_back(pieces: &mut VecDeque<Piece>, dealt: Vec<Dealt>) -> Result<(), AllocError>
-    ensures { (shop : _) (number : _) → IfOk result (λ _. pieces_met shop number pieces.new.items
-        ≡ behind (all_met shop number dealt.items) (pieces_met shop number pieces.old.items)) }
+    ensures { (shop : _) (threshold : _) → IfOk result (λ _. pieces_met shop threshold pieces.new.items
+        ≡ behind (all_met shop threshold dealt.items) (pieces_met shop threshold pieces.old.items)) }
 {
     let mut dealt = dealt;
     'dealt: while let Some(last) = dealt.pop() {

@@ -1,4 +1,12 @@
 //! The search for directions on several threads.
+//!
+//! - `workers.rt`: the whole search: rounds, in each of which the workers search the first pieces.
+//! - `watch.rt`: watches, which are told how far a search is.
+//! - `piece.rt`: pieces of a search.
+//! - `round.rt`: a round.
+//! - `deal.rt`: which pieces are dealt in a round.
+//! - `pace.rt`: how much is searched in a round.
+//! - `node.rt`: the search of one node.
 #![tactic(auto)]
 
 mod deal;

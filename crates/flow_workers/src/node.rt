@@ -11,12 +11,12 @@ use flow_shop::Instance;
 use std::alloc::{AllocError, Global};
 use std::collections::VecDeque;
 
-/// What is sought: the sequences of an instance below a number.
+/// What is sought: the sequences of an instance below a threshold.
 #[derive(Clone, Copy)]
 pub(crate) struct Sought<'a> {
     pub(crate) alloc: Global,
     pub(crate) instance: &'a Instance,
-    pub(crate) number: u64,
+    pub(crate) threshold: u64,
 }
 
 /// What the search of a node came to.
@@ -26,7 +26,7 @@ pub(crate) struct NodeSearch {
     pub(crate) pieces: VecDeque<Piece>,
     /// How many directions were written.
     pub(crate) written: u64,
-    /// Whether a sequence below the number was reached.
+    /// Whether a sequence below the threshold was reached.
     pub(crate) reached: bool,
 }
 
@@ -60,15 +60,15 @@ fn with_left(alloc: Global, piece: Piece, parts: Vec<Part>) -> Result<NodeSearch
 }
 
 /// Searches the node of two lists, until as many directions are written as the budget, or nothing of the node is left
-/// to be searched. Where a sequence below the number is reached, no piece is kept behind it.
+/// to be searched. Where a sequence below the threshold is reached, no piece is kept behind it.
 pub(crate) fn search_node(
     sought: &Sought,
     first: &[u16],
     last: &[u16],
     budget: u64,
 ) -> Result<NodeSearch, AllocError>
-    ensures met { IfOk result (λ found. pieces_met sought.now.instance.now sought.now.number found.pieces.items
-        ≡ met (visits sought.now.instance.now sought.now.number first.now last.now)) }
+    ensures met { IfOk result (λ found. pieces_met sought.now.instance.now sought.now.threshold found.pieces.items
+        ≡ met (visits sought.now.instance.now sought.now.threshold first.now last.now)) }
     ensures written { IfOk result (λ found. found.written ≡ written found.pieces.items) }
     ensures reached { IfOk result (λ found. found.reached ≡ has_reached found.pieces.items) }
     ensures within { IfOk result (λ found. found.written ≤ budget) }
@@ -81,7 +81,7 @@ pub(crate) fn search_node(
         sought.instance,
         first,
         last,
-        sought.number,
+        sought.threshold,
         budget,
     ) {
         Ok(Advanced::Proved(directions)) => with_left(sought.alloc, Piece::Done(directions), none),

@@ -57,10 +57,13 @@ impl Pace {
         }
         let workers = workers.max(1);
         let least = LEAST.saturating_mul(workers as u64).min(written);
-        let most = MOST.saturating_mul(workers as u64);
-        let whole = (written / 8).max(least).min(most).min(left);
+        let most = most_of_worker(jobs);
+        let whole = (written / 8)
+            .max(least)
+            .min(most.saturating_mul(workers as u64))
+            .min(left);
         if pieces.saturating_mul(bytes_of_piece(jobs)) > MOST_BYTES {
-            return Pace::of_one(whole, left);
+            return Pace::of_one(whole.min(most).max(1), left);
         }
         Pace {
             workers,
@@ -85,15 +88,27 @@ impl Pace {
         }
     }
 
-    /// How many directions the next node is given after so many of the round: fewer towards its end, so that all
-    /// workers end at about the same time.
+    /// How many directions the next node is given after so many of the round: by one worker all that are left of it;
+    /// else fewer towards its end, so that all workers end at about the same time.
     pub(crate) fn grant(&self, written: u64) -> u64
         ensures some { GoesOn self.now → 1 ≤ result }
         ensures within { result ≤ self.now.left }
     {
-        let share = self.whole.saturating_sub(written) / 2 / self.workers.max(1) as u64;
+        let rest = self.whole.saturating_sub(written);
+        let share = match self.workers {
+            0 | 1 => rest,
+            workers => rest / 2 / workers as u64,
+        };
         share.max(self.least).min(self.left)
     }
+}
+
+/// The most directions of a round for each worker, where there are so many jobs: about those of a quarter of a second, or
+/// of half a second where bounds need 32 bits, since a run asks between two rounds whether its time is over.
+fn most_of_worker(jobs: u16) -> u64
+    ensures { 1 ≤ result }
+{
+    (375_000_000 / (u64::from(jobs) * 26 + 450)).clamp(1, MOST)
 }
 
 /// About how many bytes a piece has of so many jobs.

@@ -10,9 +10,9 @@ use std::collections::VecDeque;
 /// A piece of a search.
 #[derive(Drop)]
 pub(crate) enum Piece {
-    /// It was searched: its directions. It reaches no sequence below the number.
+    /// It was searched: its directions. It reaches no sequence below the threshold.
     Done(Vec<u8>),
-    /// It was searched up to the first sequence below the number.
+    /// It was searched up to the first sequence below the threshold.
     Reached {
         /// The sequence.
         sequence: Sequence,

@@ -57,7 +57,7 @@ impl<'a> Round<'a> {
     fn work(&self) -> Result<Vec<Reply>, AllocError>
         ensures places { IfOk result (λ replies. All (HasPlace self.now.dealt.now) replies.items) }
         ensures stand { IfOk result (λ replies. All
-            (StandsFor self.now.sought.now.instance.now self.now.sought.now.number self.now.dealt.now) replies.items) }
+            (StandsFor self.now.sought.now.instance.now self.now.sought.now.threshold self.now.dealt.now) replies.items) }
     {
         let mut replies = Vec::new(self.sought.alloc);
         'taken: for _ in 0..self.dealt.len() {
@@ -87,7 +87,7 @@ fn search_dealt<R: Threads + Sync>(
 ) -> Result<Vec<Reply>, AllocError>
     ensures places { IfOk result (λ replies. All (HasPlace dealt.now) replies.items) }
     ensures stand { IfOk result (λ replies. All
-        (StandsFor sought.now.instance.now sought.now.number dealt.now) replies.items) }
+        (StandsFor sought.now.instance.now sought.now.threshold dealt.now) replies.items) }
 {
     let round = Round {
         sought,
@@ -117,8 +117,8 @@ fn put_reply(one: &mut Dealt, pieces: VecDeque<Piece>)
 fn put_replies(dealt: &mut [Dealt], replies: Vec<Reply>)
     requires { All (HasPlace dealt.old) replies.items }
     ensures len { length dealt.new ≡ length dealt.old }
-    ensures met { (shop : _) (number : _) → All (StandsFor shop number dealt.old) replies.items →
-        all_met shop number dealt.new ≡ all_met shop number dealt.old }
+    ensures met { (shop : _) (threshold : _) → All (StandsFor shop threshold dealt.old) replies.items →
+        all_met shop threshold dealt.new ≡ all_met shop threshold dealt.old }
 {
     let mut replies = replies;
     'replies: while let Some(reply) = replies.pop() {
@@ -133,8 +133,8 @@ pub(crate) fn search_round<R: Threads + Sync>(
     pieces: &mut VecDeque<Piece>,
     pace: Pace,
 ) -> Result<(), AllocError>
-    ensures { IfOk result (λ _. pieces_met sought.now.instance.now sought.now.number pieces.new.items
-        ≡ pieces_met sought.now.instance.now sought.now.number pieces.old.items) }
+    ensures { IfOk result (λ _. pieces_met sought.now.instance.now sought.now.threshold pieces.new.items
+        ≡ pieces_met sought.now.instance.now sought.now.threshold pieces.old.items) }
 {
     let mut dealt = deal(sought.alloc, pieces, &pace)?;
     let replies = search_dealt(rt, sought, dealt.as_slice(), pace)?;

@@ -1,6 +1,6 @@
 //! The whole search: rounds, in each of which the workers search the first pieces.
 
-ghost use Rattle.std.specs.Prelude.{◌≡◌, ℕ, None, [], IfOk};
+ghost use Rattle.std.specs.Prelude.{◌≡◌, ℕ, None, [], IfOk, IfSome};
 ghost use denote.Param.Send.{IsSync};
 ghost use Rattle.flow_shop.specs.Shop.{Shop};
 ghost use Rattle.flow_shop.specs.Sequences.{IsSequence};
@@ -21,9 +21,9 @@ use std::thread::Threads;
 
 /// Puts the directions of the first pieces, as far as they were searched, behind others.
 fn settle(text: &mut Vec<u8>, pieces: &mut VecDeque<Piece>) -> Result<(), AllocError>
-    ensures met { (shop : Shop) (number : ℕ) → IfOk result (λ _.
-        behind (text.new.items, None) (pieces_met shop number pieces.new.items)
-        ≡ behind (text.old.items, None) (pieces_met shop number pieces.old.items)) }
+    ensures met { (shop : Shop) (threshold : ℕ) → IfOk result (λ _.
+        behind (text.new.items, None) (pieces_met shop threshold pieces.new.items)
+        ≡ behind (text.old.items, None) (pieces_met shop threshold pieces.old.items)) }
     ensures settled { IfOk result (λ _. IsSettled pieces.new.items) }
 {
     'pieces: while let Some(piece) = pieces.pop_front() {
@@ -54,23 +54,24 @@ fn reached(instance: &Instance, sequence: Sequence, directions: u64, budget: u64
     }
 }
 
-/// Searches an instance for directions that prove that no sequence has a makespan below a number, with so many workers
-/// on threads. What is found is what `prove` finds of the node of two empty lists: it is the same for any number of
-/// workers, however they take turns. The watch is told of the directions after each round.
+/// Searches an instance for directions that prove that no sequence has a makespan below a threshold, with so many
+/// workers on threads. What is found is what `prove` finds of the node of two empty lists: it is the same for any
+/// number of workers, however they take turns. Returns none where the time was over before it was found, by the watch,
+/// which is asked before each round, and told of the directions after each.
 pub fn prove_by<R: Threads + Sync, W: Watch>(
     workers: &Workers<R, W>,
     alloc: Global,
     instance: &Instance,
-    number: u64,
+    threshold: u64,
     budget: u64,
-) -> Result<Found, AllocError>
-    ensures found { IfOk result (λ found. IsFound instance.now number budget [] [] found) }
-    ensures shown { IfOk result (λ found. Shows instance.now number [] [] found) }
+) -> Result<Option<Found>, AllocError>
+    ensures found { IfOk result (λ found. IfSome found (λ found. IsFound instance.now threshold budget [] [] found)) }
+    ensures shown { IfOk result (λ found. IfSome found (λ found. Shows instance.now threshold [] [] found)) }
 {
     let sought = Sought {
         alloc,
         instance,
-        number,
+        threshold,
     };
     let mut text = Vec::new(alloc);
     let mut pieces = VecDeque::new(alloc);
@@ -83,10 +84,10 @@ pub fn prove_by<R: Threads + Sync, W: Watch>(
         let written = text.len() as u64;
         workers.watch.tell(instance, News::Directions(written));
         if written > budget {
-            return Ok(Found::Over);
+            return Ok(Some(Found::Over));
         }
         match pieces.pop_front() {
-            None => return Ok(Found::Proved(text)),
+            None => return Ok(Some(Found::Proved(text))),
             Some(
                 Piece::Reached {
                     sequence,
@@ -95,9 +96,12 @@ pub fn prove_by<R: Threads + Sync, W: Watch>(
             ) => {
                 let count = text.len() as u64 + directions.len() as u64;
                 workers.watch.tell(instance, News::Directions(count));
-                return Ok(reached(instance, sequence, count, budget));
+                return Ok(Some(reached(instance, sequence, count, budget)));
             }
             Some(piece) => pieces.push_front(piece)?,
+        }
+        if workers.watch.is_over() {
+            return Ok(None);
         }
         let pace = Pace::new(
             workers.count,
@@ -118,7 +122,7 @@ pub struct Workers<'a, R, W> {
     pub rt: &'a R,
     /// How many workers there are. One searches on the calling thread.
     pub count: usize,
-    /// What is told how far the search is.
+    /// What is told how far the search is, and says when its time is over.
     pub watch: &'a W,
 }
 
@@ -130,16 +134,24 @@ impl<'a, R: Threads + Sync, W: Watch> Prover for Workers<'a, R, W> {
         &self,
         alloc: Global,
         instance: &Instance,
-        number: u64,
+        threshold: u64,
         budget: u64,
-    ) -> Result<Found, AllocError> {
-        if self.count <= 1 && !self.watch.is_on() {
-            return Alone.prove(alloc, instance, number, budget);
+    ) -> Result<Option<Found>, AllocError> {
+        if self.count <= 1 && !self.watch.is_on() && !self.watch.is_limited() {
+            return Alone.prove(alloc, instance, threshold, budget);
         }
-        prove_by(self, alloc, instance, number, budget)
+        prove_by(self, alloc, instance, threshold, budget)
     }
 
     fn tell(&self, instance: &Instance, news: News) {
         self.watch.tell(instance, news);
+    }
+
+    fn is_limited(&self) -> bool {
+        self.watch.is_limited()
+    }
+
+    fn is_over(&self) -> bool {
+        self.watch.is_over()
     }
 }

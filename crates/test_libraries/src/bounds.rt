@@ -9,6 +9,7 @@ use crate::shops::{Shop, made};
 use flow_bound::{Rest, bound, insertion_spans, neh, released_bound, taillard_bound};
 use flow_core::{Front, Instance, JobSet, Sequence, front_push};
 use std::alloc::{AllocError, Global};
+use std::test::Fail;
 
 /// The front of a list, and the jobs that it leaves; none where they are no jobs of the instance, or leave none.
 fn node(instance: &Instance, jobs: &[u16]) -> Option<(Front, JobSet)>
@@ -59,32 +60,25 @@ static BOUNDS: [Bounded; 15] = [
     (ONE_JOB, &[], &[(0, 99)]),
 ];
 
-/// Whether each machine has this completion time and this bound at a list.
-fn has_bounds(alloc: Global, row: &Bounded) -> bool {
-    let (shop, jobs, wanted) = *row;
-    let Ok(instance) = made(alloc, shop) else {
-        return false;
-    };
-    let Some((front, left)) = node(&instance, jobs) else {
-        return false;
-    };
-    for machine in 1..instance.machines() + 1 {
-        let found = (front.at(machine), bound(&instance, &front, &left, machine));
-        if wanted.get(machine as usize - 1) != Some(&found) {
-            return false;
-        }
-    }
-    wanted.len() == instance.machines() as usize
-}
-
 #[test]
-fn bounds_are_the_worked_ones(rt: HostRuntime) {
-    for (number, row) in BOUNDS.iter().enumerate() {
-        assert!(rt; has_bounds(rt.alloc(), row), "row {number}");
+fn bounds_are_the_worked_ones(rt: HostRuntime) -> Result<(), Fail> {
+    for (number, (shop, jobs, wanted)) in BOUNDS.iter().enumerate() {
+        let instance = made(rt.alloc(), *shop)?;
+        let (front, left) = node(&instance, jobs).ok_or("no node")?;
+        for machine in 1..instance.machines() + 1 {
+            let found = (front.at(machine), bound(&instance, &front, &left, machine));
+            assert_eq!(rt;
+                wanted.get(machine as usize - 1),
+                Some(&found),
+                "row {number}"
+            );
+        }
+        assert_eq!(rt; wanted.len(), instance.machines() as usize);
     }
+    Ok(())
 }
 
-/// A list, and the released bound of each machine.
+/// A list, and the released bound of each machine, by the jobs left and by the rest that they are.
 type Released = (Shop, &'static [u16], &'static [u64]);
 
 static RELEASED_BOUNDS: [Released; 4] = [
@@ -94,31 +88,24 @@ static RELEASED_BOUNDS: [Released; 4] = [
     (Shop::Three, &[3, 1], &[12, 12, 12]),
 ];
 
-/// Whether each machine has this released bound at a list, by the jobs left and by the rest that they are.
-fn has_released(alloc: Global, row: &Released) -> bool {
-    let (shop, jobs, wanted) = *row;
-    let Ok(instance) = made(alloc, shop) else {
-        return false;
-    };
-    let Some((front, left)) = node(&instance, jobs) else {
-        return false;
-    };
-    let rest = Rest::of(&instance, &left);
-    for machine in 1..instance.machines() + 1 {
-        let found = released_bound(&instance, &front, &left, machine);
-        let of_rest = rest.released_bound(&front, machine);
-        if found != of_rest || wanted.get(machine as usize - 1) != Some(&found) {
-            return false;
-        }
-    }
-    wanted.len() == instance.machines() as usize
-}
-
 #[test]
-fn released_bounds_are_the_worked_ones(rt: HostRuntime) {
-    for (number, row) in RELEASED_BOUNDS.iter().enumerate() {
-        assert!(rt; has_released(rt.alloc(), row), "row {number}");
+fn released_bounds_are_the_worked_ones(rt: HostRuntime) -> Result<(), Fail> {
+    for (number, (shop, jobs, wanted)) in RELEASED_BOUNDS.iter().enumerate() {
+        let instance = made(rt.alloc(), *shop)?;
+        let (front, left) = node(&instance, jobs).ok_or("no node")?;
+        let rest = Rest::of(&instance, &left);
+        for machine in 1..instance.machines() + 1 {
+            let found = released_bound(&instance, &front, &left, machine);
+            assert_eq!(rt;
+                wanted.get(machine as usize - 1),
+                Some(&found),
+                "row {number}"
+            );
+            assert_eq!(rt; rest.released_bound(&front, machine), found, "row {number}");
+        }
+        assert_eq!(rt; wanted.len(), instance.machines() as usize);
     }
+    Ok(())
 }
 
 /// Whether each machine has this sum and least tail in a rest, and this bound behind a front.
@@ -160,54 +147,30 @@ static OF_ALL: [(u32, u32, u64); 3] = [(4, 3, 7), (10, 0, 10), (5, 0, 5)];
 
 static BEHIND_3: [(u32, u32, u64); 3] = [(4, 4, 8), (8, 0, 10), (4, 0, 7)];
 
-/// Whether the instance with three machines has these rests, the second by a step from the first and anew.
-fn has_rests(instance: &Instance) -> bool {
-    let Some((empty, _left)) = node(instance, &[]) else {
-        return false;
-    };
-    let Some((front, left)) = node(instance, &[3]) else {
-        return false;
-    };
-    let Some((all, step)) = rests(instance, &left, 3) else {
-        return false;
-    };
-    has_rest(instance, &all, &empty, &OF_ALL)
-        && has_rest(instance, &step, &front, &BEHIND_3)
-        && has_rest(instance, &Rest::of(instance, &left), &front, &BEHIND_3)
-}
-
-/// Whether the instance is made, and has these rests.
-fn has_worked_rests(alloc: Global) -> bool {
-    match three_machines(alloc) {
-        Ok(instance) => has_rests(&instance),
-        Err(_) => false,
-    }
-}
-
+/// The second rest comes by a step from the first, and anew.
 #[test]
-fn rests_of_three_machines_are_the_worked_ones(rt: HostRuntime) {
-    assert!(rt; has_worked_rests(rt.alloc()));
+fn rests_of_three_machines_are_the_worked_ones(rt: HostRuntime) -> Result<(), Fail> {
+    let instance = three_machines(rt.alloc())?;
+    let (empty, _left) = node(&instance, &[]).ok_or("no node")?;
+    let (front, left) = node(&instance, &[3]).ok_or("no node")?;
+    let (all, step) = rests(&instance, &left, 3).ok_or("no rests")?;
+    assert!(rt; has_rest(&instance, &all, &empty, &OF_ALL));
+    assert!(rt; has_rest(&instance, &step, &front, &BEHIND_3));
+    assert!(rt; has_rest(&instance, &Rest::of(&instance, &left), &front, &BEHIND_3));
+    Ok(())
 }
 
 /// Two jobs of the instance with two machines, and when they leave the second.
 static ENDS: [(&[u16], u64); 2] = [(&[2, 1], 7), (&[1, 2], 9)];
 
-/// Whether two jobs leave the second machine so.
-fn ends_at(alloc: Global, row: &(&[u16], u64)) -> bool {
-    let Ok(instance) = two_machines(alloc) else {
-        return false;
-    };
-    match node(&instance, row.0) {
-        Some((front, _left)) => front.at(2) == row.1,
-        None => false,
-    }
-}
-
 #[test]
-fn two_jobs_end_sooner_with_the_second_first(rt: HostRuntime) {
-    for (number, row) in ENDS.iter().enumerate() {
-        assert!(rt; ends_at(rt.alloc(), row), "row {number}");
+fn two_jobs_end_sooner_with_the_second_first(rt: HostRuntime) -> Result<(), Fail> {
+    let instance = two_machines(rt.alloc())?;
+    for (jobs, end) in &ENDS {
+        let (front, _left) = node(&instance, jobs).ok_or("no node")?;
+        assert_eq!(rt; front.at(2), *end, "{jobs:?}");
     }
+    Ok(())
 }
 
 /// Whether these makespans were found.
@@ -243,23 +206,17 @@ static INSERTIONS: [Inserted; 3] = [
     (&[1, 2, 3], 0, &[8]),
 ];
 
-/// Whether a job of the instance with three machines is put in so.
-fn is_inserted(alloc: Global, row: &Inserted) -> bool {
-    let (jobs, count, spans) = *row;
-    let Ok(instance) = three_machines(alloc) else {
-        return false;
-    };
-    match Sequence::new(alloc, &instance, jobs) {
-        Ok(sequence) => has_spans(alloc, &instance, &sequence, count, spans),
-        Err(_) => false,
-    }
-}
-
 #[test]
-fn insertions_are_the_worked_ones(rt: HostRuntime) {
-    for (number, row) in INSERTIONS.iter().enumerate() {
-        assert!(rt; is_inserted(rt.alloc(), row), "row {number}");
+fn insertions_are_the_worked_ones(rt: HostRuntime) -> Result<(), Fail> {
+    let instance = three_machines(rt.alloc())?;
+    for (jobs, count, spans) in &INSERTIONS {
+        let sequence = Sequence::new(rt.alloc(), &instance, jobs)?;
+        assert!(rt;
+            has_spans(rt.alloc(), &instance, &sequence, *count, spans),
+            "{count} of {jobs:?}"
+        );
     }
+    Ok(())
 }
 
 /// Starting sequences and their makespans.
@@ -270,22 +227,14 @@ static STARTS: [(Shop, &[u16], u64); 4] = [
     (ONE_JOB, &[1], 99),
 ];
 
-/// Whether the starting sequence of an instance has these jobs and this makespan.
-fn starts_with(alloc: Global, row: &(Shop, &[u16], u64)) -> bool {
-    let Ok(instance) = made(alloc, row.0) else {
-        return false;
-    };
-    match neh(alloc, &instance) {
-        Ok((sequence, makespan)) => sequence.jobs() == row.1 && makespan == row.2,
-        Err(_) => false,
-    }
-}
-
 #[test]
-fn starting_sequences_are_the_worked_ones(rt: HostRuntime) {
-    for (number, row) in STARTS.iter().enumerate() {
-        assert!(rt; starts_with(rt.alloc(), row), "row {number}");
+fn starting_sequences_are_the_worked_ones(rt: HostRuntime) -> Result<(), Fail> {
+    for (shop, jobs, makespan) in &STARTS {
+        let instance = made(rt.alloc(), *shop)?;
+        let (sequence, found) = neh(rt.alloc(), &instance)?;
+        assert_eq!(rt; (sequence.jobs(), found), (*jobs, *makespan));
     }
+    Ok(())
 }
 
 /// Instances and their bounds. That of the last was published with the instance.
@@ -297,17 +246,11 @@ static TAILLARD_BOUNDS: [(Shop, u64); 5] = [
     (Shop::Seed(20, 5, 873_654_221), 1_232),
 ];
 
-/// Whether an instance has this bound.
-fn has_bound(alloc: Global, row: &(Shop, u64)) -> bool {
-    match made(alloc, row.0) {
-        Ok(instance) => taillard_bound(&instance) == row.1,
-        Err(_) => false,
-    }
-}
-
 #[test]
-fn taillard_bounds_are_the_worked_ones(rt: HostRuntime) {
-    for (number, row) in TAILLARD_BOUNDS.iter().enumerate() {
-        assert!(rt; has_bound(rt.alloc(), row), "row {number}");
+fn taillard_bounds_are_the_worked_ones(rt: HostRuntime) -> Result<(), Fail> {
+    for (number, (shop, bound)) in TAILLARD_BOUNDS.iter().enumerate() {
+        let instance = made(rt.alloc(), *shop)?;
+        assert_eq!(rt; taillard_bound(&instance), *bound, "row {number}");
     }
+    Ok(())
 }

@@ -18,19 +18,21 @@ static PUT: [Put; 2] = [
     (200, Ok(()), TWO_MACHINES_TEXT),
 ];
 
-/// Whether a sink that takes so many bytes gives this answer for a text, and has these bytes then.
-fn puts(alloc: Global, row: &Put) -> bool {
-    let (limit, answer, bytes) = *row;
-    let mut sink = MemorySink::new(alloc, limit);
-    let was_failed = sink.failed();
-    let found = put_all(&mut sink, TWO_MACHINES_TEXT);
-    !was_failed && found == answer && sink.bytes() == bytes && sink.failed() == answer.is_err()
-}
-
 #[test]
 fn put_all_puts_what_the_sink_takes(rt: HostRuntime) {
-    for (number, row) in PUT.iter().enumerate() {
-        assert!(rt; puts(rt.alloc(), row), "row {number}");
+    for (limit, answer, bytes) in &PUT {
+        let mut sink = MemorySink::new(rt.alloc(), *limit);
+        assert!(rt; !sink.failed());
+        assert_eq!(rt;
+            put_all(&mut sink, TWO_MACHINES_TEXT),
+            *answer,
+            "up to {limit}"
+        );
+        assert_eq!(rt;
+            (sink.bytes(), sink.failed()),
+            (*bytes, answer.is_err()),
+            "up to {limit}"
+        );
     }
 }
 
@@ -68,26 +70,31 @@ static READ: [Listed; 6] = [
     (b"abc", 2, 4, None, Err(ReadFault::TooLong)),
 ];
 
-/// Whether five bytes are read so, by `read_all` too where both limits are one.
-fn reads_five(alloc: Global, row: &Listed) -> bool {
-    let (begin, limit, long, most, answer) = *row;
-    let mut source = MemorySource::new(b"abcde", 2, most);
-    let was_failed = source.failed();
-    let found = match read_by_begin(alloc, &mut source, begin, limit, long.max(limit)) {
-        Ok(bytes) => answer == Ok(bytes.as_slice()),
-        Err(fault) => answer == Err(fault),
-    };
-    let mut other = MemorySource::new(b"abcde", 2, most);
-    !was_failed
-        && found
-        && source.failed() == most.is_some()
-        && (limit != long || reads(alloc, &mut other, limit, answer))
-}
-
+/// The bytes are read by `read_all` too where both limits are one.
 #[test]
 fn bytes_are_read_to_the_end_or_up_to_the_limit(rt: HostRuntime) {
-    for (number, row) in READ.iter().enumerate() {
-        assert!(rt; reads_five(rt.alloc(), row), "row {number}");
+    for (number, (begin, limit, long, most, answer)) in READ.iter().enumerate() {
+        let mut source = MemorySource::new(b"abcde", 2, *most);
+        assert!(rt; !source.failed());
+        let found = match read_by_begin(
+            rt.alloc(),
+            &mut source,
+            begin,
+            *limit,
+            (*long).max(*limit),
+        ) {
+            Ok(bytes) => *answer == Ok(bytes.as_slice()),
+            Err(fault) => *answer == Err(fault),
+        };
+        assert!(rt; found, "row {number}");
+        assert_eq!(rt; source.failed(), most.is_some(), "row {number}");
+        let mut other = MemorySource::new(b"abcde", 2, *most);
+        if *limit == *long {
+            assert!(rt;
+                reads(rt.alloc(), &mut other, *limit, *answer),
+                "row {number}"
+            );
+        }
     }
 }
 
@@ -115,39 +122,27 @@ impl Source for Endless {
     }
 }
 
-/// Whether `read_all` stops an endless source behind the first byte over its limit.
-fn asks_once_more(alloc: Global) -> bool {
-    let mut source = Endless { calls: 0 };
-    reads(alloc, &mut source, 5, Err(ReadFault::TooLong)) && source.calls == 6
-}
-
+/// `read_all` stops an endless source behind the first byte over its limit.
 #[test]
 fn read_all_asks_once_more_than_its_limit(rt: HostRuntime) {
-    assert!(rt; asks_once_more(rt.alloc()));
-}
-
-/// Whether a reader of the library is read to its end.
-fn is_read(alloc: Global) -> bool {
-    let mut source = StdSource::new(b"flow shop".as_slice());
-    !source.failed() && reads(alloc, &mut source, 100, Ok(b"flow shop"))
+    let mut source = Endless { calls: 0 };
+    assert!(rt; reads(rt.alloc(), &mut source, 5, Err(ReadFault::TooLong)));
+    assert_eq!(rt; source.calls, 6);
 }
 
 #[test]
 fn readers_of_the_library_are_sources(rt: HostRuntime) {
-    assert!(rt; is_read(rt.alloc()));
-}
-
-/// Whether a writer of the library takes all bytes.
-fn is_written(alloc: Global) -> bool {
-    let mut kept: Vec<u8> = Vec::new(alloc);
-    let mut sink = StdSink::new(&mut kept);
-    let is_put = !sink.failed() && put_all(&mut sink, b"flow shop").is_ok() && !sink.failed();
-    is_put && kept.as_slice() == b"flow shop".as_slice()
+    let mut source = StdSource::new(b"flow shop".as_slice());
+    assert!(rt; !source.failed());
+    assert!(rt; reads(rt.alloc(), &mut source, 100, Ok(b"flow shop")));
 }
 
 #[test]
 fn writers_of_the_library_are_sinks(rt: HostRuntime) {
-    assert!(rt; is_written(rt.alloc()));
+    let mut kept: Vec<u8> = Vec::new(rt.alloc());
+    let mut sink = StdSink::new(&mut kept);
+    assert!(rt; !sink.failed() && put_all(&mut sink, b"flow shop").is_ok() && !sink.failed());
+    assert_eq!(rt; kept.as_slice(), b"flow shop".as_slice());
 }
 
 /// Gives its bytes in pieces, each after so many interrupted reads, and then ends or fails. It counts its reads.
@@ -208,65 +203,39 @@ fn refuses<R: Read>(source: &mut StdSource<R>) -> bool {
     !source.failed() && source.get(&mut buffer) == Err(Refused) && source.failed()
 }
 
-/// Whether a source reads on behind 999 interruptions of each read: three pieces and the end.
-fn reads_on(alloc: Global) -> bool {
-    let mut reader = FakeReader::new(b"flow shop", 3, 999, false);
-    let mut source = StdSource::new(&mut reader);
-    let is_read = gives(&mut source, b"flo")
-        && !source.failed()
-        && reads(alloc, &mut source, 100, Ok(b"w shop"));
-    is_read && reader.reads == 4_000
-}
-
-/// Whether a source refuses behind 1,000 interruptions.
-fn gives_up() -> bool {
-    let mut reader = FakeReader::new(b"flow shop", 3, 1_000, false);
-    let refused = refuses(&mut StdSource::new(&mut reader));
-    refused && reader.reads == 1_000
-}
-
+/// A source reads on behind 999 interruptions of each read, three pieces and the end; and refuses behind 1,000.
 #[test]
 fn std_source_reads_again_where_it_was_interrupted(rt: HostRuntime) {
-    assert!(rt; reads_on(rt.alloc()) && gives_up());
-}
-
-/// Whether a source refuses once its reader fails, and does not ask again.
-fn refuses_once() -> bool {
-    let mut reader = FakeReader::new(b"flow", 3, 0, true);
+    let mut reader = FakeReader::new(b"flow shop", 3, 999, false);
     let mut source = StdSource::new(&mut reader);
-    let refused = gives(&mut source, b"flo") && gives(&mut source, b"w") && refuses(&mut source);
-    refused && reader.reads == 3
+    assert!(rt; gives(&mut source, b"flo") && !source.failed());
+    assert!(rt; reads(rt.alloc(), &mut source, 100, Ok(b"w shop")));
+    assert_eq!(rt; reader.reads, 4_000);
+    let mut reader = FakeReader::new(b"flow shop", 3, 1_000, false);
+    assert!(rt; refuses(&mut StdSource::new(&mut reader)));
+    assert_eq!(rt; reader.reads, 1_000);
 }
 
+/// A source does not ask again once its reader has failed.
 #[test]
 fn std_source_refuses_where_its_reader_fails(rt: HostRuntime) {
-    assert!(rt; refuses_once());
-}
-
-/// Whether `read_all` names the fault of a reader, and the source has failed then.
-fn names_fault(alloc: Global) -> bool {
-    let mut source = StdSource::new(FakeReader::new(b"flow", 3, 0, true));
-    !source.failed() && reads(alloc, &mut source, 100, Err(ReadFault::Device)) && source.failed()
+    let mut reader = FakeReader::new(b"flow", 3, 0, true);
+    let mut source = StdSource::new(&mut reader);
+    assert!(rt; gives(&mut source, b"flo") && gives(&mut source, b"w") && refuses(&mut source));
+    assert_eq!(rt; reader.reads, 3);
 }
 
 #[test]
 fn read_all_names_the_fault_of_a_reader(rt: HostRuntime) {
-    assert!(rt; names_fault(rt.alloc()));
+    let mut source = StdSource::new(FakeReader::new(b"flow", 3, 0, true));
+    assert!(rt; !source.failed());
+    assert!(rt; reads(rt.alloc(), &mut source, 100, Err(ReadFault::Device)));
+    assert!(rt; source.failed());
 }
 
 /// `count` bytes, each different from the one before it.
 fn many_bytes(alloc: Global, count: u32) -> Result<Vec<u8>, AllocError> {
-    let mut bytes = Vec::new(alloc);
-    for index in 0..count {
-        bytes.push((index % 251) as u8)?;
-    }
-    Ok(bytes)
-}
-
-/// Whether a source gives all bytes of a reader that gives pieces of this length.
-fn gives_all(alloc: Global, bytes: &[u8], piece: usize) -> bool {
-    let mut source = StdSource::new(FakeReader::new(bytes, piece, 0, false));
-    !source.failed() && reads(alloc, &mut source, 140_000, Ok(bytes)) && !source.failed()
+    (0..count).map(|index| (index % 251) as u8).collect(alloc)
 }
 
 /// The lengths of pieces.
@@ -276,10 +245,13 @@ static PIECES: [usize; 5] = [1, 1_000, 65_536, 65_537, 140_000];
 fn std_source_gives_every_piece(rt: HostRuntime) -> Result<(), AllocError> {
     let bytes = many_bytes(rt.alloc(), 140_000)?;
     for piece in &PIECES {
+        let mut source = StdSource::new(FakeReader::new(bytes.as_slice(), *piece, 0, false));
+        assert!(rt; !source.failed());
         assert!(rt;
-            gives_all(rt.alloc(), bytes.as_slice(), *piece),
+            reads(rt.alloc(), &mut source, 140_000, Ok(bytes.as_slice())),
             "pieces of {piece}"
         );
+        assert!(rt; !source.failed());
     }
     Ok(())
 }
@@ -346,21 +318,24 @@ static WRITTEN: [Written; 7] = [
     (0, 9, 0, b"", 1),
 ];
 
-/// Whether a sink over a writer puts nine bytes so.
-fn writes(alloc: Global, row: &Written) -> bool {
-    let (interruptions, piece, limit, kept, writes) = *row;
-    let is_whole = kept.len() == 9;
-    let mut writer = FakeWriter::new(alloc, piece, interruptions, limit);
-    let mut sink = StdSink::new(&mut writer);
-    let is_right = !sink.failed()
-        && put_all(&mut sink, b"flow shop").is_ok() == is_whole
-        && sink.failed() != is_whole;
-    is_right && writer.bytes.as_slice() == kept && writer.writes == writes
-}
-
+/// A sink over a writer puts nine bytes.
 #[test]
 fn std_sink_writes_again_until_its_writer_refuses(rt: HostRuntime) {
-    for (number, row) in WRITTEN.iter().enumerate() {
-        assert!(rt; writes(rt.alloc(), row), "row {number}");
+    for (number, (interruptions, piece, limit, kept, writes)) in WRITTEN.iter().enumerate() {
+        let is_whole = kept.len() == 9;
+        let mut writer = FakeWriter::new(rt.alloc(), *piece, *interruptions, *limit);
+        let mut sink = StdSink::new(&mut writer);
+        assert!(rt; !sink.failed());
+        assert_eq!(rt;
+            put_all(&mut sink, b"flow shop").is_ok(),
+            is_whole,
+            "row {number}"
+        );
+        assert_eq!(rt; sink.failed(), !is_whole, "row {number}");
+        assert_eq!(rt;
+            (writer.bytes.as_slice(), writer.writes),
+            (*kept, *writes),
+            "row {number}"
+        );
     }
 }

@@ -4,6 +4,7 @@ use crate::changes::{Change, close_texts};
 use crate::parts::{are_digits, number_of, parts};
 use flow_core::{Block, TextFault, read_blocks};
 use std::alloc::{AllocError, Global};
+use std::test::Fail;
 
 /// Two blocks, whose numbers are spread over lines. The seed is the greatest number, and one time is near the limit.
 const TWO_BLOCKS: &[u8] = b"a\n2 1 4294967295\t9\n8\r\n\nb c\n899999 06\n d\n1 2 0 10 3\ne\n3\n4\n";
@@ -160,16 +161,6 @@ fn read_line(
     }
 }
 
-/// Reads lines.
-fn read_lines(alloc: Global, reading: &mut Reading, lines: &[&[u8]]) -> Result<(), TextFault> {
-    let mut line: usize = 0;
-    for bytes in lines {
-        line = line.saturating_add(1);
-        read_line(alloc, reading, bytes, line)?;
-    }
-    Ok(())
-}
-
 /// Reads a text line by line.
 fn plain_reading(alloc: Global, text: &[u8]) -> Result<Vec<u32>, TextFault> {
     let Ok(lines) = parts(alloc, text, b"\n") else {
@@ -180,7 +171,9 @@ fn plain_reading(alloc: Global, text: &[u8]) -> Result<Vec<u32>, TextFault> {
         missing: 0,
         numbers: Vec::new(alloc),
     };
-    read_lines(alloc, &mut reading, lines.as_slice())?;
+    for (number, line) in lines.iter().enumerate() {
+        read_line(alloc, &mut reading, line, number.saturating_add(1))?;
+    }
     let mut line = lines.len();
     // What stands behind the last LF is a line only where it has bytes.
     if !text.ends_with(b"\n") && !text.is_empty() {
@@ -210,39 +203,12 @@ fn numbers_of_blocks(alloc: Global, blocks: &[Block]) -> Result<Vec<u32>, AllocE
     Ok(numbers)
 }
 
-/// Whether a plain reading brings the numbers of these blocks.
-fn are_numbers(alloc: Global, blocks: &[Block], plain: &Result<Vec<u32>, TextFault>) -> bool {
-    let Ok(found) = numbers_of_blocks(alloc, blocks) else {
-        return false;
-    };
-    match plain {
-        Ok(numbers) => numbers.as_slice() == found.as_slice(),
-        Err(_) => false,
+/// The numbers of the blocks that a text is read as, or its first fault.
+fn answer_of(alloc: Global, text: &[u8]) -> Result<Result<Vec<u32>, TextFault>, AllocError> {
+    match read_blocks(alloc, text) {
+        Ok(blocks) => Ok(Ok(numbers_of_blocks(alloc, blocks.as_slice())?)),
+        Err(fault) => Ok(Err(fault)),
     }
-}
-
-/// Whether a text is read; none where `read_blocks` and the plain reading differ.
-fn is_read(alloc: Global, text: &[u8]) -> Option<bool> {
-    let plain = plain_reading(alloc, text);
-    let (is_read, is_same) = match read_blocks(alloc, text) {
-        Ok(blocks) => (true, are_numbers(alloc, blocks.as_slice(), &plain)),
-        Err(fault) => (false, plain.err() == Some(fault)),
-    };
-    if is_same { Some(is_read) } else { None }
-}
-
-/// How many of the texts that are close to the one with two blocks are read; none where the two readings differ.
-fn read(alloc: Global, change: Change) -> Option<usize> {
-    let Ok(texts) = close_texts(alloc, change, TWO_BLOCKS) else {
-        return None;
-    };
-    let mut count: usize = 0;
-    for text in &texts {
-        if is_read(alloc, text.as_slice())? {
-            count = count.saturating_add(1);
-        }
-    }
-    Some(count)
 }
 
 /// How many close texts are read, counted by another reading, a script over the words of `docs/formats.md`.
@@ -254,9 +220,17 @@ static READ: [(Change, usize); 4] = [
 ];
 
 #[test]
-fn changed_texts_are_read_as_by_the_plain_reading(rt: HostRuntime) {
-    assert!(rt; is_read(rt.alloc(), TWO_BLOCKS) == Some(true));
+fn changed_texts_are_read_as_by_the_plain_reading(rt: HostRuntime) -> Result<(), Fail> {
+    assert!(rt; answer_of(rt.alloc(), TWO_BLOCKS)?.is_ok());
     for (number, (change, count)) in READ.iter().enumerate() {
-        assert!(rt; read(rt.alloc(), *change) == Some(*count), "row {number}");
+        let mut read: usize = 0;
+        for text in &close_texts(rt.alloc(), *change, TWO_BLOCKS)? {
+            let answer = answer_of(rt.alloc(), text.as_slice())?;
+            let plain = plain_reading(rt.alloc(), text.as_slice());
+            assert!(rt; answer == plain, "row {number}: {text:?}");
+            read = read.saturating_add(usize::from(answer.is_ok()));
+        }
+        assert_eq!(rt; read, *count, "row {number}");
     }
+    Ok(())
 }

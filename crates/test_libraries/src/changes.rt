@@ -30,17 +30,19 @@ pub fn replaced(
     Ok(close)
 }
 
-/// Puts a text with some bytes in place of `count` of its own behind others.
-fn put(
-    close: &mut Vec<Vec<u8>>,
+/// A text of lines, given without their ends, with other bytes as one of them, counted from 1.
+pub fn with_line(
     alloc: Global,
-    text: &[u8],
-    place: usize,
-    count: usize,
+    lines: &[&[u8]],
+    changed: usize,
     bytes: &[u8],
-) -> Result<(), AllocError> {
-    close.push(replaced(alloc, text, place, count, bytes)?)?;
-    Ok(())
+) -> Result<Vec<u8>, AllocError> {
+    let mut text = Vec::new(alloc);
+    for (index, line) in lines.iter().enumerate() {
+        text.extend_from_slice(if index + 1 == changed { bytes } else { line })?;
+        text.push(b'\n')?;
+    }
+    Ok(text)
 }
 
 /// Puts the texts with another byte in a place behind others.
@@ -53,37 +55,26 @@ fn put_others(
 ) -> Result<(), AllocError> {
     for other in 0..=255u8 {
         if other != byte {
-            put(close, alloc, text, place, 1, &[other])?;
+            close.push(replaced(alloc, text, place, 1, &[other])?)?;
         }
     }
     Ok(())
-}
-
-/// Puts the texts that are changed so in a place, where this byte is, behind others.
-fn put_changed(
-    close: &mut Vec<Vec<u8>>,
-    alloc: Global,
-    change: Change,
-    text: &[u8],
-    place: usize,
-    byte: u8,
-) -> Result<(), AllocError> {
-    match change {
-        Change::Other => put_others(close, alloc, text, place, byte),
-        Change::Lost => put(close, alloc, text, place, 1, b""),
-        Change::Doubled => put(close, alloc, text, place, 0, &[byte]),
-        Change::Swapped => match text.get(place.saturating_add(1)) {
-            Some(next) => put(close, alloc, text, place, 2, &[*next, byte]),
-            None => Ok(()),
-        },
-    }
 }
 
 /// The texts that are changed so in one place.
 pub fn close_texts(alloc: Global, change: Change, text: &[u8]) -> Result<Vec<Vec<u8>>, AllocError> {
     let mut close = Vec::new(alloc);
     for (place, byte) in text.iter().enumerate() {
-        put_changed(&mut close, alloc, change, text, place, *byte)?;
+        match change {
+            Change::Other => put_others(&mut close, alloc, text, place, *byte)?,
+            Change::Lost => close.push(replaced(alloc, text, place, 1, b"")?)?,
+            Change::Doubled => close.push(replaced(alloc, text, place, 0, &[*byte])?)?,
+            Change::Swapped => {
+                if let Some(next) = text.get(place.saturating_add(1)) {
+                    close.push(replaced(alloc, text, place, 2, &[*next, *byte])?)?;
+                }
+            }
+        }
     }
     Ok(close)
 }

@@ -1,10 +1,11 @@
 //! The checker.
 
+use crate::changes::{Change, close_texts, replaced, with_line};
 use crate::instances::{CERTIFICATE_AT_DEPTH_0, three_machines};
 use crate::shops::{Shop, made};
 use flow_check::{CheckFault, check};
-use flow_core::Instance;
 use std::alloc::{AllocError, Global};
+use std::test::Fail;
 
 /// The first line of version 1.
 const TITLE: &[u8] = b"flowshop certificate 1\n";
@@ -15,215 +16,95 @@ const TITLE_2: &[u8] = b"flowshop certificate 2\n";
 /// An instance, a first line, what stands behind it, and the answer.
 type Row = (Shop, &'static [u8], &'static [u8], Result<u64, CheckFault>);
 
-/// Whether the checker answers so, where these bytes stand behind a first line.
-fn answers(
-    alloc: Global,
-    instance: &Instance,
-    title: &[u8],
-    rest: &[u8],
-    answer: Result<u64, CheckFault>,
-) -> bool {
-    let Ok(mut text) = Vec::from_slice(alloc, title) else {
-        return false;
-    };
-    text.extend_from_slice(rest).is_ok() && check(alloc, instance, text.as_slice()) == answer
-}
-
 /// One job on one machine, with time 0.
 const ONE_JOB: Shop = Shop::Times(1, 1, &[0]);
 
-static ANSWERS: [Row; 24] = [
-    (
-        Shop::Three,
-        TITLE,
-        b"3 3 0\n12\n3 1 2\n+BC++.B\nend\n",
-        Ok(12),
-    ),
-    (
-        Shop::Three,
-        TITLE,
-        b"3 3 1\n12\n3 1 2\nB\nC\n++.B\nend\n",
-        Ok(12),
-    ),
-    (
-        Shop::Three,
-        TITLE,
-        b"3 3 2\n12\n3 1 2\nB\nB\nC\nB\n+.\nB\nend\n",
-        Ok(12),
-    ),
-    (
-        Shop::Three,
-        TITLE,
-        b"3 3 3\n12\n3 1 2\n.\n.\n.\n.\n.\n.\nend\n",
-        Ok(12),
-    ),
-    (
-        Shop::Three,
-        TITLE,
-        b"3 3 0\n12\n3 1 2\n+B+CB+AB\nend\n",
-        Ok(12),
-    ),
-    (ONE_JOB, TITLE, b"1 1 0\n0\n1\nA\nend\n", Ok(0)),
+static ANSWERS: [Row; 24] = rows! {
+    Shop::Three, TITLE, b"3 3 0\n12\n3 1 2\n+BC++.B\nend\n", Ok(12);
+    Shop::Three, TITLE, b"3 3 1\n12\n3 1 2\nB\nC\n++.B\nend\n", Ok(12);
+    Shop::Three, TITLE, b"3 3 2\n12\n3 1 2\nB\nB\nC\nB\n+.\nB\nend\n", Ok(12);
+    Shop::Three, TITLE, b"3 3 3\n12\n3 1 2\n.\n.\n.\n.\n.\n.\nend\n", Ok(12);
+    Shop::Three, TITLE, b"3 3 0\n12\n3 1 2\n+B+CB+AB\nend\n", Ok(12);
+    ONE_JOB, TITLE, b"1 1 0\n0\n1\nA\nend\n", Ok(0);
     // Depths up to the jobs.
-    (ONE_JOB, TITLE, b"1 1 1\n0\n1\n.\nend\n", Ok(0)),
-    (
-        ONE_JOB,
-        TITLE,
-        b"1 1 2\n0\n1\n.\nend\n",
-        Err(CheckFault::Size),
-    ),
+    ONE_JOB, TITLE, b"1 1 1\n0\n1\n.\nend\n", Ok(0);
+    ONE_JOB, TITLE, b"1 1 2\n0\n1\n.\nend\n", Err(CheckFault::Size);
     // At the empty list machine 2 has the bound 8, and once it is released by machine 1 the bound 9.
-    (Shop::Two, TITLE_2, b"3 2 0\n9\n2 3 1\nB\nend\n", Ok(9)),
-    (
-        Shop::Two,
-        TITLE,
-        b"3 2 0\n9\n2 3 1\nB\nend\n",
-        Err(CheckFault::Weak(5)),
-    ),
-    (Shop::Two, TITLE, b"3 2 0\n9\n2 3 1\n+BBB\nend\n", Ok(9)),
-    (Shop::Two, TITLE_2, b"3 2 0\n9\n2 3 1\n+BBB\nend\n", Ok(9)),
-    (
-        Shop::Two,
-        b"flowshop certificate 3\n",
-        b"3 2 0\n9\n2 3 1\n+BBB\nend\n",
-        Err(CheckFault::Header),
-    ),
+    Shop::Two, TITLE_2, b"3 2 0\n9\n2 3 1\nB\nend\n", Ok(9);
+    Shop::Two, TITLE, b"3 2 0\n9\n2 3 1\nB\nend\n", Err(CheckFault::Weak(5));
+    Shop::Two, TITLE, b"3 2 0\n9\n2 3 1\n+BBB\nend\n", Ok(9);
+    Shop::Two, TITLE_2, b"3 2 0\n9\n2 3 1\n+BBB\nend\n", Ok(9);
+    Shop::Two, b"flowshop certificate 3\n", b"3 2 0\n9\n2 3 1\n+BBB\nend\n", Err(CheckFault::Header);
     // The released bounds are 7, 10 and 7 at the empty list, 8, 10 and 8 at 3, and 12, 12 and 12 at 3 1.
-    (
-        Shop::Three,
-        TITLE_2,
-        b"3 3 0\n12\n3 1 2\n+BC++.B\nend\n",
-        Ok(12),
-    ),
-    (
-        Shop::Three,
-        TITLE_2,
-        b"3 3 1\n12\n3 1 2\nB\nC\n++.B\nend\n",
-        Ok(12),
-    ),
-    (
-        Shop::Three,
-        TITLE_2,
-        b"3 3 0\n12\n3 1 2\nB\nend\n",
-        Err(CheckFault::Weak(5)),
-    ),
-    (
-        Shop::Three,
-        TITLE_2,
-        b"3 3 0\n12\n3 1 2\nC\nend\n",
-        Err(CheckFault::Weak(5)),
-    ),
-    (
-        Shop::Three,
-        TITLE_2,
-        b"3 3 1\n12\n3 1 2\nB\nC\nB\nend\n",
-        Err(CheckFault::Weak(7)),
-    ),
-    (
-        Shop::Three,
-        TITLE_2,
-        b"3 3 0\n12\n3 1 2\n+BC+AB\nend\n",
-        Ok(12),
-    ),
-    (
-        Shop::Three,
-        TITLE_2,
-        b"3 3 0\n12\n3 1 2\n+BC+BB\nend\n",
-        Ok(12),
-    ),
-    (
-        Shop::Three,
-        TITLE_2,
-        b"3 3 0\n12\n3 1 2\n+BC+CB\nend\n",
-        Ok(12),
-    ),
+    Shop::Three, TITLE_2, b"3 3 0\n12\n3 1 2\n+BC++.B\nend\n", Ok(12);
+    Shop::Three, TITLE_2, b"3 3 1\n12\n3 1 2\nB\nC\n++.B\nend\n", Ok(12);
+    Shop::Three, TITLE_2, b"3 3 0\n12\n3 1 2\nB\nend\n", Err(CheckFault::Weak(5));
+    Shop::Three, TITLE_2, b"3 3 0\n12\n3 1 2\nC\nend\n", Err(CheckFault::Weak(5));
+    Shop::Three, TITLE_2, b"3 3 1\n12\n3 1 2\nB\nC\nB\nend\n", Err(CheckFault::Weak(7));
+    Shop::Three, TITLE_2, b"3 3 0\n12\n3 1 2\n+BC+AB\nend\n", Ok(12);
+    Shop::Three, TITLE_2, b"3 3 0\n12\n3 1 2\n+BC+BB\nend\n", Ok(12);
+    Shop::Three, TITLE_2, b"3 3 0\n12\n3 1 2\n+BC+CB\nend\n", Ok(12);
     // At the list 1 3 machine 3 has the bound 9 in version 1. Released by machine 2 it has 14, so that the tree of
     // the first list ends behind it.
-    (
-        Shop::Three,
-        TITLE,
-        b"3 3 1\n12\n3 1 2\n+BC++.B\nend\n",
-        Err(CheckFault::Weak(5)),
-    ),
-    (
-        Shop::Three,
-        TITLE_2,
-        b"3 3 1\n12\n3 1 2\n+BC++.B\nend\n",
-        Err(CheckFault::Tree(5)),
-    ),
-    (
-        Shop::Three,
-        b"flowshop\n",
-        b"3 3\n012\n3 1\nx\nEND\n",
-        Err(CheckFault::Header),
-    ),
-];
-
-/// Whether the checker answers as a row says.
-fn is_answered(alloc: Global, row: &Row) -> bool {
-    let (shop, title, rest, answer) = *row;
-    match made(alloc, shop) {
-        Ok(instance) => answers(alloc, &instance, title, rest, answer),
-        Err(_) => false,
-    }
-}
+    Shop::Three, TITLE, b"3 3 1\n12\n3 1 2\n+BC++.B\nend\n", Err(CheckFault::Weak(5));
+    Shop::Three, TITLE_2, b"3 3 1\n12\n3 1 2\n+BC++.B\nend\n", Err(CheckFault::Tree(5));
+    Shop::Three, b"flowshop\n", b"3 3\n012\n3 1\nx\nEND\n", Err(CheckFault::Header);
+};
 
 #[test]
-fn check_answers_certificates(rt: HostRuntime) {
-    for (number, row) in ANSWERS.iter().enumerate() {
-        assert!(rt; is_answered(rt.alloc(), row), "row {number}");
+fn check_answers_certificates(rt: HostRuntime) -> Result<(), Fail> {
+    for (number, (shop, title, rest, answer)) in ANSWERS.iter().enumerate() {
+        let text = replaced(rt.alloc(), title, title.len(), 0, rest)?;
+        let instance = made(rt.alloc(), *shop)?;
+        assert_eq!(rt;
+            check(rt.alloc(), &instance, text.as_slice()),
+            *answer,
+            "row {number}"
+        );
     }
+    Ok(())
 }
 
 /// What stands behind a first line for the instance with three machines, and its first fault in either version.
-static FIRST_FAULTS: [(&[u8], CheckFault); 18] = [
-    (b"3 3\n012\n3 1\nx\nEND\n", CheckFault::Size),
-    (b"3 3 0\n012\n3 1\nx\nEND\n", CheckFault::Value),
-    (b"3 3 0\n12\n3 1\nx\nEND\n", CheckFault::Sequence),
-    (b"3 3 0\n12\n1 2 3\nx\nEND\n", CheckFault::NotAttained),
-    (b"3 3 0\n12\n3 1 2\nx\nEND\n", CheckFault::Tree(5)),
+static FIRST_FAULTS: [(&[u8], CheckFault); 18] = rows! {
+    b"3 3\n012\n3 1\nx\nEND\n", CheckFault::Size;
+    b"3 3 0\n012\n3 1\nx\nEND\n", CheckFault::Value;
+    b"3 3 0\n12\n3 1\nx\nEND\n", CheckFault::Sequence;
+    b"3 3 0\n12\n1 2 3\nx\nEND\n", CheckFault::NotAttained;
+    b"3 3 0\n12\n3 1 2\nx\nEND\n", CheckFault::Tree(5);
     // The sequence 3 1 2 has the makespan 12, which is below 13, and machine 1 has the bound 12 at 3 1.
-    (b"3 3 0\n13\n2 1 3\n+BC++.B\nend\n", CheckFault::Low(5)),
-    (b"3 3 0\n13\n2 1 3\n+BC++.x\nEND\n", CheckFault::Low(5)),
-    (b"3 3 0\n13\n2 1 3\n+BC++x.\nEND\n", CheckFault::Tree(5)),
-    (b"3 3 0\n13\n2 1 3\n+BC+A.B\nEND\n", CheckFault::Weak(5)),
+    b"3 3 0\n13\n2 1 3\n+BC++.B\nend\n", CheckFault::Low(5);
+    b"3 3 0\n13\n2 1 3\n+BC++.x\nEND\n", CheckFault::Low(5);
+    b"3 3 0\n13\n2 1 3\n+BC++x.\nEND\n", CheckFault::Tree(5);
+    b"3 3 0\n13\n2 1 3\n+BC+A.B\nEND\n", CheckFault::Weak(5);
     // At depth 3 the sequences stand in lexicographic order, and 3 1 2 is the fifth.
-    (
-        b"3 3 3\n13\n2 1 3\n.\n.\n.\n.\n.\n.\nend\n",
-        CheckFault::Low(9),
-    ),
+    b"3 3 3\n13\n2 1 3\n.\n.\n.\n.\n.\n.\nend\n", CheckFault::Low(9);
     // A tree that is weak, missing, or one too many.
-    (b"3 3 1\n12\n3 1 2\nB\nC\n++.A\nend\n", CheckFault::Weak(7)),
-    (b"3 3 1\n12\n3 1 2\nB\nC\nend\n", CheckFault::Tree(7)),
-    (
-        b"3 3 1\n12\n3 1 2\nB\nC\n++.B\n++.B\nend\n",
-        CheckFault::End,
-    ),
-    (b"3 3 1\n12\n3 1 2\nB\nC\n++.B\nend\nx", CheckFault::End),
+    b"3 3 1\n12\n3 1 2\nB\nC\n++.A\nend\n", CheckFault::Weak(7);
+    b"3 3 1\n12\n3 1 2\nB\nC\nend\n", CheckFault::Tree(7);
+    b"3 3 1\n12\n3 1 2\nB\nC\n++.B\n++.B\nend\n", CheckFault::End;
+    b"3 3 1\n12\n3 1 2\nB\nC\n++.B\nend\nx", CheckFault::End;
     // Line ends that are missing.
-    (b"3 3 1\n12\n3 1 2\nBC\n++.B\nend\n", CheckFault::Tree(5)),
-    (b"3 3 1\n12\n3 1 2\nB\nC\n++.Bend\n", CheckFault::Tree(7)),
-    (b"3 3 1\n12\n3 1 2\nB\nC\n++.B", CheckFault::Tree(7)),
-    (b"3 3 1\n12\n3 1 2\nB\nC\n++.B\nend", CheckFault::End),
-];
-
-/// Whether the instance with three machines has this first fault, in either version.
-fn has_fault(alloc: Global, row: &(&[u8], CheckFault)) -> bool {
-    let (rest, fault) = *row;
-    match three_machines(alloc) {
-        Ok(three) => {
-            answers(alloc, &three, TITLE, rest, Err(fault))
-                && answers(alloc, &three, TITLE_2, rest, Err(fault))
-        }
-        Err(_) => false,
-    }
-}
+    b"3 3 1\n12\n3 1 2\nBC\n++.B\nend\n", CheckFault::Tree(5);
+    b"3 3 1\n12\n3 1 2\nB\nC\n++.Bend\n", CheckFault::Tree(7);
+    b"3 3 1\n12\n3 1 2\nB\nC\n++.B", CheckFault::Tree(7);
+    b"3 3 1\n12\n3 1 2\nB\nC\n++.B\nend", CheckFault::End;
+};
 
 #[test]
-fn checker_names_first_fault(rt: HostRuntime) {
-    for (number, row) in FIRST_FAULTS.iter().enumerate() {
-        assert!(rt; has_fault(rt.alloc(), row), "row {number}");
+fn checker_names_first_fault(rt: HostRuntime) -> Result<(), Fail> {
+    let three = three_machines(rt.alloc())?;
+    for (number, (rest, fault)) in FIRST_FAULTS.iter().enumerate() {
+        for title in [TITLE, TITLE_2] {
+            let text = replaced(rt.alloc(), title, title.len(), 0, rest)?;
+            assert_eq!(rt;
+                check(rt.alloc(), &three, text.as_slice()),
+                Err(*fault),
+                "row {number}"
+            );
+        }
     }
+    Ok(())
 }
 
 /// A certificate of the instance with three machines, whose trees are single letters.
@@ -243,30 +124,27 @@ fn answer_of(letter: u8, strong: &[u8], line: usize) -> Result<u64, CheckFault> 
     }
 }
 
-/// Whether the checker answers so where each of the letters is the tree of an index, and no other has changed.
-fn tests_letters(alloc: Global, index: usize, strong: &[u8]) -> bool {
-    let Ok(instance) = three_machines(alloc) else {
-        return false;
-    };
-    for letter in b'A'..=b'D' {
-        let mut text = LETTERS;
-        let place = index.saturating_mul(2).saturating_add(38);
-        if let Some(byte) = text.get_mut(place) {
-            *byte = letter;
-        }
-        let answer = answer_of(letter, strong, index.saturating_add(5));
-        if check(alloc, &instance, &text) != answer {
-            return false;
-        }
-    }
-    true
-}
-
 #[test]
-fn checker_tests_each_single_letter(rt: HostRuntime) {
+fn checker_tests_each_single_letter(rt: HostRuntime) -> Result<(), Fail> {
+    let three = three_machines(rt.alloc())?;
     for (index, strong) in STRONG.iter().enumerate() {
-        assert!(rt; tests_letters(rt.alloc(), index, strong), "at {index}");
+        for letter in b'A'..=b'D' {
+            let text = replaced(
+                rt.alloc(),
+                &LETTERS,
+                index.saturating_mul(2).saturating_add(38),
+                1,
+                &[letter],
+            )?;
+            let answer = answer_of(letter, strong, index + 5);
+            assert_eq!(rt;
+                check(rt.alloc(), &three, text.as_slice()),
+                answer,
+                "{index}: {letter}"
+            );
+        }
     }
+    Ok(())
 }
 
 /// An instance on one machine, the depth, a tree, how many lines have this tree, and the answer.
@@ -274,31 +152,13 @@ type Equal = (Shop, u32, &'static [u8], usize, Result<u64, CheckFault>);
 
 /// 48 jobs have 48 * 47 * 46 = 103,776 lists of three, more than the prefixes of a plan. 4 jobs have 24 lists of three,
 /// and as many of four.
-static EQUAL_TREES: [Equal; 5] = [
-    (Shop::Times(48, 1, &[0; 48]), 3, b"A\n", 103_776, Ok(0)),
-    (
-        Shop::Times(48, 1, &[0; 48]),
-        3,
-        b"A\n",
-        103_775,
-        Err(CheckFault::Tree(103_780)),
-    ),
-    (
-        Shop::Times(48, 1, &[0; 48]),
-        3,
-        b"A\n",
-        103_777,
-        Err(CheckFault::End),
-    ),
-    (Shop::Times(4, 1, &[0; 4]), 3, b"A\n", 24, Ok(0)),
-    (
-        Shop::Times(4, 1, &[0; 4]),
-        4,
-        b".\n",
-        24,
-        Err(CheckFault::Size),
-    ),
-];
+static EQUAL_TREES: [Equal; 5] = rows! {
+    Shop::Times(48, 1, &[0; 48]), 3, b"A\n", 103_776, Ok(0);
+    Shop::Times(48, 1, &[0; 48]), 3, b"A\n", 103_775, Err(CheckFault::Tree(103_780));
+    Shop::Times(48, 1, &[0; 48]), 3, b"A\n", 103_777, Err(CheckFault::End);
+    Shop::Times(4, 1, &[0; 4]), 3, b"A\n", 24, Ok(0);
+    Shop::Times(4, 1, &[0; 4]), 4, b".\n", 24, Err(CheckFault::Size);
+};
 
 /// A text for so many jobs on one machine, whose sequence is 1, 2, .. and whose makespan is 0, with so many lines that
 /// have this tree.
@@ -320,180 +180,88 @@ fn text_of(
     Ok(text)
 }
 
-/// Whether the checker answers so where each tree is the same.
-fn reads_equal_trees(alloc: Global, row: &Equal) -> bool {
-    let (shop, depth, tree, count, answer) = *row;
-    let Ok(instance) = made(alloc, shop) else {
-        return false;
-    };
-    match text_of(alloc, instance.jobs(), depth, tree, count) {
-        Ok(text) => check(alloc, &instance, text.as_slice()) == answer,
-        Err(_) => false,
+#[test]
+fn checker_reads_a_tree_for_each_list_of_the_depth(rt: HostRuntime) -> Result<(), Fail> {
+    for (number, (shop, depth, tree, count, answer)) in EQUAL_TREES.iter().enumerate() {
+        let instance = made(rt.alloc(), *shop)?;
+        let text = text_of(rt.alloc(), instance.jobs(), *depth, tree, *count)?;
+        assert_eq!(rt;
+            check(rt.alloc(), &instance, text.as_slice()),
+            *answer,
+            "row {number}"
+        );
     }
+    Ok(())
 }
+
+/// The first lines of both versions, and the other lines of the certificate at depth 0, without their ends.
+static LINES: [[&[u8]; 6]; 2] = [
+    [
+        b"flowshop certificate 1",
+        b"3 3 0",
+        b"12",
+        b"3 1 2",
+        b"+BC++.B",
+        b"end",
+    ],
+    [
+        b"flowshop certificate 2",
+        b"3 3 0",
+        b"12",
+        b"3 1 2",
+        b"+BC++.B",
+        b"end",
+    ],
+];
 
 #[test]
-fn checker_reads_a_tree_for_each_list_of_the_depth(rt: HostRuntime) {
-    for (number, row) in EQUAL_TREES.iter().enumerate() {
-        assert!(rt; reads_equal_trees(rt.alloc(), row), "row {number}");
-    }
-}
-
-/// The lines of the certificate at depth 0 behind the first, without their ends.
-static LINES_AT_DEPTH_0: [&[u8]; 5] = [b"3 3 0", b"12", b"3 1 2", b"+BC++.B", b"end"];
-
-/// The certificate at depth 0 behind a first line, with other bytes as one of its lines, counted from 1.
-fn with_line(
-    alloc: Global,
-    title: &[u8],
-    changed: usize,
-    bytes: &[u8],
-) -> Result<Vec<u8>, AllocError> {
-    let mut text = Vec::new(alloc);
-    if changed == 1 {
-        text.extend_from_slice(bytes)?;
-        text.push(b'\n')?;
-    } else {
-        text.extend_from_slice(title)?;
-    }
-    for (index, line) in LINES_AT_DEPTH_0.iter().enumerate() {
-        let kept = if index + 2 == changed { bytes } else { line };
-        text.extend_from_slice(kept)?;
-        text.push(b'\n')?;
-    }
-    Ok(text)
-}
-
-/// Whether the certificate at depth 0 has these bytes as this line.
-fn is_line(alloc: Global, title: &[u8], number: usize, bytes: &[u8]) -> bool {
-    match with_line(alloc, title, number, bytes) {
-        Ok(text) => text.as_slice() == CERTIFICATE_AT_DEPTH_0.as_slice(),
-        Err(_) => false,
-    }
-}
-
-#[test]
-fn lines_make_the_certificate(rt: HostRuntime) {
-    assert!(rt; is_line(rt.alloc(), TITLE_2, 1, b"flowshop certificate 1"));
-    for (index, line) in LINES_AT_DEPTH_0.iter().enumerate() {
-        assert!(rt; is_line(rt.alloc(), TITLE, index + 2, line), "line {index}");
-    }
+fn lines_make_the_certificate(rt: HostRuntime) -> Result<(), Fail> {
+    let text = with_line(rt.alloc(), &LINES[0], 0, b"")?;
+    assert_eq!(rt; text.as_slice(), CERTIFICATE_AT_DEPTH_0.as_slice());
+    Ok(())
 }
 
 /// The number of a line, its fault, and bytes that have this fault in either version as that line of the certificate at
 /// depth 0.
 type Changed = (usize, CheckFault, &'static [&'static [u8]]);
 
-static CHANGED_LINES: [Changed; 9] = [
-    (
-        1,
-        CheckFault::Header,
-        &[
-            b"",
-            b"flowshop certificate 3",
-            b"flowshop certificate 0",
-            b"flowshop certificate 01",
-            b"flowshop certificate",
-            b"Flowshop certificate 1",
-            b"flowshop certificate 1 ",
-            b"flowshop certificate 1\r",
-        ],
-    ),
-    (
-        2,
-        CheckFault::Size,
-        &[
-            b"", b"3 3", b"3 3 0 0", b"3 3 4", b"2 3 0", b"3 2 0", b"03 3 0", b"3 03 0", b"3 3 00",
-            b"3  3 0", b" 3 3 0", b"3 3 0 ", b"3 3 +0", b"3 3 0\r",
-        ],
-    ),
-    (
-        3,
-        CheckFault::Value,
-        &[
-            b"",
-            b"012",
-            b"12 ",
-            b"12 12",
-            b"12\r",
-            b"18446744073709551616",
-        ],
-    ),
-    (
-        3,
-        CheckFault::NotAttained,
-        &[b"18446744073709551615", b"13", b"11"],
-    ),
-    (
-        4,
-        CheckFault::Sequence,
-        &[
-            b"", b"3 1", b"3 1 2 2", b"3 1 1", b"3 1 0", b"3 1 4", b"3 1 02", b"3  1 2", b"3 1 2 ",
-            b"3 1 2\r",
-        ],
-    ),
-    (4, CheckFault::NotAttained, &[b"1 2 3"]),
+static CHANGED_LINES: [Changed; 11] = rows! {
+    1, CheckFault::Header, &[b"", b"flowshop certificate 3", b"flowshop certificate 0", b"flowshop certificate 01",
+        b"flowshop certificate", b"Flowshop certificate 1", b"flowshop certificate 1 ", b"flowshop certificate 1\r"];
+    2, CheckFault::Size, &[b"", b"3 3", b"3 3 0 0", b"3 3 4", b"2 3 0", b"3 2 0", b"03 3 0", b"3 03 0", b"3 3 00",
+        b"3  3 0", b" 3 3 0", b"3 3 0 ", b"3 3 +0", b"3 3 0\r"];
+    3, CheckFault::Value, &[b"", b"012", b"12 ", b"12 12", b"12\r", b"18446744073709551616"];
+    3, CheckFault::NotAttained, &[b"18446744073709551615", b"13", b"11"];
+    4, CheckFault::Sequence, &[b"", b"3 1", b"3 1 2 2", b"3 1 1", b"3 1 0", b"3 1 4", b"3 1 02", b"3  1 2", b"3 1 2 ",
+        b"3 1 2\r"];
+    4, CheckFault::NotAttained, &[b"1 2 3"];
     // The bound of machine 1 is 7 at the empty list, and 8 at 3 2.
-    (5, CheckFault::Weak(5), &[b"A", b"Ax", b"+BAx", b"+BC++.A"]),
-    (
-        5,
-        CheckFault::Tree(5),
-        &[
-            // No byte of a tree, and no machine of the instance.
-            b"xA",
-            b"+BxA",
-            b"D",
-            b"@",
-            b"b",
-            b" +BC++.B",
-            // A point where jobs are left; a plus and a letter where none is left.
-            b".",
-            b"+BC+..",
-            b"+BC+++B",
-            b"+BC++BB",
-            // The end of the line within a tree.
-            b"",
-            b"+BC++.",
-            // A byte behind a whole tree.
-            b"+BC++.BA",
-            b"+BC++.B ",
-            b"+BC++.B\r",
-            b"+BC++.Bend",
-        ],
-    ),
-    (6, CheckFault::End, &[b"", b"END", b"end\r"]),
-];
-
-/// Whether the certificate at depth 0 behind this first line has this fault with these bytes as a line.
-fn is_faulty(alloc: Global, title: &[u8], line: usize, bytes: &[u8], fault: CheckFault) -> bool {
-    let Ok(instance) = three_machines(alloc) else {
-        return false;
-    };
-    match with_line(alloc, title, line, bytes) {
-        Ok(text) => check(alloc, &instance, text.as_slice()) == Err(fault),
-        Err(_) => false,
-    }
-}
-
-/// The first of the changed lines of a row that has another fault in either version.
-fn first_other(alloc: Global, row: &Changed) -> Option<&'static [u8]> {
-    let (line, fault, changes) = *row;
-    for bytes in changes {
-        if !is_faulty(alloc, TITLE, line, bytes, fault)
-            || !is_faulty(alloc, TITLE_2, line, bytes, fault)
-        {
-            return Some(*bytes);
-        }
-    }
-    None
-}
+    5, CheckFault::Weak(5), &[b"A", b"Ax", b"+BAx", b"+BC++.A"];
+    // No byte of a tree, and no machine of the instance.
+    5, CheckFault::Tree(5), &[b"xA", b"+BxA", b"D", b"@", b"b", b" +BC++.B"];
+    // A point where jobs are left; a plus and a letter where none is left.
+    5, CheckFault::Tree(5), &[b".", b"+BC+..", b"+BC+++B", b"+BC++BB"];
+    // The end of the line within a tree; a byte behind a whole tree.
+    5, CheckFault::Tree(5), &[b"", b"+BC++.", b"+BC++.BA", b"+BC++.B ", b"+BC++.B\r", b"+BC++.Bend"];
+    6, CheckFault::End, &[b"", b"END", b"end\r"];
+};
 
 #[test]
-fn checker_names_fault_of_each_changed_line(rt: HostRuntime) {
-    for row in &CHANGED_LINES {
-        let other = first_other(rt.alloc(), row);
-        assert!(rt; other.is_none(), "{other:?} in line {}", row.0);
+fn checker_names_fault_of_each_changed_line(rt: HostRuntime) -> Result<(), Fail> {
+    let three = three_machines(rt.alloc())?;
+    for (line, fault, changes) in &CHANGED_LINES {
+        for bytes in *changes {
+            for lines in &LINES {
+                let text = with_line(rt.alloc(), lines, *line, bytes)?;
+                assert_eq!(rt;
+                    check(rt.alloc(), &three, text.as_slice()),
+                    Err(*fault),
+                    "{bytes:?}"
+                );
+            }
+        }
     }
+    Ok(())
 }
 
 /// How many bytes of the certificate at depth 0 there are, from a first number up to another one, and their fault.
@@ -506,67 +274,41 @@ static BEGINNINGS: [(usize, usize, CheckFault); 6] = [
     (46, 50, CheckFault::End),
 ];
 
-/// Whether each of these beginnings has its fault.
-fn are_faulty(alloc: Global, row: &(usize, usize, CheckFault)) -> bool {
-    let Ok(instance) = three_machines(alloc) else {
-        return false;
-    };
-    for length in row.0..row.1 {
-        let text = CERTIFICATE_AT_DEPTH_0.get(..length).unwrap_or(b"");
-        if text.len() != length || check(alloc, &instance, text) != Err(row.2) {
-            return false;
+#[test]
+fn checker_names_first_fault_of_each_prefix(rt: HostRuntime) -> Result<(), Fail> {
+    let three = three_machines(rt.alloc())?;
+    for (from, to, fault) in &BEGINNINGS {
+        for length in *from..*to {
+            let text = CERTIFICATE_AT_DEPTH_0.get(..length).unwrap_or(b"");
+            assert_eq!(rt;
+                check(rt.alloc(), &three, text),
+                Err(*fault),
+                "{length} bytes"
+            );
         }
     }
-    true
+    Ok(())
 }
 
-#[test]
-fn checker_names_first_fault_of_each_prefix(rt: HostRuntime) {
-    for (number, row) in BEGINNINGS.iter().enumerate() {
-        assert!(rt; are_faulty(rt.alloc(), row), "row {number}");
-    }
-}
-
-/// The certificates that differ from the one at depth 0 in one byte. Machine 3 has the bound 14 at the list 3 2, and
-/// version 2 the same bounds or greater ones.
+/// The certificates that differ from the one at depth 0 in one byte, in order. Machine 3 has the bound 14 at the list
+/// 3 2, and version 2 the same bounds or greater ones.
 static CLOSE_CERTIFICATES: [&[u8]; 2] = [
-    b"flowshop certificate 1\n3 3 0\n12\n3 1 2\n+BC++.C\nend\n",
     b"flowshop certificate 2\n3 3 0\n12\n3 1 2\n+BC++.B\nend\n",
+    b"flowshop certificate 1\n3 3 0\n12\n3 1 2\n+BC++.C\nend\n",
 ];
 
-/// How many of the certificates with another byte in this place are accepted; none where one is that is not close, or
-/// with another makespan.
-fn accepted_at(alloc: Global, instance: &Instance, place: usize) -> Option<usize> {
-    let mut count: usize = 0;
-    for change in 1..=255u8 {
-        let mut text = CERTIFICATE_AT_DEPTH_0;
-        if let Some(byte) = text.get_mut(place) {
-            *byte ^= change;
-        }
-        if let Ok(value) = check(alloc, instance, &text) {
-            if value != 12 || !CLOSE_CERTIFICATES.contains(&text.as_slice()) {
-                return None;
-            }
-            count = count.saturating_add(1);
-        }
-    }
-    Some(count)
-}
-
-/// How many of the certificates with another byte are accepted; none where one is that is not close, or with another
-/// makespan.
-fn accepted(alloc: Global) -> Option<usize> {
-    let Ok(instance) = three_machines(alloc) else {
-        return None;
-    };
-    let mut count: usize = 0;
-    for place in 0..CERTIFICATE_AT_DEPTH_0.len() {
-        count = count.saturating_add(accepted_at(alloc, &instance, place)?);
-    }
-    Some(count)
-}
-
 #[test]
-fn checker_accepts_two_of_all_changed_bytes(rt: HostRuntime) {
-    assert!(rt; accepted(rt.alloc()) == Some(2));
+fn checker_accepts_two_of_all_changed_bytes(rt: HostRuntime) -> Result<(), Fail> {
+    let three = three_machines(rt.alloc())?;
+    let mut accepted = CLOSE_CERTIFICATES.iter();
+    for text in &close_texts(rt.alloc(), Change::Other, &CERTIFICATE_AT_DEPTH_0)? {
+        if let Ok(value) = check(rt.alloc(), &three, text.as_slice()) {
+            assert_eq!(rt;
+                (value, Some(text.as_slice())),
+                (12, accepted.next().copied())
+            );
+        }
+    }
+    assert_eq!(rt; accepted.next(), None);
+    Ok(())
 }

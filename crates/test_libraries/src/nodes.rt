@@ -4,13 +4,13 @@ ghost use Rattle.std.specs.Prelude.{◌≡◌, ◌<◌, ◌≤◌, length};
 ghost use Rattle.flow_nodes.specs.Nodes.{IsJob};
 ghost use Rattle.flow_nodes.specs.Groups.{AreGroups};
 
-use flow_nodes::{LANES, Lanes, MAX_GROUPS, Marks, Node, groups, time_of_all, write_group};
+use flow_nodes::{LANES, MAX_GROUPS, Marks, Node, Vector, groups, time_of_all, write_group};
 use flow_shop::{End, Instance};
 use std::simd::prelude::*;
 use std::test::Fail;
 
 /// The number in a lane of the children that put a job at an end, from a group that has the job in each lane.
-fn child_bound<V: Lanes>(
+fn child_bound<V: Vector>(
     instance: &Instance,
     node: &Node,
     end: End,
@@ -51,12 +51,12 @@ fn bounds_of_three_machines(rt: HostRuntime) -> Result<(), Fail> {
     Ok(())
 }
 
-/// How many jobs of one group make children below a number at an end, the place of the first of them, and that of the
-/// first from place 8 on.
+/// How many jobs of one group make children below a threshold at an end, the place of the first of them, and that of
+/// the first from place 8 on.
 type Below = (u32, Option<usize>, Option<usize>);
 
-/// Of these jobs of one group, those that make children below a number at an end.
-fn below<V: Lanes>(
+/// Of these jobs of one group, those that make children below a threshold at an end.
+fn below<V: Vector>(
     instance: &Instance,
     node: &Node,
     end: End,
@@ -74,7 +74,7 @@ fn below<V: Lanes>(
 }
 
 /// The bounds of the children that put the jobs of the first group at an end, a lane for each job.
-fn first_bounds<V: Lanes>(instance: &Instance, node: &Node, end: End, groups: &[Vec<V>]) -> V
+fn first_bounds<V: Vector>(instance: &Instance, node: &Node, end: End, groups: &[Vec<V>]) -> V
     requires { AreGroups V.list V.CAP V.WIDTH instance.now groups.now }
 {
     node.child_bounds(end, groups[0].as_slice())

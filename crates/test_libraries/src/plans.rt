@@ -1,22 +1,17 @@
 //! The plans of tests.
 
 use flow_core::Instance;
-use flow_search::{OptionFault, Options, Plan, prepare};
+use flow_search::{Options, Plan, prepare};
 use std::alloc::Global;
+use std::test::Fail;
 
-/// The options of one worker with this depth, version and budget.
-fn options_of((depth, version, budget): (u32, u32, u32)) -> Result<Options, OptionFault> {
-    Options::versioned(1, depth, budget, version)
-}
-
-/// The plan of an instance for one worker with this depth, version and budget; none where it is refused.
+/// The plan of an instance for so many workers, with this depth, version and budget.
 pub fn planned<'a>(
     alloc: Global,
     instance: &'a Instance,
-    numbers: (u32, u32, u32),
-) -> Option<Plan<'a>> {
-    match options_of(numbers) {
-        Ok(options) => prepare(alloc, instance, options).ok(),
-        Err(_) => None,
-    }
+    workers: u32,
+    (depth, version, budget): (u32, u32, u32),
+) -> Result<Plan<'a>, Fail> {
+    let options = Options::versioned(workers, depth, budget, version)?;
+    Ok(prepare(alloc, instance, options)?)
 }

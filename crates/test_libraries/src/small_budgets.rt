@@ -1,9 +1,10 @@
 //! The search with a few directions at a time: what it writes, part for part, is what the whole search writes.
 
-use crate::drawn_searches::SEARCHES;
+use crate::drawn_searches::{SEARCHES, fields_of, names};
 use flow_core::{End, Instance, Sequence, generate};
 use flow_directions::{Advanced, Part, advance};
 use std::alloc::Global;
+use std::test::Fail;
 
 /// The directions that a search may write at a time.
 const BUDGETS: [u64; 4] = [1, 2, 3, 7];
@@ -31,7 +32,7 @@ enum Stand {
     More,
     /// None is left.
     Whole,
-    /// It reached a sequence below the number.
+    /// It reached a sequence below the threshold.
     Reached(Sequence),
 }
 
@@ -97,14 +98,6 @@ impl<'a> Search<'a> {
     }
 }
 
-/// Whether a text names the jobs of a sequence.
-fn names(text: &str, sequence: &Sequence) -> bool {
-    let mut words = text.split(' ');
-    sequence.jobs().iter().all(|job| {
-        words.next().and_then(|word| word.parse::<u16>().ok()) == Some(*job)
-    })
-}
-
 /// Whether a search comes to these directions, or to the sequence that a text names.
 fn comes_to(mut search: Search, wanted: &str) -> Option<bool> {
     for _ in 0..MOST_STEPS {
@@ -117,19 +110,14 @@ fn comes_to(mut search: Search, wanted: &str) -> Option<bool> {
     None
 }
 
-/// The number that a word is.
-fn number(word: Option<&str>) -> Option<u32> {
-    word?.parse::<u32>().ok()
-}
-
-/// Whether the search that a line names writes what the line says.
-fn is_drawn(alloc: Global, line: &str, budget: u64) -> Option<bool> {
-    let mut words = line.splitn(5, ' ');
-    let jobs = number(words.next())?;
-    let machines = number(words.next())?;
-    let seed = number(words.next())?;
-    let least = u64::from(number(words.next())?);
-    let instance = generate(alloc, jobs, machines, seed).ok()?;
+/// Whether the search of an instance for a number, with so many directions at a time, writes this.
+fn is_drawn(
+    alloc: Global,
+    instance: &Instance,
+    number: u64,
+    budget: u64,
+    wanted: &str,
+) -> Option<bool> {
     let mut left = Vec::new(alloc);
     left.push(Part::Node {
         first: Vec::new(alloc),
@@ -138,23 +126,29 @@ fn is_drawn(alloc: Global, line: &str, budget: u64) -> Option<bool> {
     .ok()?;
     let search = Search {
         alloc,
-        instance: &instance,
-        number: least,
+        instance,
+        number,
         budget,
         text: Vec::new(alloc),
         left,
     };
-    comes_to(search, words.next().unwrap_or(""))
+    comes_to(search, wanted)
 }
 
 #[test]
-fn small_budgets_write_the_same(rt: HostRuntime) {
-    for budget in &BUDGETS {
-        for line in SEARCHES.lines() {
-            assert!(rt;
-                is_drawn(rt.alloc(), line, *budget) == Some(true),
-                "{line}, {budget} at a time"
-            );
+fn small_budgets_write_the_same(rt: HostRuntime) -> Result<(), Fail> {
+    for line in SEARCHES.lines() {
+        let ([jobs, machines, seed, first], texts) = fields_of(line).ok_or("no fields")?;
+        let instance = generate(rt.alloc(), jobs, machines, seed)?;
+        for (more, text) in texts.iter().enumerate() {
+            let number = u64::from(first).saturating_add(more as u64);
+            for budget in &BUDGETS {
+                assert!(rt;
+                    is_drawn(rt.alloc(), &instance, number, *budget, text) == Some(true),
+                    "{line}: {number}, {budget} at a time"
+                );
+            }
         }
     }
+    Ok(())
 }

@@ -5,6 +5,7 @@ use crate::changes::replaced;
 use crate::parts::{number_of, parts};
 use flow_core::{Claim, Start, StartFault, read_start};
 use std::alloc::{AllocError, Global};
+use std::test::Fail;
 
 /// A start whose words are spread over lines and blanks.
 const A_START: &[u8] = b"\n\tsequence 2 03\r1 \n\r\nmakespan\t9\n";
@@ -15,39 +16,19 @@ const OTHERS: &[u8] = b" \t\r\n09sx\0\xff";
 /// A text, its jobs, and the makespan that it claims.
 type Listed = (&'static [u8], &'static [u16], Option<Claim>);
 
-static READ: [Listed; 3] = [
-    (
-        A_START,
-        &[2, 3, 1],
-        Some(Claim {
-            makespan: 9,
-            line: 4,
-        }),
-    ),
-    (b"sequence 65535 0 7 7", &[65_535, 0, 7, 7], None),
-    (
-        b"sequence 800\nmakespan 4294967295",
-        &[800],
-        Some(Claim {
-            makespan: u32::MAX,
-            line: 2,
-        }),
-    ),
-];
-
-/// Whether a text is read so.
-fn is_read(alloc: Global, row: &Listed) -> bool {
-    match read_start(alloc, row.0) {
-        Ok(start) => start.jobs.as_slice() == row.1 && start.claim == row.2,
-        Err(_) => false,
-    }
-}
+static READ: [Listed; 3] = rows! {
+    A_START, &[2, 3, 1], Some(Claim { makespan: 9, line: 4 });
+    b"sequence 65535 0 7 7", &[65_535, 0, 7, 7], None;
+    b"sequence 800\nmakespan 4294967295", &[800], Some(Claim { makespan: u32::MAX, line: 2 });
+};
 
 #[test]
-fn a_start_is_read(rt: HostRuntime) {
-    for (number, row) in READ.iter().enumerate() {
-        assert!(rt; is_read(rt.alloc(), row), "row {number}");
+fn a_start_is_read(rt: HostRuntime) -> Result<(), Fail> {
+    for (text, jobs, claim) in &READ {
+        let start = read_start(rt.alloc(), text)?;
+        assert_eq!(rt; (start.jobs.as_slice(), start.claim), (*jobs, *claim));
     }
+    Ok(())
 }
 
 /// Texts, and the line of the first fault.
@@ -76,15 +57,14 @@ static FIRST_FAULTS: [(&[u8], usize); 22] = [
     (b"makespan 9\nsequence 2 3 1\n", 1),
 ];
 
-/// Whether a text has its first fault on this line.
-fn has_fault(alloc: Global, row: &(&[u8], usize)) -> bool {
-    read_start(alloc, row.0).err() == Some(StartFault::Line(row.1))
-}
-
 #[test]
 fn the_first_fault_of_a_start_is_named(rt: HostRuntime) {
-    for (number, row) in FIRST_FAULTS.iter().enumerate() {
-        assert!(rt; has_fault(rt.alloc(), row), "row {number}");
+    for (text, line) in &FIRST_FAULTS {
+        assert_eq!(rt;
+            read_start(rt.alloc(), text).err(),
+            Some(StartFault::Line(*line)),
+            "{text:?}"
+        );
     }
 }
 
@@ -218,22 +198,16 @@ fn truncated_starts_are_read_alike(rt: HostRuntime) {
     }
 }
 
-/// Whether a start with another byte in a place is read as a plain reading reads it.
-fn is_changed_alike(alloc: Global, place: usize, other: u8) -> bool {
-    match replaced(alloc, A_START, place, 1, &[other]) {
-        Ok(text) => is_read_alike(alloc, text.as_slice()),
-        Err(_) => false,
-    }
-}
-
 #[test]
-fn changed_starts_are_read_alike(rt: HostRuntime) {
+fn changed_starts_are_read_alike(rt: HostRuntime) -> Result<(), Fail> {
     for place in 0..A_START.len() {
         for other in OTHERS {
+            let text = replaced(rt.alloc(), A_START, place, 1, &[*other])?;
             assert!(rt;
-                is_changed_alike(rt.alloc(), place, *other),
+                is_read_alike(rt.alloc(), text.as_slice()),
                 "{other} at {place}"
             );
         }
     }
+    Ok(())
 }

@@ -8,6 +8,7 @@ use flow_cert::write_two_ended;
 use flow_check::{Bounds, CheckFault, check_two_ended};
 use flow_core::{End, Instance, MemorySink, Sequence};
 use std::alloc::{AllocError, Global};
+use std::test::Fail;
 
 /// The most jobs of a drawn instance.
 const JOBS: usize = 7;
@@ -127,21 +128,17 @@ impl Drawn {
         }
     }
 
-    /// The instance; none where it is refused, as it is with a time of more than 32 bits.
-    fn instance(&self, alloc: Global) -> Option<Instance> {
-        let mut times = [0; JOBS * MACHINES];
-        let mut count: usize = 0;
+    /// The instance, with the greatest number of 32 bits for a greater time.
+    fn instance(&self, alloc: Global) -> Result<Instance, Fail> {
+        let mut times = Vec::new(alloc);
         for machine in 0..self.machines.min(MACHINES) {
-            for job in 0..self.jobs.min(JOBS) {
-                if let Some(time) = times.get_mut(count) {
-                    *time = u32::try_from(self.times[job][machine]).unwrap_or(u32::MAX);
-                }
-                count = count.saturating_add(1);
+            for job in self.times.iter().take(self.jobs) {
+                times.push(u32::try_from(job[machine]).unwrap_or(u32::MAX))?;
             }
         }
         let jobs = u32::try_from(self.jobs).unwrap_or(0);
         let machines = u32::try_from(self.machines).unwrap_or(0);
-        Instance::new(alloc, jobs, machines, times.get(..count).unwrap_or(&[])).ok()
+        Ok(Instance::new(alloc, jobs, machines, times.as_slice())?)
     }
 
     /// The least times that one of the jobs needs on the machines before each, or on those after each.
@@ -235,7 +232,7 @@ impl Drawn {
         Ok(())
     }
 
-    /// What a plain reading says of signs that should prove a number.
+    /// What a plain reading says of signs that should prove a threshold.
     fn answer(&self, number: u64, signs: &[u8]) -> Result<(), CheckFault> {
         let mut place = 0;
         self.read(&self.root(), self.jobs, number, signs, &mut place)?;
@@ -246,11 +243,12 @@ impl Drawn {
     }
 }
 
-/// An instance with an upper bound and a sequence that has it.
+/// A drawn instance with the least makespan, and a drawn sequence with its makespan.
 #[derive(Drop)]
 struct Case {
     drawn: Drawn,
     instance: Instance,
+    least: u64,
     upper: u64,
     sequence: Sequence,
 }
@@ -265,117 +263,20 @@ fn drawn_jobs(alloc: Global, draw: &mut Draw, instance: &Instance) -> Result<Vec
     Ok(jobs)
 }
 
-/// A case with a drawn sequence; none where memory ran out.
-fn case_of(alloc: Global, draw: &mut Draw, drawn: Drawn) -> Option<Case> {
+/// A case of an instance.
+fn case_of(alloc: Global, draw: &mut Draw, drawn: Drawn) -> Result<Case, Fail> {
     let instance = drawn.instance(alloc)?;
-    let Ok(jobs) = drawn_jobs(alloc, draw, &instance) else {
-        return None;
-    };
+    let jobs = drawn_jobs(alloc, draw, &instance)?;
+    let least = drawn.least(&[0; MACHINES], &drawn.root().is_left, drawn.jobs);
     let upper = drawn.makespan(jobs.as_slice());
-    match Sequence::new(alloc, &instance, jobs.as_slice()) {
-        Ok(sequence) => Some(Case {
-            drawn,
-            instance,
-            upper,
-            sequence,
-        }),
-        Err(_) => None,
-    }
-}
-
-/// What a text shows, or its first fault.
-type Answer = Result<(), CheckFault>;
-
-/// Whether the checker answers so for a text of a case. Of a lawful text it has to give both bounds and the sequence.
-fn is_answered(alloc: Global, case: &Case, bounds: Bounds, text: &[u8], wanted: Answer) -> bool {
-    match check_two_ended(alloc, &case.instance, text) {
-        Ok(shown) => wanted == Ok(()) && shown.bounds == bounds && shown.sequence == case.sequence,
-        Err(fault) => wanted == Err(fault),
-    }
-}
-
-/// Whether the checker answers so for the text of a case with a lower bound and signs.
-fn answers(alloc: Global, case: &Case, lower: u64, signs: &[u8], wanted: Answer) -> bool {
-    let bounds = Bounds {
-        lower,
-        upper: case.upper,
-    };
-    let mut sink = MemorySink::new(alloc, 10_000);
-    write_two_ended(&case.instance, bounds, &case.sequence, signs, &mut sink) == Ok(())
-        && is_answered(alloc, case, bounds, sink.bytes(), wanted)
-}
-
-/// Whether the checker answers so where a sign more follows.
-fn answers_longer(alloc: Global, case: &Case, lower: u64, signs: &[u8], wanted: Answer) -> bool {
-    match replaced(alloc, signs, signs.len(), 0, b"+") {
-        Ok(text) => answers(alloc, case, lower, text.as_slice(), wanted),
-        Err(_) => false,
-    }
-}
-
-/// Whether the checker answers as a plain reading does where the sign at a place is turned, if there is one.
-fn answers_turned(alloc: Global, case: &Case, lower: u64, signs: &[u8], place: usize) -> bool {
-    let other: &[u8] = match signs.get(place) {
-        Some(b'+') => b"-",
-        Some(_) => b"+",
-        None => return true,
-    };
-    match replaced(alloc, signs, place, 1, other) {
-        Ok(text) => {
-            let wanted = case.drawn.answer(lower, text.as_slice());
-            answers(alloc, case, lower, text.as_slice(), wanted)
-        }
-        Err(_) => false,
-    }
-}
-
-/// Whether the checker answers so for signs, where a plain reading takes all of them; and as it should with a sign
-/// less, a sign more, and the sign at a place turned.
-fn are_checked(
-    alloc: Global,
-    case: &Case,
-    lower: u64,
-    signs: &[u8],
-    turned: usize,
-    wanted: Answer,
-) -> bool {
-    let tree = Err(CheckFault::Tree(5));
-    let is_needed = match signs.split_last() {
-        Some((_, shorter)) => answers(alloc, case, lower, shorter, tree),
-        None => true,
-    };
-    is_needed
-        && answers(alloc, case, lower, signs, wanted)
-        && answers_longer(alloc, case, lower, signs, wanted.and(tree))
-        && answers_turned(
-            alloc,
-            case,
-            lower,
-            signs,
-            turned.checked_rem(signs.len()).unwrap_or(0),
-        )
-}
-
-/// Whether the checker answers as it should for a lower bound, with as many of the drawn signs as a plain reading
-/// takes. The least makespan says which numbers are proved.
-fn is_checked(
-    alloc: Global,
-    case: &Case,
-    least: u64,
-    lower: u64,
-    signs: &[u8],
-    turned: usize,
-) -> bool {
-    let wanted = if lower <= least {
-        Ok(())
-    } else {
-        Err(CheckFault::Low(5))
-    };
-    let mut count = 0;
-    let drawn = &case.drawn;
-    let found = drawn.read(&drawn.root(), drawn.jobs, lower, signs, &mut count);
-    let taken = signs.get(..count).unwrap_or(b"");
-    found == wanted && are_checked(alloc, case, lower, taken, turned, wanted)
+    let sequence = Sequence::new(alloc, &instance, jobs.as_slice())?;
+    Ok(Case {
+        drawn,
+        instance,
+        least,
+        upper,
+        sequence,
+    })
 }
 
 /// Drawn signs, as many as a certificate may need.
@@ -387,47 +288,95 @@ fn drawn_signs(alloc: Global, draw: &mut Draw) -> Result<Vec<u8>, AllocError> {
     Ok(signs)
 }
 
-/// Whether the checker answers as it should for each number from the root's bound less 1 to the least makespan and 2.
-fn is_checked_at_each_number(alloc: Global, draw: &mut Draw, case: &Case, signs: &[u8]) -> bool {
-    let root = case.drawn.root();
-    let least = case
-        .drawn
-        .least(&[0; MACHINES], &root.is_left, case.drawn.jobs);
-    for lower in root.bound().saturating_sub(1)..least.saturating_add(3) {
-        let turned = draw.upto(999) as usize;
-        if !is_checked(alloc, case, least, lower, signs, turned) {
-            return false;
-        }
+/// What a text shows, or its first fault.
+type Answer = Result<(), CheckFault>;
+
+/// What the checker answers for the text of a case with a lower bound and signs. Of a lawful text it has to give both
+/// bounds and the sequence.
+fn answer_of(alloc: Global, case: &Case, lower: u64, signs: &[u8]) -> Result<Answer, Fail> {
+    let upper = case.upper;
+    let bounds = Bounds { lower, upper };
+    let mut sink = MemorySink::new(alloc, 10_000);
+    write_two_ended(&case.instance, bounds, &case.sequence, signs, &mut sink)?;
+    match check_two_ended(alloc, &case.instance, sink.bytes()) {
+        Ok(shown) if shown.bounds == bounds && shown.sequence == case.sequence => Ok(Ok(())),
+        Ok(_) => Err(Fail::from("other bounds, or another sequence")),
+        Err(fault) => Ok(Err(fault)),
     }
-    true
 }
 
-/// Whether the checker answers as it should for a drawn instance, with a drawn sequence and drawn signs.
-fn is_right(alloc: Global, draw: &mut Draw, drawn: Drawn) -> bool {
-    let Some(case) = case_of(alloc, draw, drawn) else {
-        return false;
+/// Signs; and these with one less, with one more, and with the one at a place turned.
+fn with_changes(alloc: Global, signs: &[u8], place: usize) -> Result<[Vec<u8>; 4], AllocError> {
+    let turned: &[u8] = if signs.get(place) == Some(&b'+') {
+        b"-"
+    } else {
+        b"+"
     };
-    match drawn_signs(alloc, draw) {
-        Ok(signs) => is_checked_at_each_number(alloc, draw, &case, signs.as_slice()),
-        Err(_) => false,
+    Ok([
+        Vec::from_slice(alloc, signs)?,
+        replaced(alloc, signs, signs.len().saturating_sub(1), 1, b"")?,
+        replaced(alloc, signs, signs.len(), 0, b"+")?,
+        replaced(alloc, signs, place, 1, turned)?,
+    ])
+}
+
+/// The first signs that the checker does not answer as it should for a lower bound, with its answer and the right one:
+/// of as many of the drawn signs as a plain reading takes, and of these with a change. The least makespan says which
+/// numbers are proved, and the plain reading what else is answered.
+fn first_other(
+    alloc: Global,
+    case: &Case,
+    lower: u64,
+    signs: &[u8],
+    turned: usize,
+) -> Result<Option<(Vec<u8>, Answer, Answer)>, Fail> {
+    let mut count = 0;
+    let drawn = &case.drawn;
+    let plain = drawn.read(&drawn.root(), drawn.jobs, lower, signs, &mut count);
+    let taken = signs.get(..count).unwrap_or(b"");
+    let by_least = if lower <= case.least {
+        Ok(())
+    } else {
+        Err(CheckFault::Low(5))
+    };
+    if plain != by_least {
+        return Err(Fail::from("the plain reading proves another makespan"));
     }
+    let place = turned.checked_rem(taken.len()).unwrap_or(0);
+    for text in with_changes(alloc, taken, place)? {
+        let found = answer_of(alloc, case, lower, text.as_slice())?;
+        let wanted = drawn.answer(lower, text.as_slice());
+        if found != wanted {
+            return Ok(Some((text, found, wanted)));
+        }
+    }
+    Ok(None)
 }
 
 /// The least times, and how much more the greatest are.
 static TIMES: [(u64, u64); 6] = [(0, 0), (5, 0), (0, 1), (0, 2), (1, 8), (0, 99)];
 
+/// Each number is tried from the root's bound less 1 to the least makespan and 2.
 #[test]
-fn directions_of_drawn_instances_are_read_as_plainly(rt: HostRuntime) {
+fn directions_of_drawn_instances_are_read_as_plainly(rt: HostRuntime) -> Result<(), Fail> {
     let mut draw = Draw(1);
     for jobs in 1..8usize {
         for machines in 1..6usize {
-            for (least, more) in &TIMES {
-                let drawn = Drawn::new(&mut draw, jobs, machines, *least, *more);
-                assert!(rt;
-                    is_right(rt.alloc(), &mut draw, drawn),
-                    "{jobs} jobs on {machines} machines, from {least}"
-                );
+            for (from, more) in &TIMES {
+                let drawn = Drawn::new(&mut draw, jobs, machines, *from, *more);
+                let case = case_of(rt.alloc(), &mut draw, drawn)?;
+                let signs = drawn_signs(rt.alloc(), &mut draw)?;
+                let first = case.drawn.root().bound().saturating_sub(1);
+                for lower in first..case.least.saturating_add(3) {
+                    let turned = draw.upto(999) as usize;
+                    let other = first_other(rt.alloc(), &case, lower, signs.as_slice(), turned)?;
+                    assert!(rt;
+                        other.is_none(),
+                        "{jobs} jobs on {machines} machines from {from}, {lower}: {other:?}"
+                    );
+                }
             }
         }
     }
+    Ok(())
 }

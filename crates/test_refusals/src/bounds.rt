@@ -5,7 +5,9 @@ ghost use Rattle.std.specs.Prelude.{◌≡◌, length};
 use flow_bound::{insertion_spans, neh};
 use flow_commands::CommandFault;
 use flow_core::{Instance, Sequence};
-use flow_improve::{Effort, EffortFault, Reached, beam, beam_below, improve, rounds_of_both};
+use flow_improve::{
+    Effort, EffortFault, Never, Reached, beam, beam_below, improve, rounds_of_both,
+};
 use std::alloc::Global;
 
 /// `neh` of the instance with three machines.
@@ -70,7 +72,7 @@ pub(crate) fn rounds_of_both_are_made(
     requires { length start.now ≡ instance.now.jobs }
 {
     let beamed = beam(alloc, instance, start, 0, 0)?;
-    Ok(is_best(&rounds_of_both(alloc, instance, start, &beamed, &little()?)?))
+    Ok(is_best(&rounds_of_both(alloc, instance, start, &beamed, &little()?, &Never)?))
 }
 
 /// `improve` from the starting sequence.

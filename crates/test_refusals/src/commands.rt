@@ -192,7 +192,13 @@ pub(crate) const RUNS: [Run; RUN_COUNT] = [
     Run {
         name: "improve from a start",
         text: THREE_MACHINES_TEXT,
-        call: Call::Request(SecondFile::Start(START), Request::Improve(NO_ROUND)),
+        call: Call::Request(
+            SecondFile::Start(START),
+            Request::Improve {
+                request: NO_ROUND,
+                seconds: None,
+            },
+        ),
         wanted: Wanted::Text(START),
     },
     Run {
@@ -203,6 +209,7 @@ pub(crate) const RUNS: [Run; RUN_COUNT] = [
             Request::Certify {
                 request: PROVED,
                 progress: false,
+                seconds: None,
             },
         ),
         wanted: Wanted::Text(TWO_ENDED_12),
@@ -215,6 +222,7 @@ pub(crate) const RUNS: [Run; RUN_COUNT] = [
             Request::Certify {
                 request: BOUNDED,
                 progress: false,
+                seconds: None,
             },
         ),
         wanted: Wanted::Text(BOUNDS_OF_TEN_JOBS),
@@ -230,6 +238,7 @@ pub(crate) const RUNS: [Run; RUN_COUNT] = [
                     ..PROVED
                 },
                 progress: false,
+                seconds: None,
             },
         ),
         wanted: Wanted::Text(BY_TWO_WORKERS),

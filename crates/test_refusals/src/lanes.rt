@@ -1,4 +1,4 @@
-//! Lanes.
+//! Vector.
 
 use flow_commands::CommandFault;
 use flow_lanes::{lane, settle};

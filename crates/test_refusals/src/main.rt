@@ -5,8 +5,20 @@
 //! The status is 0 where each call returned what it should. It is 1 where memory ran out in some call, or a worker
 //! could not be started, and all other calls returned what they should. It is 2 where a call returned anything else.
 //!
-//! `rt try --fail-alloc N` refuses growth N of a run, and builds the program anew for each N. So N can stay as it is:
-//! standard input says how many growths are made and given back before the calls, none where it is empty.
+//! `rt try --fail-alloc N` refuses growth N of a run, and builds the program anew for each N. To build it once, N stays
+//! the same, and standard input says how many growths are made and given back before the calls: none where it is empty.
+//!
+//! - `groups.rt`: the groups of library calls, and what each is made on.
+//! - `growths.rt`: growths of memory before the calls.
+//! - `instances.rt`: instances, sequences and the generator.
+//! - `texts.rt`: benchmark text, start text, sinks and sources.
+//! - `schedules.rt`: timetable, table and picture.
+//! - `bounds.rt`: the starting sequence, and better ones.
+//! - `search.rt`: plans, outcomes, verdicts, directions and bounds.
+//! - `lanes.rt`: lanes.
+//! - `workers.rt`: workers in threads.
+//! - `certificates.rt`: the writer and the checker of certificates.
+//! - `commands.rt`: the commands, over sources and sinks in memory.
 #![tactic(auto)]
 
 mod bounds;

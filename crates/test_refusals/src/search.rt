@@ -126,7 +126,7 @@ fn found_for(alloc: Global, three: &Instance, number: u64) -> Result<Found, Comm
     }
 }
 
-/// `prove` of directions, and of a sequence below the number.
+/// `prove` of directions, and of a sequence below the threshold.
 pub(crate) fn directions_are_found(alloc: Global, three: &Instance) -> Result<bool, CommandFault> {
     let proved = found_for(alloc, three, 12)?;
     let below = found_for(alloc, three, 13)?;

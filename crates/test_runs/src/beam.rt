@@ -21,80 +21,43 @@ type Row = (
     bool,
 );
 
-static ROWS: [Row; 23] = [
+static ROWS: [Row; 23] = rows! {
     // The pass of width 16 by bounds drops no child.
-    ([20, 5, 379_008_056], ANY, 16, WORK, 1359, WHOLE, true),
-    ([20, 5, 379_008_056], ANY, 4096, WORK, 1359, WHOLE, true),
+    [20, 5, 379_008_056], ANY, 16, WORK, 1359, WHOLE, true;
+    [20, 5, 379_008_056], ANY, 4096, WORK, 1359, WHOLE, true;
     // Some pass drops a child.
-    (
-        [15, 8, 7],
-        ANY,
-        32,
-        WORK,
-        1208,
-        &[1, 5, 4, 3, 11, 6, 8, 7, 9, 15, 2, 12, 10, 14, 13],
-        false,
-    ),
-    (
-        [20, 10, 587_595_453],
-        ANY,
-        16,
-        WORK,
-        1636,
-        &[
-            18, 9, 3, 17, 5, 19, 12, 4, 2, 20, 8, 13, 10, 6, 11, 14, 15, 7, 16, 1,
-        ],
-        false,
-    ),
-    (
-        [30, 20, 5],
-        ANY,
-        16,
-        WORK,
-        2781,
-        &[
-            18, 7, 13, 20, 25, 1, 16, 28, 14, 8, 22, 2, 24, 19, 17, 10, 4, 9, 6, 23, 27, 30, 12, 5,
-            15, 29, 11, 3, 26, 21,
-        ],
-        false,
-    ),
+    [15, 8, 7], ANY, 32, WORK, 1208, &[1, 5, 4, 3, 11, 6, 8, 7, 9, 15, 2, 12, 10, 14, 13], false;
+    [20, 10, 587_595_453], ANY, 16, WORK, 1636, &[18, 9, 3, 17, 5, 19, 12, 4, 2, 20, 8, 13, 10, 6, 11, 14, 15, 7, 16,
+        1], false;
+    [30, 20, 5], ANY, 16, WORK, 2781, &[18, 7, 13, 20, 25, 1, 16, 28, 14, 8, 22, 2, 24, 19, 17, 10, 4, 9, 6, 23, 27,
+        30, 12, 5, 15, 29, 11, 3, 26, 21], false;
     // A pass of width 1 may take 15 * 16 * 8 steps, so with fewer there is none.
-    ([15, 8, 7], ANY, 32, 0, 1247, NEH, false),
-    ([15, 8, 7], ANY, 32, 15 * 16 * 8 - 1, 1247, NEH, false),
+    [15, 8, 7], ANY, 32, 0, 1247, NEH, false;
+    [15, 8, 7], ANY, 32, 15 * 16 * 8 - 1, 1247, NEH, false;
     // Steps, and the makespan where no more are allowed: each is the least number with which one more pass is made, or
     // one less.
-    ([20, 10, 587_595_453], ANY, 4096, 81_479, 1680, ANY, false),
-    ([20, 10, 587_595_453], ANY, 4096, 81_480, 1670, ANY, false),
-    ([20, 10, 587_595_453], ANY, 4096, 112_279, 1670, ANY, false),
-    ([20, 10, 587_595_453], ANY, 4096, 112_280, 1661, ANY, false),
-    ([20, 10, 587_595_453], ANY, 4096, 176_439, 1661, ANY, false),
-    ([20, 10, 587_595_453], ANY, 4096, 176_440, 1636, ANY, false),
-    ([20, 10, 587_595_453], ANY, 4096, 365_539, 1636, ANY, false),
-    ([20, 10, 587_595_453], ANY, 4096, 365_540, 1608, ANY, false),
-    ([20, 10, 587_595_453], ANY, 4096, 481_219, 1608, ANY, false),
-    ([20, 10, 587_595_453], ANY, 4096, 481_220, 1601, ANY, false),
+    [20, 10, 587_595_453], ANY, 4096, 81_479, 1680, ANY, false;
+    [20, 10, 587_595_453], ANY, 4096, 81_480, 1670, ANY, false;
+    [20, 10, 587_595_453], ANY, 4096, 112_279, 1670, ANY, false;
+    [20, 10, 587_595_453], ANY, 4096, 112_280, 1661, ANY, false;
+    [20, 10, 587_595_453], ANY, 4096, 176_439, 1661, ANY, false;
+    [20, 10, 587_595_453], ANY, 4096, 176_440, 1636, ANY, false;
+    [20, 10, 587_595_453], ANY, 4096, 365_539, 1636, ANY, false;
+    [20, 10, 587_595_453], ANY, 4096, 365_540, 1608, ANY, false;
+    [20, 10, 587_595_453], ANY, 4096, 481_219, 1608, ANY, false;
+    [20, 10, 587_595_453], ANY, 4096, 481_220, 1601, ANY, false;
     // One job has one sequence, whose makespan is the bound: the search ends before its first pass.
-    ([1, 3, 5], ANY, 4, WORK, 145, &[1], true),
+    [1, 3, 5], ANY, 4, WORK, 145, &[1], true;
     // The second pass of width 1, which is the last one, has the bound.
-    (
-        [30, 5, 129],
-        ANY,
-        1,
-        WORK,
-        1623,
-        &[
-            7, 19, 1, 8, 4, 24, 25, 6, 10, 28, 30, 2, 13, 23, 16, 11, 26, 12, 15, 3, 14, 27, 5, 21,
-            17, 22, 29, 9, 20, 18,
-        ],
-        true,
-    ),
+    [30, 5, 129], ANY, 1, WORK, 1623, &[7, 19, 1, 8, 4, 24, 25, 6, 10, 28, 30, 2, 13, 23, 16, 11, 26, 12, 15, 3, 14,
+        27, 5, 21, 17, 22, 29, 9, 20, 18], true;
     // With no pass, with no steps, the start and its makespan, by the recurrence; and on one machine, where the start
     // has the bound, the sum of its times, since all sequences have one makespan.
-    ([6, 4, 8], DOWN, 0, WORK, 413, DOWN, false),
-    ([6, 4, 8], DOWN, 8, 0, 413, DOWN, false),
-    ([6, 1, 8], DOWN, 8, WORK, 180, DOWN, true),
-    ([6, 1, 8], DOWN, 1, 0, 180, DOWN, true),
-];
+    [6, 4, 8], DOWN, 0, WORK, 413, DOWN, false;
+    [6, 4, 8], DOWN, 8, 0, 413, DOWN, false;
+    [6, 1, 8], DOWN, 8, WORK, 180, DOWN, true;
+    [6, 1, 8], DOWN, 1, 0, 180, DOWN, true;
+};
 
 /// The best sequence of the first instance.
 const WHOLE: &[u16] = &[
@@ -139,48 +102,27 @@ fn beam_ends_at_its_widths_and_steps(rt: HostRuntime) {
 
 /// A number, and what a search below it comes to with passes up to the width 32, of twenty jobs on ten machines: the
 /// makespan, the jobs, and whether the search was whole. The start has the makespan 1680, and the bound is 1448.
-static BELOW: [(u64, u64, &[u16], bool); 7] = [
-    (0, 1680, OF_TWENTY, true),
+static BELOW: [(u64, u64, &[u16], bool); 7] = rows! {
+    0, 1680, OF_TWENTY, true;
     // A pass of width 1 keeps few children, and drops none.
-    (1449, 1680, OF_TWENTY, true),
+    1449, 1680, OF_TWENTY, true;
     // No pass comes to a sequence.
-    (1601, 1680, OF_TWENTY, false),
+    1601, 1680, OF_TWENTY, false;
     // The second pass of width 32 comes to it.
-    (
-        1610,
-        1609,
-        &[
-            5, 9, 12, 17, 15, 4, 2, 3, 8, 19, 10, 14, 18, 6, 13, 11, 1, 20, 7, 16,
-        ],
-        false,
-    ),
-    (
-        1637,
-        1633,
-        &[
-            4, 5, 2, 12, 9, 18, 8, 15, 10, 14, 6, 3, 17, 19, 13, 16, 11, 1, 20, 7,
-        ],
-        false,
-    ),
+    1610, 1609, &[5, 9, 12, 17, 15, 4, 2, 3, 8, 19, 10, 14, 18, 6, 13, 11, 1, 20, 7, 16], false;
+    1637, 1633, &[4, 5, 2, 12, 9, 18, 8, 15, 10, 14, 6, 3, 17, 19, 13, 16, 11, 1, 20, 7], false;
     // The makespan of the start is not below itself.
-    (
-        1680,
-        1677,
-        &[
-            5, 4, 15, 9, 12, 17, 2, 18, 16, 8, 19, 3, 7, 14, 6, 20, 11, 1, 13, 10,
-        ],
-        false,
-    ),
-    // The start is below the number.
-    (1681, 1680, OF_TWENTY, false),
-];
+    1680, 1677, &[5, 4, 15, 9, 12, 17, 2, 18, 16, 8, 19, 3, 7, 14, 6, 20, 11, 1, 13, 10], false;
+    // The start is below the threshold.
+    1681, 1680, OF_TWENTY, false;
+};
 
 /// The starting sequence of these jobs.
 const OF_TWENTY: &[u16] = &[
     18, 5, 2, 17, 3, 6, 12, 9, 15, 10, 20, 13, 8, 14, 19, 11, 4, 7, 1, 16,
 ];
 
-/// Whether the search below a number comes to what a row says.
+/// Whether the search below a threshold comes to what a row says.
 fn ends_below(alloc: Global, row: &(u64, u64, &'static [u16], bool)) -> bool {
     let (number, value, list, whole) = *row;
     let Ok(instance) = generate(alloc, 20, 10, 587_595_453) else {

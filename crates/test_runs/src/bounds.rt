@@ -42,33 +42,24 @@ type Row = (
     &'static [u8],
 );
 
-static ROWS: [Row; 12] = [
+static ROWS: [Row; 12] = rows! {
     // Below 13 there is a sequence of 12, and two directions prove 12.
-    (
-        3,
-        3,
-        &THREE_MACHINES,
-        &[2, 1, 3],
-        100_000_000,
-        12,
-        12,
-        b"++",
-    ),
-    (3, 3, &THREE_MACHINES, &[2, 1, 3], 3, 12, 12, b"++"),
-    (3, 3, &THREE_MACHINES, &[3, 1, 2], 2, 12, 12, b"++"),
+    3, 3, &THREE_MACHINES, &[2, 1, 3], 100_000_000, 12, 12, b"++";
+    3, 3, &THREE_MACHINES, &[2, 1, 3], 3, 12, 12, b"++";
+    3, 3, &THREE_MACHINES, &[3, 1, 2], 2, 12, 12, b"++";
     // Empty directions prove 10. No sequence is reached by one direction.
-    (3, 3, &THREE_MACHINES, &[2, 1, 3], 1, 10, 13, b""),
-    (3, 3, &THREE_MACHINES, &[3, 1, 2], 1, 10, 12, b""),
+    3, 3, &THREE_MACHINES, &[2, 1, 3], 1, 10, 13, b"";
+    3, 3, &THREE_MACHINES, &[3, 1, 2], 1, 10, 12, b"";
     // The empty lists have the least makespan as their bound.
-    (3, 2, &TWO_MACHINES, &[1, 2, 3], 100, 9, 9, b""),
-    (3, 2, &TWO_MACHINES, &[2, 1, 3], 1, 9, 9, b""),
-    (3, 2, &TWO_MACHINES, &[1, 2, 3], 1, 9, 11, b""),
-    (14, 2, &ONE_LONG_JOB, ANY, 30_000, 24, 33, b""),
-    (14, 2, &ONE_LONG_JOB, ANY, 1, 24, 33, b""),
-    (1, 1, &[7], ANY, 5, 7, 7, b""),
+    3, 2, &TWO_MACHINES, &[1, 2, 3], 100, 9, 9, b"";
+    3, 2, &TWO_MACHINES, &[2, 1, 3], 1, 9, 9, b"";
+    3, 2, &TWO_MACHINES, &[1, 2, 3], 1, 9, 11, b"";
+    14, 2, &ONE_LONG_JOB, ANY, 30_000, 24, 33, b"";
+    14, 2, &ONE_LONG_JOB, ANY, 1, 24, 33, b"";
+    1, 1, &[7], ANY, 5, 7, 7, b"";
     // All makespans are 0.
-    (800, 26, &[0; 20_800], ANY, 5, 0, 0, b""),
-];
+    800, 26, &[0; 20_800], ANY, 5, 0, 0, b"";
+};
 
 /// Whether the search comes to what a row says, with no effort.
 fn holds(alloc: Global, row: &Row) -> bool {

@@ -4,7 +4,7 @@
 use crate::searches::{ANY, DOWN, comes_to, effort_of, start_of};
 use flow_bound::{neh, taillard_bound};
 use flow_core::{Instance, generate};
-use flow_improve::{Reached, beam, improve, rounds_of_both};
+use flow_improve::{Never, Reached, beam, improve, rounds_of_both};
 use std::alloc::Global;
 
 /// What rounds and a beam of width 32 come to together, of fifteen jobs on eight machines; and what that beam does.
@@ -23,219 +23,64 @@ type Row = (
     bool,
 );
 
-static ROWS: [Row; 24] = [
+static ROWS: [Row; 24] = rows! {
     // The beam alone searches everything.
-    (
-        [20, 5, 379_008_056],
-        ANY,
-        [4_096, 10_000, 1, 8_500],
-        1359,
-        &[
-            6, 10, 17, 7, 3, 18, 15, 12, 13, 9, 5, 8, 1, 16, 4, 19, 11, 20, 14, 2,
-        ],
-        true,
-    ),
+    [20, 5, 379_008_056], ANY, [4_096, 10_000, 1, 8_500], 1359, &[6, 10, 17, 7, 3, 18, 15, 12, 13, 9, 5, 8, 1, 16, 4,
+        19, 11, 20, 14, 2], true;
     // The beam has 1208, and four rounds from the start 1214.
-    (
-        [15, 8, 7],
-        ANY,
-        [32, 4, 1, 8_500],
-        1206,
-        &[1, 3, 4, 11, 6, 8, 7, 5, 9, 12, 15, 2, 10, 14, 13],
-        false,
-    ),
+    [15, 8, 7], ANY, [32, 4, 1, 8_500], 1206, &[1, 3, 4, 11, 6, 8, 7, 5, 9, 12, 15, 2, 10, 14, 13], false;
     // The beam has 1636, and three rounds from the start 1629.
-    (
-        [20, 10, 587_595_453],
-        ANY,
-        [16, 3, 1, 8_500],
-        1591,
-        &[
-            18, 4, 2, 9, 3, 17, 19, 5, 12, 8, 15, 10, 6, 14, 20, 11, 13, 7, 1, 16,
-        ],
-        false,
-    ),
+    [20, 10, 587_595_453], ANY, [16, 3, 1, 8_500], 1591, &[18, 4, 2, 9, 3, 17, 19, 5, 12, 8, 15, 10, 6, 14, 20, 11,
+        13, 7, 1, 16], false;
     // The beam gives the start back, so both runs are one.
-    (
-        [30, 20, 5],
-        ANY,
-        [16, 3, 1, 8_500],
-        2773,
-        &[
-            7, 28, 13, 20, 25, 1, 16, 22, 14, 17, 8, 2, 24, 19, 18, 10, 5, 4, 9, 6, 23, 27, 30, 12,
-            15, 29, 11, 3, 26, 21,
-        ],
-        false,
-    ),
+    [30, 20, 5], ANY, [16, 3, 1, 8_500], 2773, &[7, 28, 13, 20, 25, 1, 16, 22, 14, 17, 8, 2, 24, 19, 18, 10, 5, 4, 9,
+        6, 23, 27, 30, 12, 15, 29, 11, 3, 26, 21], false;
     // Rounds from the best of the beam come to 1499. The seed is a large one.
-    (
-        [20, 10, 4],
-        ANY,
-        [8, 50, 2_147_483_645, 8_500],
-        1495,
-        &[
-            14, 18, 7, 20, 16, 2, 11, 6, 5, 3, 4, 17, 1, 10, 8, 12, 13, 15, 19, 9,
-        ],
-        false,
-    ),
+    [20, 10, 4], ANY, [8, 50, 2_147_483_645, 8_500], 1495, &[14, 18, 7, 20, 16, 2, 11, 6, 5, 3, 4, 17, 1, 10, 8, 12,
+        13, 15, 19, 9], false;
     // One round of the start is within the steps. With none the best would have 2004, with two 1995.
-    (
-        [25, 13, 601],
-        ANY,
-        [16, 10_000, 7, 1],
-        2000,
-        &[
-            2, 3, 9, 20, 6, 17, 4, 1, 19, 7, 13, 5, 10, 8, 22, 11, 25, 21, 16, 23, 24, 18, 14, 15,
-            12,
-        ],
-        false,
-    ),
+    [25, 13, 601], ANY, [16, 10_000, 7, 1], 2000, &[2, 3, 9, 20, 6, 17, 4, 1, 19, 7, 13, 5, 10, 8, 22, 11, 25, 21, 16,
+        23, 24, 18, 14, 15, 12], false;
     // One round is within the steps. With none the best would have 2327, with two 2269.
-    (
-        [30, 13, 5],
-        ANY,
-        [0, 10_000, 7, 1],
-        2271,
-        &[
-            18, 17, 13, 28, 30, 15, 6, 3, 24, 21, 11, 2, 29, 25, 19, 22, 14, 16, 8, 26, 23, 5, 27,
-            20, 12, 4, 7, 9, 10, 1,
-        ],
-        false,
-    ),
+    [30, 13, 5], ANY, [0, 10_000, 7, 1], 2271, &[18, 17, 13, 28, 30, 15, 6, 3, 24, 21, 11, 2, 29, 25, 19, 22, 14, 16,
+        8, 26, 23, 5, 27, 20, 12, 4, 7, 9, 10, 1], false;
     // The first round has the bound 415.
-    (
-        [6, 3, 17],
-        ANY,
-        [0, 100_000_000, 1, 8_500],
-        415,
-        &[1, 6, 3, 2, 5, 4],
-        true,
-    ),
+    [6, 3, 17], ANY, [0, 100_000_000, 1, 8_500], 415, &[1, 6, 3, 2, 5, 4], true;
     // The beam has the bound 415, and there is no round.
-    (
-        [6, 3, 17],
-        ANY,
-        [4, 100_000_000, 1, 8_500],
-        415,
-        &[1, 2, 3, 5, 6, 4],
-        true,
-    ),
+    [6, 3, 17], ANY, [4, 100_000_000, 1, 8_500], 415, &[1, 2, 3, 5, 6, 4], true;
     // All sequences have one makespan, which is the bound.
-    (
-        [7, 1, 9],
-        ANY,
-        [4, 600, 1, 8_500],
-        331,
-        &[1, 4, 2, 7, 5, 3, 6],
-        true,
-    ),
+    [7, 1, 9], ANY, [4, 600, 1, 8_500], 331, &[1, 4, 2, 7, 5, 3, 6], true;
     // From here on rounds without a beam, of which both runs are the same.
-    (
-        [20, 10, 587_595_453],
-        ANY,
-        [0, 20, 3, 8_500],
-        1596,
-        &[
-            18, 5, 9, 12, 17, 3, 15, 4, 6, 19, 8, 2, 20, 10, 11, 14, 13, 7, 1, 16,
-        ],
-        false,
-    ),
+    [20, 10, 587_595_453], ANY, [0, 20, 3, 8_500], 1596, &[18, 5, 9, 12, 17, 3, 15, 4, 6, 19, 8, 2, 20, 10, 11, 14,
+        13, 7, 1, 16], false;
     // The starting sequence. A round that takes a worse list for the best returns another.
-    (
-        [20, 5, 873_654_221],
-        ANY,
-        [0, 5, 7, 8_500],
-        1286,
-        &[
-            3, 17, 9, 8, 15, 14, 11, 16, 13, 19, 6, 4, 5, 18, 1, 2, 10, 7, 20, 12,
-        ],
-        false,
-    ),
-    (
-        [20, 10, 587_595_453],
-        ANY,
-        [0, 50, 3, 8_500],
-        1583,
-        &[
-            18, 5, 2, 12, 9, 10, 15, 17, 4, 13, 3, 6, 19, 8, 20, 11, 14, 7, 16, 1,
-        ],
-        false,
-    ),
-    (
-        [20, 10, 587_595_453],
-        ANY,
-        [0, 1_000, 3, 8_500],
-        1582,
-        &[
-            18, 5, 2, 12, 9, 10, 4, 14, 13, 15, 17, 3, 6, 19, 8, 20, 11, 7, 1, 16,
-        ],
-        false,
-    ),
-    (
-        [20, 10, 587_595_453],
-        ANY,
-        [0, 50, 2_147_483_645, 8_500],
-        1586,
-        &[
-            18, 5, 2, 12, 17, 15, 3, 9, 10, 14, 4, 6, 19, 8, 20, 11, 13, 7, 1, 16,
-        ],
-        false,
-    ),
-    (
-        [21, 26, 8],
-        ANY,
-        [0, 40, 1, 8_500],
-        2638,
-        &[
-            2, 17, 10, 9, 12, 19, 8, 5, 18, 7, 1, 20, 13, 21, 3, 15, 6, 14, 4, 16, 11,
-        ],
-        false,
-    ),
+    [20, 5, 873_654_221], ANY, [0, 5, 7, 8_500], 1286, &[3, 17, 9, 8, 15, 14, 11, 16, 13, 19, 6, 4, 5, 18, 1, 2, 10,
+        7, 20, 12], false;
+    [20, 10, 587_595_453], ANY, [0, 50, 3, 8_500], 1583, &[18, 5, 2, 12, 9, 10, 15, 17, 4, 13, 3, 6, 19, 8, 20, 11,
+        14, 7, 16, 1], false;
+    [20, 10, 587_595_453], ANY, [0, 1_000, 3, 8_500], 1582, &[18, 5, 2, 12, 9, 10, 4, 14, 13, 15, 17, 3, 6, 19, 8, 20,
+        11, 7, 1, 16], false;
+    [20, 10, 587_595_453], ANY, [0, 50, 2_147_483_645, 8_500], 1586, &[18, 5, 2, 12, 17, 15, 3, 9, 10, 14, 4, 6, 19,
+        8, 20, 11, 13, 7, 1, 16], false;
+    [21, 26, 8], ANY, [0, 40, 1, 8_500], 2638, &[2, 17, 10, 9, 12, 19, 8, 5, 18, 7, 1, 20, 13, 21, 3, 15, 6, 14, 4,
+        16, 11], false;
     // The start has a makespan of one more than the bound, which the first round has; all these rounds would take
     // hours.
-    (
-        [6, 3, 17],
-        ANY,
-        [0, 5, 1, 8_500],
-        415,
-        &[1, 6, 3, 2, 5, 4],
-        true,
-    ),
-    (
-        [6, 3, 17],
-        ANY,
-        [0, 100_000_000, 1, 8_500],
-        415,
-        &[1, 6, 3, 2, 5, 4],
-        true,
-    ),
+    [6, 3, 17], ANY, [0, 5, 1, 8_500], 415, &[1, 6, 3, 2, 5, 4], true;
+    [6, 3, 17], ANY, [0, 100_000_000, 1, 8_500], 415, &[1, 6, 3, 2, 5, 4], true;
     // No sequence has the bound, 363: all 40,320 were tried.
-    (
-        [8, 3, 12],
-        ANY,
-        [0, 20, 1, 8_500],
-        369,
-        &[1, 3, 4, 8, 6, 5, 2, 7],
-        false,
-    ),
+    [8, 3, 12], ANY, [0, 20, 1, 8_500], 369, &[1, 3, 4, 8, 6, 5, 2, 7], false;
     // The seed is the greatest.
-    (
-        [15, 7, 4],
-        ANY,
-        [0, 12, 2_147_483_646, 8_500],
-        969,
-        &[3, 1, 14, 12, 2, 10, 13, 6, 5, 15, 7, 9, 8, 4, 11],
-        false,
-    ),
+    [15, 7, 4], ANY, [0, 12, 2_147_483_646, 8_500], 969, &[3, 1, 14, 12, 2, 10, 13, 6, 5, 15, 7, 9, 8, 4, 11], false;
     // All jobs leave the list in each round.
-    ([3, 4, 1], ANY, [0, 6, 5, 8_500], 272, &[1, 3, 2], false),
+    [3, 4, 1], ANY, [0, 6, 5, 8_500], 272, &[1, 3, 2], false;
     // One job has one sequence; its makespan is the sum of its times, which are the generator's first three numbers.
-    ([1, 3, 5], ANY, [0, 4, 9, 8_500], 145, &[1], true),
+    [1, 3, 5], ANY, [0, 4, 9, 8_500], 145, &[1], true;
     // With no round, the start and its makespan, by the recurrence; and on one machine, where all sequences have one
     // makespan, the sum of the times, and none is below that of the start.
-    ([6, 4, 8], DOWN, [0, 0, 3, 8_500], 413, DOWN, false),
-    ([6, 1, 8], DOWN, [0, 9, 3, 8_500], 180, DOWN, true),
-];
+    [6, 4, 8], DOWN, [0, 0, 3, 8_500], 413, DOWN, false;
+    [6, 1, 8], DOWN, [0, 9, 3, 8_500], 180, DOWN, true;
+};
 
 /// What is reached from a start of an instance; none where its numbers are no effort, or it is refused.
 fn reached(
@@ -337,7 +182,7 @@ fn rounds_after(alloc: Global, instance: &Instance, whole: bool) -> Option<Reach
     match beam(alloc, instance, &start, effort.width(), effort.beam_work()) {
         Ok(mut beamed) => {
             beamed.whole = whole;
-            rounds_of_both(alloc, instance, &start, &beamed, &effort).ok()
+            rounds_of_both(alloc, instance, &start, &beamed, &effort, &Never).ok()
         }
         Err(_) => None,
     }

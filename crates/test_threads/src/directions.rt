@@ -7,54 +7,20 @@ use flow_workers::{News, Watch, Workers, prove_by};
 use sha2::{Digest, Sha256};
 use std::alloc::Global;
 use std::cell::Cell;
+use std::test::Fail;
 use std::thread::Threads;
 
 /// Jobs, machines and seed of a published instance, its least makespan, how many directions prove it, and how the
 /// SHA-256 of the directions begins. The program in plain Rust, bench/plain.rs, found the same.
 type Published = (u32, u32, u32, u64, u64, [u8; 8]);
 
-static PUBLISHED: [Published; 5] = [
-    (
-        20,
-        5,
-        873_654_221,
-        1_278,
-        7,
-        [0x02, 0xa9, 0x5d, 0xc3, 0x66, 0x0c, 0xb8, 0x3b],
-    ),
-    (
-        20,
-        10,
-        587_595_453,
-        1_582,
-        116_565,
-        [0xbc, 0xc0, 0x60, 0xb7, 0x9c, 0x20, 0xdf, 0x75],
-    ),
-    (
-        20,
-        10,
-        1_672_900_551,
-        1_591,
-        198_674,
-        [0x6e, 0x97, 0xbf, 0x64, 0x61, 0xa5, 0x28, 0x18],
-    ),
-    (
-        50,
-        10,
-        655_816_003,
-        2_839,
-        636_142,
-        [0x18, 0x64, 0x60, 0x89, 0x82, 0xe5, 0x61, 0x10],
-    ),
-    (
-        500,
-        20,
-        1_368_624_604,
-        26_040,
-        2_226,
-        [0x75, 0x00, 0x64, 0x5f, 0xe1, 0x97, 0x34, 0xec],
-    ),
-];
+static PUBLISHED: [Published; 5] = rows! {
+    20, 5, 873_654_221, 1_278, 7, [0x02, 0xa9, 0x5d, 0xc3, 0x66, 0x0c, 0xb8, 0x3b];
+    20, 10, 587_595_453, 1_582, 116_565, [0xbc, 0xc0, 0x60, 0xb7, 0x9c, 0x20, 0xdf, 0x75];
+    20, 10, 1_672_900_551, 1_591, 198_674, [0x6e, 0x97, 0xbf, 0x64, 0x61, 0xa5, 0x28, 0x18];
+    50, 10, 655_816_003, 2_839, 636_142, [0x18, 0x64, 0x60, 0x89, 0x82, 0xe5, 0x61, 0x10];
+    500, 20, 1_368_624_604, 26_040, 2_226, [0x75, 0x00, 0x64, 0x5f, 0xe1, 0x97, 0x34, 0xec];
+};
 
 /// How many workers there are.
 const WORKERS: [usize; 6] = [0, 1, 2, 3, 4, 64];
@@ -65,20 +31,32 @@ struct Told {
     last: Cell<u64>,
     fell: Cell<bool>,
     times: Cell<u64>,
+    /// How often it was asked whether the time is over, and after how often it is.
+    asked: Cell<u64>,
+    most: u64,
 }
 
 impl Told {
-    /// It was told nothing.
+    /// It was told nothing, and no time is over.
     fn nothing() -> Told {
+        Told::until(u64::MAX)
+    }
+
+    /// It was told nothing, and the time is over once it was asked more often than so.
+    fn until(most: u64) -> Told {
         Told {
             last: Cell::new(0),
             fell: Cell::new(false),
             times: Cell::new(0),
+            asked: Cell::new(0),
+            most,
         }
     }
 }
 
 impl Watch for Told {
+    fn begin(&self, _asked: bool, _seconds: Option<u32>) {}
+
     fn is_on(&self) -> bool {
         true
     }
@@ -91,6 +69,15 @@ impl Watch for Told {
             self.last.set(directions);
             self.times.set(self.times.get().saturating_add(1));
         }
+    }
+
+    fn is_limited(&self) -> bool {
+        self.most < u64::MAX
+    }
+
+    fn is_over(&self) -> bool {
+        self.asked.set(self.asked.get().saturating_add(1));
+        self.asked.get() > self.most
     }
 }
 
@@ -107,7 +94,7 @@ fn is_published<R: Threads + Sync>(rt: &R, alloc: Global, row: &Published, worke
         count: workers,
         watch: &told,
     };
-    let Ok(Found::Proved(text)) = prove_by(&workers, alloc, &instance, number, length) else {
+    let Ok(Some(Found::Proved(text))) = prove_by(&workers, alloc, &instance, number, length) else {
         return false;
     };
     let begins = Sha256::digest(text.as_slice()).starts_with(&digest);
@@ -115,7 +102,7 @@ fn is_published<R: Threads + Sync>(rt: &R, alloc: Global, row: &Published, worke
         return false;
     }
     for budget in [0, 1, length / 2, length.saturating_sub(1)] {
-        if prove_by(&workers, alloc, &instance, number, budget) != Ok(Found::Over) {
+        if prove_by(&workers, alloc, &instance, number, budget) != Ok(Some(Found::Over)) {
             return false;
         }
     }
@@ -129,7 +116,7 @@ fn is_published<R: Threads + Sync>(rt: &R, alloc: Global, row: &Published, worke
             return false;
         }
     }
-    begins && text.len() as u64 == length && below == Ok(alone)
+    begins && text.len() as u64 == length && below == Ok(Some(alone))
 }
 
 #[test]
@@ -178,4 +165,27 @@ fn rounds_grow_with_the_directions(rt: HostRuntime) {
             "{workers} workers: told {times} times"
         );
     }
+}
+
+/// Workers, and how often a watch is asked whether the time is over before it is: after 0 rounds, 1 and 5.
+static ENDS: [(usize, u64); 6] = [(1, 0), (1, 1), (1, 5), (4, 0), (4, 1), (4, 5)];
+
+/// A search ends with nothing where its time is over, and is asked no more then.
+#[test]
+fn a_search_ends_where_its_time_is_over(rt: HostRuntime) -> Result<(), Fail> {
+    let (jobs, machines, seed, number, length, _) = PUBLISHED[1];
+    let instance = generate(rt.alloc(), jobs, machines, seed)?;
+    for (count, most) in &ENDS {
+        let told = Told::until(*most);
+        let workers = Workers {
+            rt: &rt,
+            count: *count,
+            watch: &told,
+        };
+        let found = prove_by(&workers, rt.alloc(), &instance, number, length)?;
+        assert_eq!(rt; found, None, "{count} workers, {most}");
+        assert_eq!(rt; told.asked.get(), most.saturating_add(1), "{count} workers");
+        assert!(rt; told.last.get() < length, "{count} workers, {most}");
+    }
+    Ok(())
 }

@@ -241,29 +241,12 @@ type Held = (Run, &'static [Hold], u32);
 /// prefix 9 was reached, and then so long that the hub parks: the lane of worker 0 is full, answer 0 is the next in
 /// turn, and worker 1 receives no more. There prefix 2 is held until prefix 11 was reached, which the hub has still to
 /// send.
-static HELD: [Held; 3] = [
-    (
-        Run { workers: 2, ..RUN },
-        &[(0, 0b11, 0), (1, 0b11, 0)],
-        0b111,
-    ),
-    (
-        Run { workers: 3, ..RUN },
-        &[(0, 0b111, 0), (1, 0b111, 0), (2, 0b111, 0)],
-        0b111,
-    ),
-    (
-        Run {
-            shop: ONE_LONG_JOB,
-            workers: 2,
-            depth: 2,
-            wanted: Wanted::Found(28, 72),
-            ..RUN
-        },
-        &[(0, 0b10_0000_0000, PARKED), (2, 0b1000_0000_0000, 0)],
-        0b1111_1111_1111,
-    ),
-];
+static HELD: [Held; 3] = rows! {
+    Run { workers: 2, ..RUN }, &[(0, 0b11, 0), (1, 0b11, 0)], 0b111;
+    Run { workers: 3, ..RUN }, &[(0, 0b111, 0), (1, 0b111, 0), (2, 0b111, 0)], 0b111;
+    Run { shop: ONE_LONG_JOB, workers: 2, depth: 2, wanted: Wanted::Found(28, 72), ..RUN }, &[(0, 0b10_0000_0000,
+        PARKED), (2, 0b1000_0000_0000, 0)], 0b1111_1111_1111;
+};
 
 /// Whether a run comes to what it should where its workers are held, none of them gives up, and its prefixes are
 /// reached.
@@ -281,33 +264,12 @@ fn solve_runs_workers_side_by_side(rt: HostRuntime) {
 }
 
 /// Runs whose calls of the gate are noted, and how many prefixes they have.
-static TOLD: [(Run, u32); 4] = [
-    (
-        Run {
-            workers: 2,
-            depth: 0,
-            wanted: ROOT,
-            ..RUN
-        },
-        1,
-    ),
-    (
-        Run {
-            depth: 3,
-            wanted: LEAVES,
-            ..RUN
-        },
-        6,
-    ),
-    (Run { workers: 64, ..RUN }, 3),
-    (
-        Run {
-            workers: 64,
-            ..ALL_PREFIXES
-        },
-        90,
-    ),
-];
+static TOLD: [(Run, u32); 4] = rows! {
+    Run { workers: 2, depth: 0, wanted: ROOT, ..RUN }, 1;
+    Run { depth: 3, wanted: LEAVES, ..RUN }, 6;
+    Run { workers: 64, ..RUN }, 3;
+    Run { workers: 64, ..ALL_PREFIXES }, 90;
+};
 
 /// Whether each prefix was told once, by its worker; and in its turn, where there is one worker.
 fn are_told(calls: &Calls, prefixes: u32, workers: u32) -> bool {

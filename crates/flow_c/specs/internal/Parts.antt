@@ -40,5 +40,6 @@ IsToldBy advanced told =
 
 -- a search of a node with a budget came to what is told so
 abbrev pub IsComeTo : Shop → ℕ → ℕ → NodeLists → Searched → Type 0
-IsComeTo shop number budget node told =
-    (advanced : Advanced) × IsAdvanced shop number budget node.first.now node.last.now advanced × IsToldBy advanced told
+IsComeTo shop threshold budget node told =
+    (advanced : Advanced) × IsAdvanced shop threshold budget node.first.now node.last.now advanced
+    × IsToldBy advanced told

@@ -25,10 +25,10 @@ pub record AreLater (shop : Shop) (before after : Searches) : Type 0 where
   pub upper : after.known.upper ≤ before.known.upper
   pub lower : before.known.lower ≤ after.known.lower
 
--- after a search below a number: it was over; or the number is proved; or a sequence below it is known
+-- after a search below a threshold: it was over; or the number is proved; or a sequence below it is known
 abbrev pub IsSearched : ℕ → Searches → Searches → Bool → Type 0
-IsSearched number before after true =
+IsSearched threshold before after true =
     (after.known.lower ≡ before.known.lower) × (after.known.upper ≡ before.known.upper)
-IsSearched number before after false =
-    ((after.known.lower ≡ number) × (after.known.upper ≡ before.known.upper))
-    ⊎ ((after.known.lower ≡ before.known.lower) × (after.known.upper < number))
+IsSearched threshold before after false =
+    ((after.known.lower ≡ threshold) × (after.known.upper ≡ before.known.upper))
+    ⊎ ((after.known.lower ≡ before.known.lower) × (after.known.upper < threshold))

@@ -1,7 +1,6 @@
 -- What is kept of the nodes whose children are read.
 use Rattle.std.specs.Prelude.{ℕ, zero, suc, ◌≡◌, ◌+◌, ◌-◌, ◌*◌, ◌/◌, ◌<◌, ◌≤◌, min, false, List, [], ◌∷◌, ◌++◌, length, take}
 use Rattle.std.specs.Prelude.{slice_index, slice_index_or}
-use Rattle.std.specs.Global.{Vec}
 use Rattle.std.specs.List.{AllByRecursion}
 use Rattle.flow_shop.specs.Shop.{Shop}
 use Rattle.flow_shop.specs.Sequences.{has}
@@ -9,7 +8,7 @@ use Rattle.flow_shop.specs.Ends.{end_bound}
 use Rattle.flow_shop.specs.Directions.{first_with, last_with}
 use Rattle.flow_shop.specs.declared.end.End.{End}
 use Rattle.flow_shop.specs.declared.end.End.TheVariants.{Front}
-use Rattle.flow_nodes.specs.Lanes.{limit_of}
+use Rattle.flow_nodes.specs.Vectors.{limit_of}
 use Rattle.flow_nodes.specs.Nodes.{IsJob, IsNode}
 use Rattle.flow_nodes.specs.Groups.{child_bound}
 use Rattle.flow_nodes.specs.Marks.{mark, chosen}
@@ -18,19 +17,19 @@ use Rattle.flow_nodes.specs.declared.pack.Pack.{Pack}
 use Rattle.flow_check.specs.declared.two_ended.walk.NodeFrame.{NodeFrame}
 use Rattle.flow_check.specs.declared.two_ended.walk.Path.{Path}
 
--- a job left whose child at an end is below the number
-pub record IsOpen (shop : Shop) (number : ℕ) (end : End) (first last : List ℕ) (job : ℕ) : Type 0 where
+-- a job left whose child at an end is below the threshold
+pub record IsOpen (shop : Shop) (threshold : ℕ) (end : End) (first last : List ℕ) (job : ℕ) : Type 0 where
   pub is_job : IsJob shop job
   pub left : has (first ++ last) job ≡ false
-  pub below : child_bound shop end first last job < number
+  pub below : child_bound shop end first last job < threshold
 
 -- the frame of a node, whose jobs left stand among some names
-pub record IsFrame (shop : Shop) (number : ℕ) (first last names : List ℕ) (frame : NodeFrame) : Type 0 where
+pub record IsFrame (shop : Shop) (threshold : ℕ) (first last names : List ℕ) (frame : NodeFrame) : Type 0 where
   pub is_node : IsNode shop first last frame.node
   pub has_left : HasLeft shop first last names frame.left
   pub within : (place : ℕ) → place < length names → mark frame.below.words place ≡ 1 →
       mark frame.left.words place ≡ 1
-  pub each : AllByRecursion (IsOpen shop number frame.end first last) (chosen frame.below.words names)
+  pub each : AllByRecursion (IsOpen shop threshold frame.end first last) (chosen frame.below.words names)
 
 -- the first list to which frames lead, that of the root first
 abbrev pub first_of : List ℕ → List NodeFrame → List ℕ
@@ -44,10 +43,11 @@ last_of last (frame ∷ frames) = last_of (last_with frame.end last frame.job) f
 
 -- frames of which each is of the child that the one before it reads, by the names among which so many jobs left stand
 abbrev pub AreFrames : Shop → ℕ → (ℕ → List ℕ) → ℕ → List ℕ → List ℕ → List NodeFrame → Type 0
-AreFrames shop number names left first last [] = Unit {0}
-AreFrames shop number names left first last (frame ∷ frames) =
-    IsFrame shop number first last (names left) frame
-    × AreFrames shop number names (left - 1) (first_with frame.end first frame.job) (last_with frame.end last frame.job)
+AreFrames shop threshold names left first last [] = Unit {0}
+AreFrames shop threshold names left first last (frame ∷ frames) =
+    IsFrame shop threshold first last (names left) frame
+    × AreFrames shop threshold names (left - 1) (first_with frame.end first frame.job)
+    (last_with frame.end last frame.job)
     frames
 
 -- the frame at a place; any frame past the end
@@ -88,12 +88,6 @@ pub record HavePacks {V : Type 0} (shop : Shop) (packs : List (Pack V)) : Type 0
   pub byte_rooms : (place : ℕ) (none : Pack V) → place < length packs →
       HasByteRoom shop (slice_index_or packs place none)
 
--- so many machines are those of each group of the pack at a place
-pub record HasMachines {V : Type 0} (machines place : ℕ) (packs : List (Pack V)) : Type 0 where
-  pub each : (none : Pack V) (group : ℕ) (other : Vec V) →
-      group < length (slice_index_or packs place none).groups.items →
-      machines ≡ length (slice_index_or (slice_index_or packs place none).groups.items group other).items
-
 -- the packs of nodes at which so many jobs are left, or more
 pub record ArePacks {V : Type 0} (list : V → List ℕ) (cap width : ℕ) (shop : Shop) (left : ℕ)
     (packs : List (Pack V)) : Type 0 where
@@ -104,11 +98,11 @@ pub record ArePacks {V : Type 0} (list : V → List ℕ) (cap width : ℕ) (shop
       AreBytes shop (slice_index_or packs (pack_groups more - 1) none)
 
 -- a path whose node can be opened: its jobs left stand in the pack of so many groups
-pub record IsReady {V : Type 0} (list : V → List ℕ) (cap width : ℕ) (shop : Shop) (number : ℕ)
+pub record IsReady {V : Type 0} (list : V → List ℕ) (cap width : ℕ) (shop : Shop) (threshold : ℕ)
     (first last : List ℕ) (groups : ℕ) (path : Path V) : Type 0 where
   pub is_node : IsNode shop first last (here path).node
-  pub bound : end_bound shop first last < number
-  pub limit : path.opener.limit ≡ limit_of number
+  pub bound : end_bound shop first last < threshold
+  pub limit : path.opener.limit ≡ limit_of threshold
   pub room : HasRoomFor shop path.opener
   pub is_pack : (none : Pack V) → IsPack list cap width shop (slice_index_or path.packs.items (groups - 1) none)
   pub bytes : (none : Pack V) → AreBytes shop (slice_index_or path.packs.items (groups - 1) none)

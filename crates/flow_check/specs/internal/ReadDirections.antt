@@ -29,14 +29,14 @@ abbrev pub read_at : (End → List ℕ → Reading) → Option End → List ℕ 
 read_at read None text = Err (Tree 5)
 read_at read (Some end) text = read end text
 
--- the text behind the directions that prove a number for a node with so many jobs left, or the first fault
+-- the text behind the directions that prove a threshold for a node with so many jobs left, or the first fault
 abbrev pub read_node : Shop → ℕ → ℕ → List ℕ → List ℕ → List ℕ → Reading
-read_node shop number zero first last text =
-    cond (nat_le number (end_bound shop first last)) (Ok text) (Err (Low 5))
-read_node shop number (suc left) first last text =
-    cond (nat_le number (end_bound shop first last)) (Ok text)
+read_node shop threshold zero first last text =
+    cond (nat_le threshold (end_bound shop first last)) (Ok text) (Err (Low 5))
+read_node shop threshold (suc left) first last text =
+    cond (nat_le threshold (end_bound shop first last)) (Ok text)
     (read_at
-    (λ end. each_tree (λ job. read_node shop number left (first_with end first job) (last_with end last job))
+    (λ end. each_tree (λ job. read_node shop threshold left (first_with end first job) (last_with end last job))
     (jobs_left shop.jobs (first ++ last)))
     (first_end text) (drop 1 text))
 

@@ -1,4 +1,4 @@
-//! The walk through the nodes that directions open: where the directions end that prove a number.
+//! The walk through the nodes that directions open: where the directions end that prove a threshold.
 
 ghost use Rattle.std.specs.Prelude.{◌≡◌, ◌≢◌, ◌⊎◌, ℕ, ◌+◌, ◌-◌, ◌*◌, ◌%◌, ◌≤◌, ◌<◌, true, false, List, [], ◌∷◌, ◌++◌};
 ghost use Rattle.std.specs.Prelude.{length, drop, take, slice_index, slice_index_or, Err, IfOk, IfErr, IfSome, IfNone};
@@ -8,25 +8,26 @@ ghost use Rattle.flow_shop.specs.Rows.{AreRows, IsRow};
 ghost use Rattle.flow_shop.specs.Sequences.{has};
 ghost use Rattle.flow_shop.specs.Directions.{Proves, first_with, last_with};
 ghost use Rattle.flow_nodes.specs.Nodes.{IsJob, IsNode};
-ghost use Rattle.flow_nodes.specs.Lanes.{limit_of};
+ghost use Rattle.flow_nodes.specs.Vectors.{limit_of};
 ghost use Rattle.flow_nodes.specs.Marks.{mark, chosen};
 ghost use Rattle.flow_nodes.specs.Packs.{AreBytes, HasByteRoom, HasLeft, HasRoom, HasRoomFor, IsPack, left_below};
 ghost use Rattle.flow_nodes.specs.declared.pack.Pack.{Pack};
 ghost use Rattle.flow_check.specs.TwoEndedFaults.{HasDirectionsFault};
-ghost use Rattle.flow_check.specs.internal.Frames.{ArePacks, HasMachines, HavePacks, IsNext, IsReady};
+ghost use Rattle.flow_check.specs.internal.Frames.{ArePacks, HavePacks, IsNext, IsReady};
 ghost use Rattle.flow_check.specs.internal.Frames.{frame_at, here, above, names_at, pack_groups};
 ghost use Rattle.flow_check.specs.internal.ReadDirections.{EndsAt, first_end, read_node};
 ghost use Rattle.flow_check.specs.declared.fault.CheckFault.TheVariants.{Memory};
 
 use crate::fault::CheckFault;
 use crate::two_ended::DIRECTIONS;
-use flow_nodes::{LANES, Lanes, Marks, Node, Opener, Pack, fits_narrow_lanes, limit_of};
+use crate::two_ended::marked::pop_marked;
+use flow_nodes::{LANES, Marks, Node, Opener, Pack, Vector, fits_narrow_lanes, limit_of};
 use flow_shop::{End, Instance, Row, rows};
 use std::alloc::{AllocError, Global};
 use std::simd::prelude::*;
 
-/// A node below the number whose children at an end are read. The jobs left stand in a pack, which is that of the nodes
-/// with as many groups of jobs left.
+/// A node below the threshold whose children at an end are read. The jobs left stand in a pack, which is that of the
+/// nodes with as many groups of jobs left.
 #[derive(Clone, Copy)]
 pub(crate) struct NodeFrame {
     /// What is kept of the node.
@@ -35,7 +36,7 @@ pub(crate) struct NodeFrame {
     pub(crate) left: Marks,
     /// The end.
     pub(crate) end: End,
-    /// The places of the jobs whose children are below the number and still to be read.
+    /// The places of the jobs whose children are below the threshold and still to be read.
     pub(crate) below: Marks,
     /// The job of the child that is read, or 0 before the first.
     pub(crate) job: u16,
@@ -175,7 +176,7 @@ fn fit_bytes(rows: &[Row]) -> bool {
 }
 
 /// A pack with room for so many groups; and for their times in bytes, if they are wanted.
-fn new_pack<V: Lanes>(
+fn new_pack<V: Vector>(
     alloc: Global,
     instance: &Instance,
     count: usize,
@@ -194,7 +195,7 @@ fn new_pack<V: Lanes>(
 }
 
 /// Fills the pack of so many groups with the jobs at marked places of a pack that has more.
-fn refill<V: Lanes>(
+fn refill<V: Vector>(
     packs: &mut [Pack<V>],
     instance: &Instance,
     rows: &[Row],
@@ -226,7 +227,7 @@ fn refill<V: Lanes>(
     fewer[groups - 1].fill(instance, rows, &more[from - 1 - groups], left);
 }
 
-impl<V: Lanes> Path<V> {
+impl<V: Vector> Path<V> {
     /// The path of a root, at which all jobs are left, with memory for so many nodes as there are jobs.
     fn new(
         alloc: Global,
@@ -270,17 +271,17 @@ impl<V: Lanes> Path<V> {
         })
     }
 
-    /// Begins with the children of the node at an end, of those below the number. So many groups of jobs are left.
+    /// Begins with the children of the node at an end, of those below the threshold. So many groups of jobs are left.
     #[inline(always)]
     fn open<const M: usize>(&mut self, end: End, groups: usize)
         requires wide { V.WIDTH ≡ 16 }
-        requires constant { (M ≡ 0) ⊎ HasMachines M (groups - 1) self.old.packs.items }
+        requires constant { (M ≡ 0) ⊎ (M ≡ self.old.opener.machines) }
         requires limit { self.old.opener.limit ≤ V.CAP }
         requires some { 1 ≤ groups }
         requires few { groups ≤ length self.old.packs.items }
         requires within { self.old.depth < length self.old.frames.items }
-        requires at { (shop : Shop) × (number : ℕ) × (first : List ℕ) × (last : List ℕ)
-            × IsReady V.list V.CAP V.WIDTH shop number first last groups self.old }
+        requires at { (shop : Shop) × (threshold : ℕ) × (first : List ℕ) × (last : List ℕ)
+            × IsReady V.list V.CAP V.WIDTH shop threshold first last groups self.old }
         ensures depth { self.new.depth ≡ self.old.depth }
         ensures size { length self.new.frames.items ≡ length self.old.frames.items }
         ensures above { above self.new ≡ above self.old }
@@ -293,10 +294,10 @@ impl<V: Lanes> Path<V> {
         ensures within { (none : Pack V) (place : ℕ) →
             place < length (slice_index_or self.old.packs.items (groups - 1) none).groups.items * 16 →
             mark (here self.new).below.words place ≡ 1 → mark (here self.old).left.words place ≡ 1 }
-        ensures below { (shop : Shop) (number : ℕ) (first last : List ℕ) →
-            IsReady V.list V.CAP V.WIDTH shop number first last groups self.old →
+        ensures below { (shop : Shop) (threshold : ℕ) (first last : List ℕ) →
+            IsReady V.list V.CAP V.WIDTH shop threshold first last groups self.old →
             chosen (here self.new).below.words (names_at self.old.packs.items (groups - 1))
-            ≡ left_below shop number end first last }
+            ≡ left_below shop threshold end first last }
     {
         let frame = &mut self.frames[self.depth];
         frame.end = end;
@@ -309,7 +310,7 @@ impl<V: Lanes> Path<V> {
         );
     }
 
-    /// The place of the next job whose child at the node is below the number, where so many groups of jobs are left.
+    /// The place of the next job whose child at the node is below the threshold, where so many groups of jobs are left.
     /// `None` where no other such job is left.
     #[inline(always)]
     fn next(&mut self, groups: usize) -> Option<usize>
@@ -339,7 +340,7 @@ impl<V: Lanes> Path<V> {
             (chosen (here self.old).below.words (names_at self.old.packs.items (groups - 1)) ≡ []) }
     {
         let frame = &mut self.frames[self.depth];
-        let place = frame.below.pop(groups)?;
+        let place = pop_marked(&mut frame.below, groups)?;
         frame.job = self.packs[groups - 1].names[place];
         Some(place)
     }
@@ -455,26 +456,26 @@ impl<V: Lanes> Path<V> {
     }
 }
 
-/// Where the directions end, at the beginning of a text, that prove a number; or the first fault.
-fn walk<V: Lanes, const M: usize>(
+/// Where the directions end, at the beginning of a text, that prove a threshold; or the first fault.
+fn walk<V: Vector, const M: usize>(
     alloc: Global,
     instance: &Instance,
-    number: u64,
+    threshold: u64,
     text: &[u8],
 ) -> Result<usize, CheckFault>
     requires wide { V.WIDTH ≡ 16 }
     requires constant { (M ≡ 0) ⊎ (M ≡ instance.now.machines) }
-    requires number { limit_of number ≤ V.CAP }
+    requires threshold { limit_of threshold ≤ V.CAP }
     ensures within { IfOk result (λ place. place ≤ length text.now) }
-    ensures read { EndsAt text.now (read_node instance.now number instance.now.jobs [] [] text.now) result
+    ensures read { EndsAt text.now (read_node instance.now threshold instance.now.jobs [] [] text.now) result
         ⊎ (result ≡ Err Memory) }
 {
     let root = Node::root(instance);
-    if u64::from(root.bound(instance)) >= number {
+    if u64::from(root.bound(instance)) >= threshold {
         return Ok(0);
     }
     let rows = rows(alloc, instance)?;
-    let mut path = Path::<V>::new(alloc, instance, rows.as_slice(), root, limit_of(number))?;
+    let mut path = Path::<V>::new(alloc, instance, rows.as_slice(), root, limit_of(threshold))?;
     let Some(end) = end_at(text, 0) else {
         return Err(CheckFault::Tree(DIRECTIONS));
     };
@@ -506,42 +507,42 @@ fn walk<V: Lanes, const M: usize>(
     }
 }
 
-/// The same with narrow lanes, in which the number has to fit.
+/// The same with narrow lanes, in which the threshold has to fit.
 fn walk_narrow(
     alloc: Global,
     instance: &Instance,
-    number: u64,
+    threshold: u64,
     text: &[u8],
 ) -> Result<usize, CheckFault>
-    requires { limit_of number ≤ 65535 }
+    requires { limit_of threshold ≤ 65535 }
     ensures within { IfOk result (λ place. place ≤ length text.now) }
-    ensures read { EndsAt text.now (read_node instance.now number instance.now.jobs [] [] text.now) result
+    ensures read { EndsAt text.now (read_node instance.now threshold instance.now.jobs [] [] text.now) result
         ⊎ (result ≡ Err Memory) }
 {
     match instance.machines() {
-        5 => walk::<u16x16, 5>(alloc, instance, number, text),
-        10 => walk::<u16x16, 10>(alloc, instance, number, text),
-        20 => walk::<u16x16, 20>(alloc, instance, number, text),
-        _ => walk::<u16x16, 0>(alloc, instance, number, text),
+        5 => walk::<u16x16, 5>(alloc, instance, threshold, text),
+        10 => walk::<u16x16, 10>(alloc, instance, threshold, text),
+        20 => walk::<u16x16, 20>(alloc, instance, threshold, text),
+        _ => walk::<u16x16, 0>(alloc, instance, threshold, text),
     }
 }
 
-/// Where the directions end, at the beginning of a text, that prove a number; or the fault of those that should stand
-/// there; or `Memory`.
+/// Where the directions end, at the beginning of a text, that prove a threshold; or the fault of those that should
+/// stand there; or `Memory`.
 pub(crate) fn directions_end(
     alloc: Global,
     instance: &Instance,
-    number: u64,
+    threshold: u64,
     text: &[u8],
 ) -> Result<usize, CheckFault>
     ensures within { IfOk result (λ place. place ≤ length text.now) }
-    ensures proved { IfOk result (λ place. Proves instance.now number (take place text.now)) }
+    ensures proved { IfOk result (λ place. Proves instance.now threshold (take place text.now)) }
     ensures fault { IfErr result (λ fault.
-        HasDirectionsFault instance.now number instance.now.jobs [] [] text.now fault ⊎ (fault ≡ Memory)) }
+        HasDirectionsFault instance.now threshold instance.now.jobs [] [] text.now fault ⊎ (fault ≡ Memory)) }
 {
-    if fits_narrow_lanes(number) {
-        walk_narrow(alloc, instance, number, text)
+    if fits_narrow_lanes(threshold) {
+        walk_narrow(alloc, instance, threshold, text)
     } else {
-        walk::<u32x16, 0>(alloc, instance, number, text)
+        walk::<u32x16, 0>(alloc, instance, threshold, text)
     }
 }

@@ -3,14 +3,14 @@
 ghost use Rattle.std.specs.Prelude.{◌≡◌, ◌≢◌, ℕ, ◌+◌, ◌*◌, ◌/◌, ◌-◌, ◌<◌, ◌≤◌, true, false, All};
 ghost use Rattle.std.specs.Prelude.{length, slice_index, slice_index_or};
 ghost use Rattle.flow_limits.specs.Limits.{most_jobs};
-ghost use Rattle.flow_nodes.specs.Lanes.{capped, HasLane};
+ghost use Rattle.flow_nodes.specs.Vectors.{capped, HasLane};
 ghost use Rattle.flow_nodes.specs.Groups.{AreGroups, child_bound};
 ghost use Rattle.flow_improve.specs.internal.Beams.{HasBounds, IsEntry, first_of, job_at, last_of};
 ghost use Rattle.flow_improve.specs.internal.Opens.{bound_sum, count_below, plain_end};
 
 use crate::two_ended::entry::Entry;
 use flow_limits::MAX_JOBS;
-use flow_nodes::{LANES, Lanes, fewer_below, greater_sum};
+use flow_nodes::{LANES, Vector, fewer_below, greater_sum};
 use flow_shop::{End, Instance};
 
 /// How many groups of jobs there are at most.
@@ -31,7 +31,7 @@ fn groups_of(jobs: &[u16]) -> [bool; GROUPS]
 }
 
 /// Writes the numbers of a group.
-fn write_lanes<V: Lanes>(numbers: &mut [u32; MAX_JOBS], group: usize, lanes: V)
+fn write_lanes<V: Vector>(numbers: &mut [u32; MAX_JOBS], group: usize, lanes: V)
     requires wide { V.WIDTH ≡ 16 }
     requires group { group < 50 }
     ensures count { length numbers.new ≡ most_jobs }
@@ -48,7 +48,7 @@ fn write_lanes<V: Lanes>(numbers: &mut [u32; MAX_JOBS], group: usize, lanes: V)
 /// What the plain rule compares of the children at an end.
 #[derive(Clone, Copy)]
 struct Totals {
-    /// How many of them are below a number.
+    /// How many of them are below a threshold.
     below: u32,
     /// The sum of their bounds.
     sum: u64,
@@ -75,7 +75,7 @@ impl ChildBounds {
     }
 
     /// Computes the bounds of all children of a node.
-    pub(crate) fn fill<V: Lanes>(&mut self, instance: &Instance, groups: &[Vec<V>], entry: &Entry)
+    pub(crate) fn fill<V: Vector>(&mut self, instance: &Instance, groups: &[Vec<V>], entry: &Entry)
         requires wide { V.WIDTH ≡ 16 }
         requires cap { self.old.cap ≡ V.CAP }
         requires groups { AreGroups V.list V.CAP V.WIDTH instance.now groups.now }
@@ -115,18 +115,18 @@ impl ChildBounds {
             .bound_from_lane(instance, end, job, lane, self.cap)
     }
 
-    /// How many children at an end are below a number, and the sum of the bounds of all of them.
-    fn totals(&self, instance: &Instance, entry: &Entry, end: End, number: u64) -> Totals
+    /// How many children at an end are below a threshold, and the sum of the bounds of all of them.
+    fn totals(&self, instance: &Instance, entry: &Entry, end: End, threshold: u64) -> Totals
         requires entry { IsEntry instance.now entry.now }
         requires bounds { HasBounds instance.now entry.now self.now }
-        ensures below { result.below ≡ count_below instance.now entry.now end number }
+        ensures below { result.below ≡ count_below instance.now entry.now end threshold }
         ensures sum { result.sum ≡ bound_sum instance.now entry.now end }
     {
         let mut below = 0;
         let mut sum = 0;
         for place in entry.first..entry.before {
             let bound = u64::from(self.at(instance, entry, end, place));
-            if bound < number {
+            if bound < threshold {
                 below += 1;
             }
             sum += bound;
@@ -134,15 +134,15 @@ impl ChildBounds {
         Totals { below, sum }
     }
 
-    /// The end where fewer children are below a number; where as many are, the end whose bounds sum to more; and the
+    /// The end where fewer children are below a threshold; where as many are, the end whose bounds sum to more; and the
     /// front where these sums are equal too.
-    pub(crate) fn plain_end(&self, instance: &Instance, entry: &Entry, number: u64) -> End
+    pub(crate) fn plain_end(&self, instance: &Instance, entry: &Entry, threshold: u64) -> End
         requires entry { IsEntry instance.now entry.now }
         requires bounds { HasBounds instance.now entry.now self.now }
-        ensures { result ≡ plain_end instance.now entry.now number }
+        ensures { result ≡ plain_end instance.now entry.now threshold }
     {
-        let front = self.totals(instance, entry, End::Front, number);
-        let back = self.totals(instance, entry, End::Back, number);
+        let front = self.totals(instance, entry, End::Front, threshold);
+        let back = self.totals(instance, entry, End::Back, threshold);
         match fewer_below(front.below, back.below) {
             Some(end) => end,
             None => greater_sum(front.sum, back.sum),

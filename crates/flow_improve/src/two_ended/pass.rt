@@ -5,11 +5,12 @@ ghost use Rattle.flow_shop.specs.Rows.{AreRows};
 ghost use Rattle.flow_shop.specs.Sequences.{IsSequence};
 ghost use Rattle.flow_improve.specs.internal.Beams.{ArePasses, HasBounds, HasLeastBound, IsEntry};
 
+use crate::deadline::Deadline;
 use crate::two_ended::best_children::{BestChildren, Child};
 use crate::two_ended::bounds::ChildBounds;
 use crate::two_ended::child_order::{ChildOrder, Mode};
 use crate::two_ended::entry::{Entry, copies};
-use flow_nodes::{Lanes, groups};
+use flow_nodes::{Vector, groups};
 use flow_shop::{End, Instance, Row};
 use std::alloc::{AllocError, Global};
 use std::mem;
@@ -20,28 +21,28 @@ pub(crate) struct PassPlan {
     /// The most nodes of a list.
     pub(crate) width: u32,
     pub(crate) mode: Mode,
-    /// A node is opened at the end where fewer children are below this number, and then where their bounds sum to more.
-    /// No child is below 0: then the sum alone decides.
+    /// A node is opened at the end where fewer children are below this threshold, and then where their bounds sum to
+    /// more. No child is below 0: then the sum alone decides.
     pub(crate) fewer: u64,
-    /// Children are kept whose bound is below this number.
+    /// Children are kept whose bound is below this threshold.
     pub(crate) below: u64,
 }
 
 impl PassPlan {
-    /// The same pass over children below a number too.
-    pub(crate) fn at_most(&self, number: u64) -> PassPlan
+    /// The same pass over children below a threshold too.
+    pub(crate) fn at_most(&self, threshold: u64) -> PassPlan
         ensures { result ≡ record {
           width = self.now.width;
           mode = self.now.mode;
           fewer = self.now.fewer;
-          below = min self.now.below number;
+          below = min self.now.below threshold;
         } }
     {
         PassPlan {
             width: self.width,
             mode: self.mode,
             fewer: self.fewer,
-            below: self.below.min(number),
+            below: self.below.min(threshold),
         }
     }
 }
@@ -81,7 +82,7 @@ pub(crate) fn greatest_time(rows: &[Row]) -> u32 {
 #[derive(Clone, Copy)]
 struct Offers {
     order: ChildOrder,
-    /// Children are offered whose bound is below this number.
+    /// Children are offered whose bound is below this threshold.
     below: u64,
     /// The place of the node in the list.
     parent: usize,
@@ -129,7 +130,7 @@ impl Offers {
     }
 }
 
-impl<V: Lanes> Passes<V> {
+impl<V: Vector> Passes<V> {
     /// Room for passes of at most this width.
     pub(crate) fn new(
         alloc: Global,
@@ -231,8 +232,13 @@ impl<V: Lanes> Passes<V> {
         self.count = count;
     }
 
-    /// A pass. Returns whether no child was dropped.
-    pub(crate) fn pass(&mut self, instance: &Instance, plan: &PassPlan) -> Result<bool, AllocError>
+    /// A pass. Returns whether no child was dropped. Where the time is over before its end, its list has no node then.
+    pub(crate) fn pass<D: Deadline>(
+        &mut self,
+        instance: &Instance,
+        plan: &PassPlan,
+        deadline: &D,
+    ) -> Result<bool, AllocError>
         requires wide { V.WIDTH ≡ 16 }
         requires passes { ArePasses V.list V.CAP V.WIDTH instance.now self.old }
         ensures { ArePasses V.list V.CAP V.WIDTH instance.now self.new }
@@ -241,6 +247,10 @@ impl<V: Lanes> Passes<V> {
         self.count = 1;
         let mut is_whole = true;
         for _ in 0..instance.jobs() {
+            if deadline.is_over() {
+                self.count = 0;
+                return Ok(false);
+            }
             self.kept.clear(plan.width as usize);
             self.bound_children(instance, plan)?;
             self.turn(instance);

@@ -5,7 +5,7 @@ use Rattle.flow_shop.specs.Least.{greatest}
 use Rattle.flow_shop.specs.Ends.{front, back}
 use Rattle.flow_shop.specs.declared.end.End.{End}
 use Rattle.flow_shop.specs.declared.end.End.TheVariants.{Front, Back}
-use Rattle.flow_nodes.specs.Lanes.{HasLane}
+use Rattle.flow_nodes.specs.Vectors.{HasLane}
 use Rattle.flow_nodes.specs.declared.passes.Pass.{Pass}
 use Rattle.flow_nodes.specs.internal.Children.{front_child_at, back_child_at}
 

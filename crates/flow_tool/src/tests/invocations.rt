@@ -101,12 +101,19 @@ const OF_BLOCK: [(&str, SecondFile<&str>, Request); 12] = [
     (
         "improve FILE 1",
         SecondFile::Absent,
-        Request::Improve(USUAL),
+        Request::Improve {
+            request: USUAL,
+            seconds: None,
+        },
     ),
     (
-        "improve FILE 1 --seed 0 --start SEQUENCE --rounds 4294967295 --width 65537 --work 7",
+        "improve FILE 1 --seed 0 --start SEQUENCE --rounds 4294967295 --width 65537 --work 7 \
+--time-limit 0",
         SecondFile::Start("SEQUENCE"),
-        Request::Improve(OTHER),
+        Request::Improve {
+            request: OTHER,
+            seconds: Some(0),
+        },
     ),
     (
         "certify FILE 1",
@@ -118,11 +125,12 @@ const OF_BLOCK: [(&str, SecondFile<&str>, Request); 12] = [
                 workers: 1,
             },
             progress: false,
+            seconds: None,
         },
     ),
     (
         "certify FILE 1 --directions 4294967295 --work 7 --width 65537 --seed 0 --rounds 4294967295 \
---workers 65 --progress --start SEQUENCE",
+--workers 65 --progress --time-limit 10 --start SEQUENCE",
         SecondFile::Start("SEQUENCE"),
         Request::Certify {
             request: CertifyRequest {
@@ -131,6 +139,7 @@ const OF_BLOCK: [(&str, SecondFile<&str>, Request); 12] = [
                 workers: 65,
             },
             progress: true,
+            seconds: Some(10),
         },
     ),
 ];

@@ -26,24 +26,24 @@ behind first more = joined first.0 first.1 more
 
 -- what a piece stands for
 abbrev pub piece_met : Shop → ℕ → Piece → Met
-piece_met shop number (Done text) = (text.items, None)
-piece_met shop number (Reached sequence text) = (text.items, Some sequence)
-piece_met shop number (Left part) = met (part_visits shop number part)
+piece_met shop threshold (Done text) = (text.items, None)
+piece_met shop threshold (Reached sequence text) = (text.items, Some sequence)
+piece_met shop threshold (Left part) = met (part_visits shop threshold part)
 
 -- what pieces stand for, one after the other
 abbrev pub pieces_met : Shop → ℕ → List Piece → Met
-pieces_met shop number [] = ([], None)
-pieces_met shop number (piece ∷ pieces) = behind (piece_met shop number piece) (pieces_met shop number pieces)
+pieces_met shop threshold [] = ([], None)
+pieces_met shop threshold (piece ∷ pieces) = behind (piece_met shop threshold piece) (pieces_met shop threshold pieces)
 
 -- what a piece that was dealt stands for
 abbrev pub dealt_met : Shop → ℕ → Dealt → Met
-dealt_met shop number (Open piece) = piece_met shop number piece
-dealt_met shop number (Searched pieces) = pieces_met shop number pieces.items
+dealt_met shop threshold (Open piece) = piece_met shop threshold piece
+dealt_met shop threshold (Searched pieces) = pieces_met shop threshold pieces.items
 
 -- what all pieces that were dealt stand for, one after the other
 abbrev pub all_met : Shop → ℕ → List Dealt → Met
-all_met shop number [] = ([], None)
-all_met shop number (one ∷ more) = behind (dealt_met shop number one) (all_met shop number more)
+all_met shop threshold [] = ([], None)
+all_met shop threshold (one ∷ more) = behind (dealt_met shop threshold one) (all_met shop threshold more)
 
 -- how many directions pieces have that were searched
 abbrev pub written : List Piece → ℕ

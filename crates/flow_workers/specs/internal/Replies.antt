@@ -11,6 +11,6 @@ HasPlace dealt reply = reply.place < length dealt
 
 -- what was found stands for the piece at its place
 abbrev pub StandsFor : Shop → ℕ → List Dealt → Reply → Type 0
-StandsFor shop number dealt reply =
-    (d : Dealt) → pieces_met shop number reply.pieces.items
-    ≡ dealt_met shop number (slice_index_or dealt reply.place d)
+StandsFor shop threshold dealt reply =
+    (d : Dealt) → pieces_met shop threshold reply.pieces.items
+    ≡ dealt_met shop threshold (slice_index_or dealt reply.place d)

@@ -13,5 +13,5 @@ IsNodeOf first last (Children begin behind end jobs) = ⊥
 
 -- what a piece that is taken off stands for, where there is one
 abbrev pub taken_met : Shop → ℕ → Option Piece → Met
-taken_met shop number None = ([], None)
-taken_met shop number (Some piece) = piece_met shop number piece
+taken_met shop threshold None = ([], None)
+taken_met shop threshold (Some piece) = piece_met shop threshold piece

@@ -1,11 +1,11 @@
 //! Two-ended certificates with the most jobs, and with many signs. How many signs they need is known by reasoning.
 
-use flow_check::{CheckFault, check_two_ended};
-use flow_core::Instance;
-use std::alloc::{AllocError, Global};
-
-/// The bounds of a lawful text, or the first fault.
-type Answer = Result<(u64, u64), CheckFault>;
+use crate::greatest::texts::jobs_line;
+use crate::two_ended::{Answer, answer_of};
+use flow_check::CheckFault;
+use flow_core::{Instance, InstanceFault};
+use std::alloc::Global;
+use std::test::Fail;
 
 /// Signs of the front.
 const FRONT: [u8; 2] = [b'+', b'+'];
@@ -16,63 +16,28 @@ const BACK: [u8; 2] = [b'-', b'-'];
 /// Signs of both ends in turn.
 const TURNS: [u8; 2] = [b'+', b'-'];
 
-/// Puts the line with so many jobs in the order of their numbers behind a text.
-fn put_jobs(alloc: Global, text: &mut Vec<u8>, jobs: u16) -> Result<(), AllocError> {
-    for job in 1..jobs.saturating_add(1) {
-        let end = if job < jobs { ' ' } else { '\n' };
-        text.extend_from_slice(format!(in alloc; "{job}{end}")?.as_bytes())?;
+/// What the checker answers for an instance with these bounds, the jobs in the order of their numbers, and so many
+/// signs.
+fn answer_with(
+    alloc: Global,
+    instance: &Instance,
+    (lower, upper): (u64, u64),
+    pattern: [u8; 2],
+    count: usize,
+) -> Result<Answer, Fail> {
+    let jobs: Vec<u16> = (1..instance.jobs() + 1).collect(alloc)?;
+    let machines = instance.machines();
+    let sizes = format!(in alloc; "{} {machines}\n{lower} {upper}\n", instance.jobs())?;
+    let line = jobs_line(alloc, jobs.as_slice())?;
+    let mut text = Vec::with_capacity(alloc, count.saturating_add(4_000))?;
+    for part in [b"flowshop two-ended 1\n", sizes.as_bytes(), line.as_slice()] {
+        text.extend_from_slice(part)?;
     }
-    Ok(())
-}
-
-/// Puts so many signs behind a text.
-fn put_signs(text: &mut Vec<u8>, pattern: [u8; 2], count: usize) -> Result<(), AllocError> {
     for place in 0..count {
         text.push(pattern[place % 2])?;
     }
-    text.extend_from_slice(b"\nend\n")
-}
-
-/// The text of an instance with these bounds, the jobs in the order of their numbers, and so many signs.
-fn text_of(
-    alloc: Global,
-    instance: &Instance,
-    bounds: (u64, u64),
-    pattern: [u8; 2],
-    count: usize,
-) -> Result<Vec<u8>, AllocError> {
-    let jobs = instance.jobs();
-    let machines = instance.machines();
-    let (lower, upper) = bounds;
-    let heading = format!(in alloc; "flowshop two-ended 1\n{jobs} {machines}\n{lower} {upper}\n")?;
-    let mut text = Vec::with_capacity(alloc, count.saturating_add(4_000))?;
-    text.extend_from_slice(heading.as_bytes())?;
-    put_jobs(alloc, &mut text, jobs)?;
-    put_signs(&mut text, pattern, count)?;
-    Ok(text)
-}
-
-/// What the checker answers for a text.
-fn answer_of(alloc: Global, instance: &Instance, text: &[u8]) -> Answer {
-    match check_two_ended(alloc, instance, text) {
-        Ok(shown) => Ok((shown.bounds.lower, shown.bounds.upper)),
-        Err(fault) => Err(fault),
-    }
-}
-
-/// Whether the checker answers so for the text of an instance with these bounds, and so many signs.
-fn answers(
-    alloc: Global,
-    instance: &Instance,
-    bounds: (u64, u64),
-    pattern: [u8; 2],
-    count: usize,
-    answer: Answer,
-) -> bool {
-    match text_of(alloc, instance, bounds, pattern, count) {
-        Ok(text) => answer_of(alloc, instance, text.as_slice()) == answer,
-        Err(_) => false,
-    }
+    text.extend_from_slice(b"\nend\n")?;
+    Ok(answer_of(alloc, instance, text.as_slice()))
 }
 
 /// Puts a time in its place.
@@ -89,10 +54,14 @@ fn put(times: &mut [u32], place: u32, time: u32) {
 /// makespan is the sum of the last machine's times, and so much more. Every job in another place lets that machine
 /// wait. So for that makespan each node has one child below it at the front, or at the back, and as many
 /// signs as jobs prove it.
-fn stairs(alloc: Global, jobs: u32, unit: u32, more: u32, for_back: bool) -> Option<Instance> {
-    let Ok(mut times) = vec![in alloc; 0u32; jobs.saturating_mul(26) as usize] else {
-        return None;
-    };
+fn stairs(
+    alloc: Global,
+    jobs: u32,
+    unit: u32,
+    more: u32,
+    for_back: bool,
+) -> Result<Instance, InstanceFault> {
+    let mut times = vec![in alloc; 0u32; jobs.saturating_mul(26) as usize]?;
     for place in 0..jobs {
         let step = if for_back { jobs - 1 - place } else { place };
         let extra = if step == jobs - 1 { more } else { 0 };
@@ -110,30 +79,16 @@ fn stairs(alloc: Global, jobs: u32, unit: u32, more: u32, for_back: bool) -> Opt
             last,
         );
     }
-    Instance::new(alloc, jobs, 26, times.as_slice()).ok()
+    Instance::new(alloc, jobs, 26, times.as_slice())
 }
 
 /// Jobs, units and what the last one takes more, the bounds, how many signs, and the fault, if there is one.
 type Stairs = (u32, u32, u32, (u64, u64), usize, Option<CheckFault>);
 
-/// Whether the checker answers so, for signs of the front, or of the back.
-fn is_answered(alloc: Global, row: &Stairs, for_back: bool) -> bool {
-    let (jobs, unit, more, bounds, count, fault) = *row;
-    let answer = match fault {
-        None => Ok(bounds),
-        Some(fault) => Err(fault),
-    };
-    let pattern = if for_back { BACK } else { FRONT };
-    match stairs(alloc, jobs, unit, more, for_back) {
-        Some(instance) => answers(alloc, &instance, bounds, pattern, count, answer),
-        None => false,
-    }
-}
-
 /// A sign is missing, or more signs follow.
 const TREE: Option<CheckFault> = Some(CheckFault::Tree(5));
 
-/// A sequence is below the number.
+/// A sequence is below the threshold.
 const LOW: Option<CheckFault> = Some(CheckFault::Low(5));
 
 /// The last machine has 1 + 2 + .. units, which are 28 of 7 jobs, 64,980 of 360, and 320,400 of 800.
@@ -150,7 +105,7 @@ static STAIRS: [Stairs; 16] = [
     (7, 2_340, 15, (65_536, 65_535), 7, LOW),
     (7, 2_340, 16, (65_536, 65_536), 7, None),
     (7, 2_340, 16, (65_535, 65_536), 7, None),
-    // The jobs in their order are below the number.
+    // The jobs in their order are below the threshold.
     (800, 1, 1, (320_402, 320_401), 799, TREE),
     (800, 1, 1, (320_402, 320_401), 800, LOW),
     (800, 1, 0, (320_401, 320_400), 800, LOW),
@@ -159,30 +114,36 @@ static STAIRS: [Stairs; 16] = [
 ];
 
 #[test]
-fn as_many_signs_as_jobs_prove_the_makespan_of_stairs(rt: HostRuntime) {
-    for row in &STAIRS {
-        assert!(rt;
-            is_answered(rt.alloc(), row, false) && is_answered(rt.alloc(), row, true),
-            "{} jobs, {} signs",
-            row.0,
-            row.4
-        );
+fn as_many_signs_as_jobs_prove_the_makespan_of_stairs(rt: HostRuntime) -> Result<(), Fail> {
+    for (jobs, unit, more, bounds, count, fault) in &STAIRS {
+        let answer = match fault {
+            None => Ok(*bounds),
+            Some(fault) => Err(*fault),
+        };
+        for (for_back, pattern) in [(false, FRONT), (true, BACK)] {
+            let instance = stairs(rt.alloc(), *jobs, *unit, *more, for_back)?;
+            let found = answer_with(rt.alloc(), &instance, *bounds, pattern, *count)?;
+            assert_eq!(rt;
+                found,
+                answer,
+                "{jobs} jobs, {count} signs, back: {for_back}"
+            );
+        }
     }
+    Ok(())
 }
 
 /// So many easy jobs and a hard one on two machines. An easy job takes 0 and 1, the hard one 1 more than there are easy
 /// ones and 20.
-fn with_a_hard_job(alloc: Global, easy: u32) -> Option<Instance> {
+fn with_a_hard_job(alloc: Global, easy: u32) -> Result<Instance, InstanceFault> {
     let jobs = easy.saturating_add(1);
-    let Ok(mut times) = vec![in alloc; 1u32; jobs.saturating_mul(2) as usize] else {
-        return None;
-    };
+    let mut times = vec![in alloc; 1u32; jobs.saturating_mul(2) as usize]?;
     for place in 0..easy {
         put(times.as_mut_slice(), place, 0);
     }
     put(times.as_mut_slice(), easy, jobs);
     put(times.as_mut_slice(), jobs.saturating_add(easy), 20);
-    Instance::new(alloc, jobs, 2, times.as_slice()).ok()
+    Instance::new(alloc, jobs, 2, times.as_slice())
 }
 
 /// Easy jobs, signs, and the answer with the least makespan.
@@ -192,14 +153,11 @@ fn with_a_hard_job(alloc: Global, easy: u32) -> Option<Instance> {
 /// Whatever the signs are, one is needed for each list of easy jobs: of 8 jobs 1 + 8 + 8 * 7 + .. + 8 * 7 * .. * 1.
 type Hard = (u32, [u8; 2], usize, Answer);
 
-/// Whether the checker answers so for so many easy jobs and a hard one.
-fn is_proved(alloc: Global, row: &Hard) -> bool {
-    let (easy, pattern, count, answer) = *row;
+/// What the checker answers for so many easy jobs and a hard one.
+fn hard_answer(alloc: Global, easy: u32, pattern: [u8; 2], count: usize) -> Result<Answer, Fail> {
     let least = u64::from(easy).saturating_add(21);
-    match with_a_hard_job(alloc, easy) {
-        Some(instance) => answers(alloc, &instance, (least, least), pattern, count, answer),
-        None => false,
-    }
+    let instance = with_a_hard_job(alloc, easy)?;
+    answer_with(alloc, &instance, (least, least), pattern, count)
 }
 
 static WITH_A_HARD_JOB: [Hard; 7] = [
@@ -213,10 +171,16 @@ static WITH_A_HARD_JOB: [Hard; 7] = [
 ];
 
 #[test]
-fn any_signs_prove_the_makespan_of_a_hard_job(rt: HostRuntime) {
-    for (number, row) in WITH_A_HARD_JOB.iter().enumerate() {
-        assert!(rt; is_proved(rt.alloc(), row), "row {number}");
+fn any_signs_prove_the_makespan_of_a_hard_job(rt: HostRuntime) -> Result<(), Fail> {
+    for (easy, pattern, count, answer) in &WITH_A_HARD_JOB {
+        let found = hard_answer(rt.alloc(), *easy, *pattern, *count)?;
+        assert_eq!(rt;
+            found,
+            *answer,
+            "{easy} easy jobs, {count} signs {pattern:?}"
+        );
     }
+    Ok(())
 }
 
 // With 11 easy jobs 108,505,112 signs are needed.
@@ -225,11 +189,13 @@ fn any_signs_prove_the_makespan_of_a_hard_job(rt: HostRuntime) {
 const TOO_FEW: Answer = Err(CheckFault::Tree(5));
 
 #[test]
-fn a_hundred_million_plus_signs_are_too_few(rt: HostRuntime) {
-    assert!(rt; is_proved(rt.alloc(), &(11, FRONT, 100_000_000, TOO_FEW)));
+fn a_hundred_million_plus_signs_are_too_few(rt: HostRuntime) -> Result<(), Fail> {
+    assert_eq!(rt; hard_answer(rt.alloc(), 11, FRONT, 100_000_000)?, TOO_FEW);
+    Ok(())
 }
 
 #[test]
-fn a_hundred_million_minus_signs_are_too_few(rt: HostRuntime) {
-    assert!(rt; is_proved(rt.alloc(), &(11, BACK, 100_000_000, TOO_FEW)));
+fn a_hundred_million_minus_signs_are_too_few(rt: HostRuntime) -> Result<(), Fail> {
+    assert_eq!(rt; hard_answer(rt.alloc(), 11, BACK, 100_000_000)?, TOO_FEW);
+    Ok(())
 }

@@ -3,7 +3,7 @@
 
 use flow_core::Instance;
 use flow_directions::{Found, prove};
-use std::alloc::Global;
+use std::test::Fail;
 
 /// Jobs, machines, and the time of each job on each machine.
 type Equal = (u32, u32, u32);
@@ -20,14 +20,6 @@ static EQUAL: [Equal; 8] = [
     (800, 2, 82),
     (800, 26, 999_999),
 ];
-
-/// Whether these are directions, and there are none.
-fn is_empty(found: &Found) -> bool {
-    match found {
-        Found::Proved(text) => text.is_empty(),
-        _ => false,
-    }
-}
 
 /// Whether this is the sequence of so many jobs in their order, with this makespan, after as many directions.
 fn is_in_order(found: &Found, jobs: u32, least: u64) -> bool {
@@ -47,31 +39,30 @@ fn is_in_order(found: &Found, jobs: u32, least: u64) -> bool {
     }
 }
 
-/// Whether nothing is needed for the makespan; and for the next number the jobs in their order are below it, after as
-/// many directions as there are jobs, which are over a budget of one less.
-fn is_searched(alloc: Global, row: &Equal) -> Option<bool> {
-    let (jobs, machines, time) = *row;
-    let count = jobs.saturating_mul(machines) as usize;
-    let times = vec![in alloc; time; count].ok()?;
-    let instance = Instance::new(alloc, jobs, machines, times.as_slice()).ok()?;
-    let steps = u64::from(jobs.saturating_add(machines).saturating_sub(1));
-    let least = steps.saturating_mul(u64::from(time));
-    let next = least.saturating_add(1);
-    let budget = u64::from(jobs);
-    let none = prove(alloc, &instance, &[], &[], least, 0).ok()?;
-    let below = prove(alloc, &instance, &[], &[], next, budget).ok()?;
-    let over = prove(alloc, &instance, &[], &[], next, budget.saturating_sub(1)).ok()?;
-    Some(is_empty(&none) && is_in_order(&below, jobs, least) && over == Found::Over)
-}
-
+/// Nothing is needed for the makespan; and for the next number the jobs in their order are below it, after as many
+/// directions as there are jobs, which are over a budget of one less.
 #[test]
-fn equal_times_need_no_directions(rt: HostRuntime) {
-    for row in &EQUAL {
+fn equal_times_need_no_directions(rt: HostRuntime) -> Result<(), Fail> {
+    let alloc = rt.alloc();
+    for (jobs, machines, time) in &EQUAL {
+        let times = vec![in alloc; *time; jobs.saturating_mul(*machines) as usize]?;
+        let instance = Instance::new(alloc, *jobs, *machines, times.as_slice())?;
+        let steps = u64::from(jobs.saturating_add(*machines).saturating_sub(1));
+        let least = steps.saturating_mul(u64::from(*time));
+        let next = least.saturating_add(1);
+        let budget = u64::from(*jobs);
+        let none = prove(alloc, &instance, &[], &[], least, 0)?;
         assert!(rt;
-            is_searched(rt.alloc(), row) == Some(true),
-            "{} jobs, time {}",
-            row.0,
-            row.2
+            none == Found::Proved(Vec::new(alloc)),
+            "{jobs} jobs, time {time}"
         );
+        let below = prove(alloc, &instance, &[], &[], next, budget)?;
+        assert!(rt;
+            is_in_order(&below, *jobs, least),
+            "{jobs} jobs, time {time}"
+        );
+        let over = prove(alloc, &instance, &[], &[], next, budget.saturating_sub(1))?;
+        assert!(rt; over == Found::Over, "{jobs} jobs, time {time}");
     }
+    Ok(())
 }

@@ -142,23 +142,11 @@ fn narrow_bars_have_no_label(rt: HostRuntime) -> Result<(), Fail> {
 }
 
 /// How many jobs there are on one machine, each with the time 4, how the picture begins, and how many ticks it has.
-const WIDTHS: [(u16, &[u8], usize); 3] = [
-    (
-        25,
-        b"<svg xmlns=\"http://www.w3.org/2000/svg\" width=\"1095\"",
-        11,
-    ),
-    (
-        26,
-        b"<svg xmlns=\"http://www.w3.org/2000/svg\" width=\"1107\"",
-        11,
-    ),
-    (
-        39,
-        b"<svg xmlns=\"http://www.w3.org/2000/svg\" width=\"1575\"",
-        16,
-    ),
-];
+const WIDTHS: [(u16, &[u8], usize); 3] = rows! {
+    25, b"<svg xmlns=\"http://www.w3.org/2000/svg\" width=\"1095\"", 11;
+    26, b"<svg xmlns=\"http://www.w3.org/2000/svg\" width=\"1107\"", 11;
+    39, b"<svg xmlns=\"http://www.w3.org/2000/svg\" width=\"1575\"", 16;
+};
 
 #[test]
 fn picture_is_as_wide_as_its_jobs_need(rt: HostRuntime) -> Result<(), Fail> {
@@ -182,22 +170,13 @@ fn picture_is_as_wide_as_its_jobs_need(rt: HostRuntime) -> Result<(), Fail> {
 }
 
 /// What the title says of the makespan 12, by the lower bound.
-const TITLES: [(Option<u64>, &[u8]); 5] = [
-    (None, b"<title>makespan 12, jobs 3, machines 3</title>\n"),
-    (
-        Some(0),
-        b"<title>makespan 12, lower bound 0, jobs 3, machines 3</title>\n",
-    ),
-    (
-        Some(11),
-        b"<title>makespan 12, lower bound 11, jobs 3, machines 3</title>\n",
-    ),
-    (Some(12), b"<title>optimal 12, jobs 3, machines 3</title>\n"),
-    (
-        Some(13),
-        b"<title>makespan 12, jobs 3, machines 3</title>\n",
-    ),
-];
+const TITLES: [(Option<u64>, &[u8]); 5] = rows! {
+    None, b"<title>makespan 12, jobs 3, machines 3</title>\n";
+    Some(0), b"<title>makespan 12, lower bound 0, jobs 3, machines 3</title>\n";
+    Some(11), b"<title>makespan 12, lower bound 11, jobs 3, machines 3</title>\n";
+    Some(12), b"<title>optimal 12, jobs 3, machines 3</title>\n";
+    Some(13), b"<title>makespan 12, jobs 3, machines 3</title>\n";
+};
 
 #[test]
 fn title_has_the_lower_bound(rt: HostRuntime) -> Result<(), Fail> {

@@ -28,46 +28,16 @@ type Row = (&'static [u8], Option<&'static [u8]>, [u32; 4], u32, Wanted);
 
 /// The text with three machines has one best sequence. The directions were computed apart from the program, by the
 /// definitions.
-static ROWS: [Row; 6] = [
-    (THREE_MACHINES, Some(LAST), NONE, 1_000, Ok(TWO_ENDED_12)),
-    (
-        THREE_MACHINES,
-        Some(BEST),
-        [65_536, 100_000_000, 2_147_483_646, 1_000_000],
-        1_000_000_000,
-        Ok(TWO_ENDED_12),
-    ),
-    (
-        ONE_JOB,
-        None,
-        NONE,
-        1,
-        Ok(b"flowshop two-ended 1\n1 1\n0 0\n1\n\nend\n"),
-    ),
+static ROWS: [Row; 6] = rows! {
+    THREE_MACHINES, Some(LAST), NONE, 1_000, Ok(TWO_ENDED_12);
+    THREE_MACHINES, Some(BEST), [65_536, 100_000_000, 2_147_483_646, 1_000_000], 1_000_000_000, Ok(TWO_ENDED_12);
+    ONE_JOB, None, NONE, 1, Ok(b"flowshop two-ended 1\n1 1\n0 0\n1\n\nend\n");
     // One round with each of two seeds, by the plain program bench/improve.rs, and the bound with no job put.
-    (
-        LONG_TREES,
-        None,
-        [0, 1, 1, 1],
-        1,
-        Ok(b"flowshop two-ended 1\n9 4\n557 616\n1 6 4 3 9 5 7 2 8\n\nend\n"),
-    ),
-    (
-        LONG_TREES,
-        None,
-        [0, 1, 2, 1],
-        1,
-        Ok(b"flowshop two-ended 1\n9 4\n557 616\n1 6 3 9 4 5 7 2 8\n\nend\n"),
-    ),
+    LONG_TREES, None, [0, 1, 1, 1], 1, Ok(b"flowshop two-ended 1\n9 4\n557 616\n1 6 4 3 9 5 7 2 8\n\nend\n");
+    LONG_TREES, None, [0, 1, 2, 1], 1, Ok(b"flowshop two-ended 1\n9 4\n557 616\n1 6 3 9 4 5 7 2 8\n\nend\n");
     // The text comes before the numbers.
-    (
-        b"",
-        None,
-        NONE,
-        0,
-        Err(CommandFault::Text(TextFault::NoBlock)),
-    ),
-];
+    b"", None, NONE, 0, Err(CommandFault::Text(TextFault::NoBlock));
+};
 
 /// The request of `certify` with these numbers of an improvement, so many directions, and so many workers.
 fn certified(numbers: [u32; 4], directions: u32, workers: u32) -> Request {
@@ -78,6 +48,7 @@ fn certified(numbers: [u32; 4], directions: u32, workers: u32) -> Request {
             workers,
         },
         progress: false,
+        seconds: None,
     }
 }
 
@@ -109,56 +80,41 @@ type Known = (&'static [u8], [u32; 4], u32, Wanted);
 /// is given, over the cost of a direction: 684 on 9 jobs and 26 machines; and on 7 jobs and 2 machines 464, or 928
 /// above the makespan 65,535. The bounds of three generated instances are those of a plain search, written apart, which
 /// follows the steps of the manual.
-static KNOWN: [Known; 25] = [
-    (THREE_MACHINES, NONE, 1_000, Ok(b"optimal 12\n")),
-    (
-        THREE_MACHINES,
-        [4_096, 10_000, 1, 10],
-        1_000,
-        Ok(b"optimal 12\n"),
-    ),
-    (TWO_MACHINES, NONE, 1_000, Ok(b"optimal 9\n")),
-    (GENERATED, NONE, 1_000, Ok(b"optimal 122\n")),
-    (
-        FOUR_MACHINES,
-        [16, 10, 1, 10],
-        1_000_000,
-        Ok(b"optimal 742\n"),
-    ),
-    (FOUR_MACHINES, NONE, 1_000_000, Ok(b"optimal 742\n")),
-    (LONG_TREES, [0, 10, 1, 10], 1_000_000, Ok(b"optimal 616\n")),
-    (
-        b"a\n6 3 0 0 0\nb\n4 7 6 9 5 4\n1 2 9 6 3 9\n4 5 5 5 9 6\n",
-        [1, 1, 1, 1],
-        1_000_000,
-        Ok(b"optimal 44\n"),
-    ),
-    (ONE_LONG_JOB, NONE, 1_000, Ok(b"bounds 24 33\n")),
+static KNOWN: [Known; 25] = rows! {
+    THREE_MACHINES, NONE, 1_000, Ok(b"optimal 12\n");
+    THREE_MACHINES, [4_096, 10_000, 1, 10], 1_000, Ok(b"optimal 12\n");
+    TWO_MACHINES, NONE, 1_000, Ok(b"optimal 9\n");
+    GENERATED, NONE, 1_000, Ok(b"optimal 122\n");
+    FOUR_MACHINES, [16, 10, 1, 10], 1_000_000, Ok(b"optimal 742\n");
+    FOUR_MACHINES, NONE, 1_000_000, Ok(b"optimal 742\n");
+    LONG_TREES, [0, 10, 1, 10], 1_000_000, Ok(b"optimal 616\n");
+    b"a\n6 3 0 0 0\nb\n4 7 6 9 5 4\n1 2 9 6 3 9\n4 5 5 5 9 6\n", [1, 1, 1, 1], 1_000_000, Ok(b"optimal 44\n");
+    ONE_LONG_JOB, NONE, 1_000, Ok(b"bounds 24 33\n");
     // The first search proves the makespan, if half of all directions suffice.
-    (LONG_JOBS, NONE, 3_148, Ok(b"bounds 61 286\n")),
-    (LONG_JOBS, NONE, 3_149, Ok(b"optimal 286\n")),
-    (UP_TO_16_BITS, NONE, 2_136, Ok(b"bounds 32772 65535\n")),
-    (UP_TO_16_BITS, NONE, 2_137, Ok(b"optimal 65535\n")),
+    LONG_JOBS, NONE, 3_148, Ok(b"bounds 61 286\n");
+    LONG_JOBS, NONE, 3_149, Ok(b"optimal 286\n");
+    UP_TO_16_BITS, NONE, 2_136, Ok(b"bounds 32772 65535\n");
+    UP_TO_16_BITS, NONE, 2_137, Ok(b"optimal 65535\n");
     // The whole budget comes at once: four fifths of all directions.
-    (LONG_TOTAL, NONE, 1_968, Ok(b"bounds 250 260\n")),
-    (LONG_TOTAL, NONE, 1_969, Ok(b"optimal 260\n")),
-    (ABOVE_16_BITS, NONE, 2_670, Ok(b"bounds 32768 65536\n")),
-    (ABOVE_16_BITS, NONE, 2_671, Ok(b"optimal 65536\n")),
+    LONG_TOTAL, NONE, 1_968, Ok(b"bounds 250 260\n");
+    LONG_TOTAL, NONE, 1_969, Ok(b"optimal 260\n");
+    ABOVE_16_BITS, NONE, 2_670, Ok(b"bounds 32768 65536\n");
+    ABOVE_16_BITS, NONE, 2_671, Ok(b"optimal 65536\n");
     // What is kept raises the first bound, as far as searches that are over leave some of it.
-    (NINE_JOBS, NONE, 330, Ok(b"bounds 653 684\n")),
+    NINE_JOBS, NONE, 330, Ok(b"bounds 653 684\n");
     // The last search has a greater budget than that which was over, but not ten times as great.
-    (SEVEN_JOBS, NONE, 66, Ok(b"bounds 407 431\n")),
-    (SEVEN_JOBS, NONE, 67, Ok(b"optimal 431\n")),
-    (ON_THREE, NONE, 60, Ok(b"optimal 540\n")),
+    SEVEN_JOBS, NONE, 66, Ok(b"bounds 407 431\n");
+    SEVEN_JOBS, NONE, 67, Ok(b"optimal 431\n");
+    ON_THREE, NONE, 60, Ok(b"optimal 540\n");
     // What is kept is given when the beam has the least makespan.
-    (TOTAL_IN_NARROW, [16, 0, 1, 1], 22, Ok(b"optimal 45\n")),
-    (TOTAL_IN_WIDE, [64, 0, 1, 1], 48, Ok(b"optimal 27\n")),
+    TOTAL_IN_NARROW, [16, 0, 1, 1], 22, Ok(b"optimal 45\n");
+    TOTAL_IN_WIDE, [64, 0, 1, 1], 48, Ok(b"optimal 27\n");
     // No search comes to 484 within its budget: only a beam of width 8 does that is aimed at 485.
-    (AIMED, [1, 0, 1, 1], 30, Ok(b"optimal 484\n")),
+    AIMED, [1, 0, 1, 1], 30, Ok(b"optimal 484\n");
     // Neither a search nor the beam that is aimed at 536 comes below 574: a beam of width 1 does that is aimed half of
     // the way.
-    (HALVED, [4, 0, 1, 1], 20, Ok(b"bounds 535 548\n")),
-];
+    HALVED, [4, 0, 1, 1], 20, Ok(b"bounds 535 548\n");
+};
 
 /// Certifies the text of a row with so many workers. Returns whether it is not refused.
 fn is_certified<R: Threads + Wait + Sync>(

@@ -23,25 +23,18 @@ const OPTIMAL: Wanted = Ok(b"optimal 12\n");
 const HEADER: Wanted = Err(CommandFault::Certificate(CheckFault::Header));
 
 /// A text and a certificate; and what `run_check`, which accepts no two-ended certificate, prints, or the fault.
-static ALONE: [(&[u8], &[u8], Wanted); 9] = [
-    (THREE_MACHINES, DEPTH_0, OPTIMAL),
-    (THREE_MACHINES, FROM_START, OPTIMAL),
-    (THREE_MACHINES, FROM_LAST, OPTIMAL),
-    (THREE_MACHINES, FROM_BEST, OPTIMAL),
-    (THREE_MACHINES, VERSION_2, OPTIMAL),
-    (THREE_MACHINES, TWO_ENDED_12, HEADER),
-    (THREE_MACHINES, TWO_ENDED_11, HEADER),
-    (
-        THREE_MACHINES,
-        b"flowshop certificate 1\n3 3 1\n12\n3 1 2\nB\nC\n++.A\nend\n",
-        Err(CommandFault::Certificate(CheckFault::Weak(7))),
-    ),
-    (
-        TWO_MACHINES,
-        DEPTH_0,
-        Err(CommandFault::Certificate(CheckFault::Size)),
-    ),
-];
+static ALONE: [(&[u8], &[u8], Wanted); 9] = rows! {
+    THREE_MACHINES, DEPTH_0, OPTIMAL;
+    THREE_MACHINES, FROM_START, OPTIMAL;
+    THREE_MACHINES, FROM_LAST, OPTIMAL;
+    THREE_MACHINES, FROM_BEST, OPTIMAL;
+    THREE_MACHINES, VERSION_2, OPTIMAL;
+    THREE_MACHINES, TWO_ENDED_12, HEADER;
+    THREE_MACHINES, TWO_ENDED_11, HEADER;
+    THREE_MACHINES, b"flowshop certificate 1\n3 3 1\n12\n3 1 2\nB\nC\n++.A\nend\n",
+        Err(CommandFault::Certificate(CheckFault::Weak(7)));
+    TWO_MACHINES, DEPTH_0, Err(CommandFault::Certificate(CheckFault::Size));
+};
 
 /// Whether `run_check` comes to what a row says.
 fn holds(alloc: Global, row: &(&[u8], &[u8], Wanted)) -> bool {
@@ -85,25 +78,16 @@ const REPORT: CheckOutput = CheckOutput::Report;
 /// and what is printed, or the fault.
 type Row = (&'static [u8], CheckOutput, bool, Wanted);
 
-static ASKED: [Row; 6] = [
-    (DEPTH_3, LINES, false, BEST_LINES),
-    (VERSION_2, LINES, true, BEST_LINES),
-    (TWO_ENDED_12, LINE, true, OPTIMAL),
-    (b"flowshop two-ended 1", LINE, false, HEADER),
-    (
-        b"flowshop two-ended 1\n3 3\n12 12\n3 1 2\n++\nend",
-        LINE,
-        false,
-        Err(CommandFault::Certificate(CheckFault::End)),
-    ),
+static ASKED: [Row; 6] = rows! {
+    DEPTH_3, LINES, false, BEST_LINES;
+    VERSION_2, LINES, true, BEST_LINES;
+    TWO_ENDED_12, LINE, true, OPTIMAL;
+    b"flowshop two-ended 1", LINE, false, HEADER;
+    b"flowshop two-ended 1\n3 3\n12 12\n3 1 2\n++\nend", LINE, false, Err(CommandFault::Certificate(CheckFault::End));
     // A fault of the text comes before bounds that differ.
-    (
-        b"flowshop two-ended 1\n3 3\n12 13\n2 1 3\n+\nend\n",
-        LINE,
-        true,
-        Err(CommandFault::Certificate(CheckFault::Tree(5))),
-    ),
-];
+    b"flowshop two-ended 1\n3 3\n12 13\n2 1 3\n+\nend\n", LINE, true,
+        Err(CommandFault::Certificate(CheckFault::Tree(5)));
+};
 
 /// Whether `check` comes to what a row says.
 fn prints<R: Threads + Wait + Sync>(rt: &R, alloc: Global, row: &Row) -> bool {
@@ -128,48 +112,20 @@ const OF_SEED: &[u8] = b"flowshop two-ended 1\n2 2\n122 122\n1 2\n\nend\n";
 /// A text, an index and a certificate; and the report that is printed. The sums are those of sha256sum.
 type Reported = (&'static [u8], u32, &'static [u8], Wanted);
 
-static REPORTED: [Reported; 4] = [
-    (
-        THREE_MACHINES,
-        1,
-        VERSION_2,
-        Ok(
-            b"optimal 12\nblock 1 of 1\njobs 3\nmachines 3\nthe head has no seed\n\
+static REPORTED: [Reported; 4] = rows! {
+    THREE_MACHINES, 1, VERSION_2, Ok(b"optimal 12\nblock 1 of 1\njobs 3\nmachines 3\nthe head has no seed\n\
 SHA-256 of the text 18b7b4023a8fb46013f10742bad982ebca434ab33e1a7596f75efb151d356312\ntrees 1\n\
-SHA-256 of the certificate 3b11bbb0e3cce19dc89865ac6cb602d27e20b627b7fa7f6f288edf021aa091c9\n",
-        ),
-    ),
-    (
-        TWO_BLOCKS,
-        2,
-        DEPTH_3,
-        Ok(
-            b"optimal 12\nblock 2 of 2\njobs 3\nmachines 3\nthe head has no seed\n\
+SHA-256 of the certificate 3b11bbb0e3cce19dc89865ac6cb602d27e20b627b7fa7f6f288edf021aa091c9\n");
+    TWO_BLOCKS, 2, DEPTH_3, Ok(b"optimal 12\nblock 2 of 2\njobs 3\nmachines 3\nthe head has no seed\n\
 SHA-256 of the text 4d477d413a4a78c6c556f2d635af474ceda28495e5166c213b936ad94750390c\ntrees 6\n\
-SHA-256 of the certificate b06a811ea180985207f44d0d7e00d2860bb046629ff3ed3a41104752be0e2ee1\n",
-        ),
-    ),
-    (
-        THREE_MACHINES,
-        1,
-        TWO_ENDED_12,
-        Ok(
-            b"optimal 12\nblock 1 of 1\njobs 3\nmachines 3\nthe head has no seed\n\
+SHA-256 of the certificate b06a811ea180985207f44d0d7e00d2860bb046629ff3ed3a41104752be0e2ee1\n");
+    THREE_MACHINES, 1, TWO_ENDED_12, Ok(b"optimal 12\nblock 1 of 1\njobs 3\nmachines 3\nthe head has no seed\n\
 SHA-256 of the text 18b7b4023a8fb46013f10742bad982ebca434ab33e1a7596f75efb151d356312\ndirections 2\n\
-SHA-256 of the certificate 796ab48850ac31b8476c4ea1fb8d27f21187331e21aac1a0358f18c0e2ec9625\n",
-        ),
-    ),
-    (
-        TWO_BLOCKS,
-        1,
-        OF_SEED,
-        Ok(
-            b"optimal 122\nblock 1 of 2\njobs 2\nmachines 2\nthe times are those of seed 1\n\
+SHA-256 of the certificate 796ab48850ac31b8476c4ea1fb8d27f21187331e21aac1a0358f18c0e2ec9625\n");
+    TWO_BLOCKS, 1, OF_SEED, Ok(b"optimal 122\nblock 1 of 2\njobs 2\nmachines 2\nthe times are those of seed 1\n\
 SHA-256 of the text 4d477d413a4a78c6c556f2d635af474ceda28495e5166c213b936ad94750390c\ndirections 0\n\
-SHA-256 of the certificate f6c90bc9805d508694d96196f1268379da85227b2fee223f8431cbde73b3862f\n",
-        ),
-    ),
-];
+SHA-256 of the certificate f6c90bc9805d508694d96196f1268379da85227b2fee223f8431cbde73b3862f\n");
+};
 
 /// Whether `check` prints the report of a row.
 fn reports<R: Threads + Wait + Sync>(rt: &R, alloc: Global, row: &Reported) -> bool {
@@ -205,17 +161,13 @@ type Solved = (&'static [u8], u32, Wanted);
 
 /// All 720 sequences of the last were tried apart from the program: the least makespan is 44, and that of the starting
 /// sequence is 46.
-static SOLVED: [Solved; 5] = [
-    (THREE_MACHINES, 3, Ok(b"optimal 12\n")),
-    (TWO_MACHINES, 3, Ok(b"optimal 9\n")),
-    (ONE_JOB, 1, Ok(b"optimal 0\n")),
-    (GENERATED, 2, Ok(b"optimal 122\n")),
-    (
-        b"a\n6 3 0 0 0\nb\n4 7 6 9 5 4\n1 2 9 6 3 9\n4 5 5 5 9 6\n",
-        2,
-        Ok(b"optimal 44\n"),
-    ),
-];
+static SOLVED: [Solved; 5] = rows! {
+    THREE_MACHINES, 3, Ok(b"optimal 12\n");
+    TWO_MACHINES, 3, Ok(b"optimal 9\n");
+    ONE_JOB, 1, Ok(b"optimal 0\n");
+    GENERATED, 2, Ok(b"optimal 122\n");
+    b"a\n6 3 0 0 0\nb\n4 7 6 9 5 4\n1 2 9 6 3 9\n4 5 5 5 9 6\n", 2, Ok(b"optimal 44\n");
+};
 
 /// Whether `check` of what `solve` writes at a depth in a version comes to what a row says.
 fn is_accepted<R: Threads + Wait + Sync>(

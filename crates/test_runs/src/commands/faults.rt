@@ -6,16 +6,10 @@ use flow_pool::SolveFault;
 use std::alloc::Global;
 
 /// Faults, and the line on standard error for each.
-static FAULT_LINES: [(CommandFault, &str); 2] = [
-    (
-        CommandFault::Text(TextFault::Byte(2)),
-        "refused text Byte 2",
-    ),
-    (
-        CommandFault::Run(SolveFault::Threads),
-        "refused run Threads",
-    ),
-];
+static FAULT_LINES: [(CommandFault, &str); 2] = rows! {
+    CommandFault::Text(TextFault::Byte(2)), "refused text Byte 2";
+    CommandFault::Run(SolveFault::Threads), "refused run Threads";
+};
 
 /// Whether a fault is printed as its line.
 fn is_printed(alloc: Global, row: &(CommandFault, &str)) -> bool {

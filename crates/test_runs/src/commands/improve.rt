@@ -20,7 +20,10 @@ fn improves<R: Threads + Wait + Sync>(
         second: start_of(start),
         ..OF_THREE
     };
-    let request = Request::Improve(improvement(numbers));
+    let request = Request::Improve {
+        request: improvement(numbers),
+        seconds: None,
+    };
     answers(rt, alloc, &texts, &request, ROOM, end_of(Ok(bytes)))
 }
 
@@ -38,38 +41,17 @@ fn improve_ends_with_one_job(rt: HostRuntime) {
 
 /// Jobs, machines and the instance's seed; width, rounds and seed; and what `improve` writes with them, as the plain
 /// program bench/improve.rs does.
-static GENERATED: [([u32; 3], [u32; 3], &[u8]); 6] = [
-    (
-        [20, 10, 587_595_453],
-        [0, 50, 3],
-        b"sequence 18 5 2 12 9 10 15 17 4 13 3 6 19 8 20 11 14 7 16 1\nmakespan 1583\n",
-    ),
-    (
-        [20, 10, 587_595_453],
-        [0, 1_000, 3],
-        b"sequence 18 5 2 12 9 10 4 14 13 15 17 3 6 19 8 20 11 7 1 16\nmakespan 1582\n",
-    ),
-    (
-        [20, 10, 587_595_453],
-        [0, 50, 2_147_483_645],
-        b"sequence 18 5 2 12 17 15 3 9 10 14 4 6 19 8 20 11 13 7 1 16\nmakespan 1586\n",
-    ),
-    (
-        [21, 26, 8],
-        [0, 40, 1],
-        b"sequence 2 17 10 9 12 19 8 5 18 7 1 20 13 21 3 15 6 14 4 16 11\nmakespan 2638\n",
-    ),
-    (
-        [6, 3, 17],
-        [0, 100_000_000, 1],
-        b"sequence 1 6 3 2 5 4\nmakespan 415\n",
-    ),
-    (
-        [8, 3, 12],
-        [0, 20, 1],
-        b"sequence 1 3 4 8 6 5 2 7\nmakespan 369\n",
-    ),
-];
+static GENERATED: [([u32; 3], [u32; 3], &[u8]); 6] = rows! {
+    [20, 10, 587_595_453], [0, 50, 3],
+        b"sequence 18 5 2 12 9 10 15 17 4 13 3 6 19 8 20 11 14 7 16 1\nmakespan 1583\n";
+    [20, 10, 587_595_453], [0, 1_000, 3],
+        b"sequence 18 5 2 12 9 10 4 14 13 15 17 3 6 19 8 20 11 7 1 16\nmakespan 1582\n";
+    [20, 10, 587_595_453], [0, 50, 2_147_483_645],
+        b"sequence 18 5 2 12 17 15 3 9 10 14 4 6 19 8 20 11 13 7 1 16\nmakespan 1586\n";
+    [21, 26, 8], [0, 40, 1], b"sequence 2 17 10 9 12 19 8 5 18 7 1 20 13 21 3 15 6 14 4 16 11\nmakespan 2638\n";
+    [6, 3, 17], [0, 100_000_000, 1], b"sequence 1 6 3 2 5 4\nmakespan 415\n";
+    [8, 3, 12], [0, 20, 1], b"sequence 1 3 4 8 6 5 2 7\nmakespan 369\n";
+};
 
 /// Whether `improve` of a generated instance writes what a row says, and also from the start text that `neh` writes.
 fn holds<R: Threads + Wait + Sync>(

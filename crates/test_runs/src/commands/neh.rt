@@ -7,13 +7,10 @@ use flow_core::MemorySink;
 use std::alloc::Global;
 
 /// A text, and what is written. The sequences were worked out apart from the program.
-static ROWS: [(&[u8], Wanted); 2] = [
-    (THREE_MACHINES, Ok(b"sequence 2 1 3\nmakespan 13\n")),
-    (
-        FOUR_MACHINES,
-        Ok(b"sequence 7 1 2 5 8 3 4 9 6\nmakespan 745\n"),
-    ),
-];
+static ROWS: [(&[u8], Wanted); 2] = rows! {
+    THREE_MACHINES, Ok(b"sequence 2 1 3\nmakespan 13\n");
+    FOUR_MACHINES, Ok(b"sequence 7 1 2 5 8 3 4 9 6\nmakespan 745\n");
+};
 
 /// Whether `neh` comes to what a row says.
 fn holds(alloc: Global, row: &(&[u8], Wanted)) -> bool {

@@ -49,32 +49,17 @@ const OTHER_TABLE: &[u8] =
 3,1,4,4\n3,2,8,10\n3,3,12,13\n";
 
 /// A text, and a start, a certificate or a text that begins as one; and the table that is written, or the fault.
-static TABLES: [(&[u8], &[u8], Wanted); 8] = [
-    (
-        ONE_JOB,
-        b"sequence 1\n",
-        Ok(b"job,machine,start,end\n1,1,0,0\n"),
-    ),
-    (THREE_MACHINES, START, Ok(TABLE)),
-    (THREE_MACHINES, DEPTH_3, Ok(TABLE)),
-    (THREE_MACHINES, VERSION_2, Ok(TABLE)),
-    (THREE_MACHINES, TWO_ENDED_11, Ok(OTHER_TABLE)),
-    (
-        THREE_MACHINES,
-        b"flowshop ",
-        Err(CommandFault::Certificate(CheckFault::Header)),
-    ),
-    (
-        THREE_MACHINES,
-        b"flowshop",
-        Err(CommandFault::Start(StartFault::Line(1))),
-    ),
-    (
-        THREE_MACHINES,
-        b"\nflowshop two-ended 1\n3 3\n12 12\n3 1 2\n++\nend\n",
-        Err(CommandFault::Start(StartFault::Line(2))),
-    ),
-];
+static TABLES: [(&[u8], &[u8], Wanted); 8] = rows! {
+    ONE_JOB, b"sequence 1\n", Ok(b"job,machine,start,end\n1,1,0,0\n");
+    THREE_MACHINES, START, Ok(TABLE);
+    THREE_MACHINES, DEPTH_3, Ok(TABLE);
+    THREE_MACHINES, VERSION_2, Ok(TABLE);
+    THREE_MACHINES, TWO_ENDED_11, Ok(OTHER_TABLE);
+    THREE_MACHINES, b"flowshop ", Err(CommandFault::Certificate(CheckFault::Header));
+    THREE_MACHINES, b"flowshop", Err(CommandFault::Start(StartFault::Line(1)));
+    THREE_MACHINES, b"\nflowshop two-ended 1\n3 3\n12 12\n3 1 2\n++\nend\n",
+        Err(CommandFault::Start(StartFault::Line(2)));
+};
 
 /// Whether the table of a row is written, or refused.
 fn holds<R: Threads + Wait + Sync>(rt: &R, alloc: Global, row: &(&[u8], &[u8], Wanted)) -> bool {
@@ -120,38 +105,14 @@ fn scheduled<R: Threads + Wait + Sync>(
 /// A text, a start or a certificate, and of its picture the title and the end.
 type Drawn = (&'static [u8], &'static [u8], &'static str, &'static [u8]);
 
-static PICTURES: [Drawn; 5] = [
-    (
-        THREE_MACHINES,
-        START,
-        "<title>makespan 12, jobs 3, machines 3</title>",
-        BARS,
-    ),
-    (
-        ONE_JOB,
-        b"sequence 1\n",
-        "<title>makespan 0, jobs 1, machines 1</title>",
-        b"<g text-anchor=\"middle\" font-size=\"1000\">\n</g></svg>\n",
-    ),
-    (
-        THREE_MACHINES,
-        DEPTH_0,
-        "<title>optimal 12, jobs 3, machines 3</title>",
-        BARS,
-    ),
-    (
-        THREE_MACHINES,
-        TWO_ENDED_12,
-        "<title>optimal 12, jobs 3, machines 3</title>",
-        BARS,
-    ),
-    (
-        THREE_MACHINES,
-        TWO_ENDED_11,
-        "<title>makespan 13, lower bound 11, jobs 3, machines 3</title>",
-        b"</g></svg>\n",
-    ),
-];
+static PICTURES: [Drawn; 5] = rows! {
+    THREE_MACHINES, START, "<title>makespan 12, jobs 3, machines 3</title>", BARS;
+    ONE_JOB, b"sequence 1\n", "<title>makespan 0, jobs 1, machines 1</title>",
+        b"<g text-anchor=\"middle\" font-size=\"1000\">\n</g></svg>\n";
+    THREE_MACHINES, DEPTH_0, "<title>optimal 12, jobs 3, machines 3</title>", BARS;
+    THREE_MACHINES, TWO_ENDED_12, "<title>optimal 12, jobs 3, machines 3</title>", BARS;
+    THREE_MACHINES, TWO_ENDED_11, "<title>makespan 13, lower bound 11, jobs 3, machines 3</title>", b"</g></svg>\n";
+};
 
 /// Whether the picture of a row has its title and its end.
 fn is_drawn<R: Threads + Wait + Sync>(rt: &R, alloc: Global, row: &Drawn) -> bool {

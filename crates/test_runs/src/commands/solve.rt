@@ -21,34 +21,16 @@ const SOME: &[u32] = &[1, 2, 3, 64];
 /// A text, numbers of workers, a depth and a budget; and what is written, or the fault.
 type Row = (&'static [u8], &'static [u32], u32, u32, Wanted);
 
-static ROWS: [Row; 8] = [
-    (THREE_MACHINES, SOME, 0, AMPLE, Ok(DEPTH_0)),
-    (THREE_MACHINES, SOME, 1, AMPLE, Ok(DEPTH_1)),
-    (THREE_MACHINES, SOME, 2, AMPLE, Ok(DEPTH_2)),
-    (THREE_MACHINES, SOME, 3, AMPLE, Ok(DEPTH_3)),
-    (THREE_MACHINES, SOME, 1, 4, Ok(DEPTH_1)),
-    (
-        THREE_MACHINES,
-        SOME,
-        1,
-        3,
-        Err(CommandFault::Run(SolveFault::OverBudget(2))),
-    ),
-    (
-        TWO_MACHINES,
-        &[1],
-        0,
-        AMPLE,
-        Ok(b"flowshop certificate 1\n3 2 0\n9\n2 3 1\n+BBB\nend\n"),
-    ),
-    (
-        ONE_JOB,
-        &[1],
-        0,
-        AMPLE,
-        Ok(b"flowshop certificate 1\n1 1 0\n0\n1\nA\nend\n"),
-    ),
-];
+static ROWS: [Row; 8] = rows! {
+    THREE_MACHINES, SOME, 0, AMPLE, Ok(DEPTH_0);
+    THREE_MACHINES, SOME, 1, AMPLE, Ok(DEPTH_1);
+    THREE_MACHINES, SOME, 2, AMPLE, Ok(DEPTH_2);
+    THREE_MACHINES, SOME, 3, AMPLE, Ok(DEPTH_3);
+    THREE_MACHINES, SOME, 1, 4, Ok(DEPTH_1);
+    THREE_MACHINES, SOME, 1, 3, Err(CommandFault::Run(SolveFault::OverBudget(2)));
+    TWO_MACHINES, &[1], 0, AMPLE, Ok(b"flowshop certificate 1\n3 2 0\n9\n2 3 1\n+BBB\nend\n");
+    ONE_JOB, &[1], 0, AMPLE, Ok(b"flowshop certificate 1\n1 1 0\n0\n1\nA\nend\n");
+};
 
 /// Whether `solve` of a text with these workers, depth and budget ends so with a sink of so many bytes.
 fn solves<R: Threads + Wait + Sync>(

@@ -16,31 +16,16 @@ a\n3 2 0 0 0\nb\n3 1 2\n2 4 2\na\n3 2 0 0 0\nb\n3 1 2\n2 4 2\n";
 /// A text, an index and jobs; and what is written, or the fault.
 type Row = (&'static [u8], u32, &'static [u16], Wanted);
 
-static ROWS: [Row; 8] = [
-    (TWO_MACHINES, 1, &[2, 3, 1], Ok(b"makespan 9\n")),
-    (
-        TWO_MACHINES,
-        1,
-        &[2, 2, 1],
-        Err(CommandFault::Sequence(SequenceFault::Twice(2))),
-    ),
-    (
-        TWO_MACHINES,
-        1,
-        &[2, 3],
-        Err(CommandFault::Sequence(SequenceFault::Length)),
-    ),
-    (
-        TWO_MACHINES,
-        1,
-        &[0, 1, 2],
-        Err(CommandFault::Sequence(SequenceFault::Job(1))),
-    ),
-    (TWO_MACHINES, 2, &[2, 3, 1], Err(CommandFault::Index)),
-    (TEN_ALIKE, 10, &[2, 3, 1], Ok(b"makespan 9\n")),
-    (TEN_ALIKE, 11, &[2, 3, 1], Err(CommandFault::Index)),
-    (TEN_ALIKE, 0, &[2, 3, 1], Err(CommandFault::Index)),
-];
+static ROWS: [Row; 8] = rows! {
+    TWO_MACHINES, 1, &[2, 3, 1], Ok(b"makespan 9\n");
+    TWO_MACHINES, 1, &[2, 2, 1], Err(CommandFault::Sequence(SequenceFault::Twice(2)));
+    TWO_MACHINES, 1, &[2, 3], Err(CommandFault::Sequence(SequenceFault::Length));
+    TWO_MACHINES, 1, &[0, 1, 2], Err(CommandFault::Sequence(SequenceFault::Job(1)));
+    TWO_MACHINES, 2, &[2, 3, 1], Err(CommandFault::Index);
+    TEN_ALIKE, 10, &[2, 3, 1], Ok(b"makespan 9\n");
+    TEN_ALIKE, 11, &[2, 3, 1], Err(CommandFault::Index);
+    TEN_ALIKE, 0, &[2, 3, 1], Err(CommandFault::Index);
+};
 
 /// Whether `span` comes to what a row says.
 fn holds(alloc: Global, row: &Row) -> bool {

@@ -34,39 +34,17 @@ const CROWDED: SolveRequest = SolveRequest {
 /// A text, a start text and a request; and what is written, or the fault.
 type Row = (&'static [u8], &'static [u8], SolveRequest, Wanted);
 
-static ROWS: [Row; 7] = [
+static ROWS: [Row; 7] = rows! {
     // The certificates were computed apart from the program, by the definitions.
-    (THREE_MACHINES, START, PLAIN, Ok(FROM_START)),
-    (THREE_MACHINES, LAST, PLAIN, Ok(FROM_LAST)),
-    (THREE_MACHINES, BEST, PLAIN, Ok(FROM_BEST)),
-    (
-        ONE_JOB,
-        b"sequence 1\nmakespan 0\n",
-        PLAIN,
-        Ok(b"flowshop certificate 1\n1 1 0\n0\n1\nA\nend\n"),
-    ),
-    (
-        THREE_MACHINES,
-        NEH,
-        CROWDED,
-        Err(CommandFault::Choice(OptionFault::Workers)),
-    ),
-    (
-        THREE_MACHINES,
-        NEH,
-        SolveRequest { budget: 6, ..PLAIN },
-        Err(CommandFault::Run(SolveFault::OverBudget(0))),
-    ),
-    (
-        LONG_TREES,
-        LONG_TREES_START,
-        SolveRequest {
-            budget: 16_330,
-            ..PLAIN
-        },
-        Err(CommandFault::Run(SolveFault::OverBudget(0))),
-    ),
-];
+    THREE_MACHINES, START, PLAIN, Ok(FROM_START);
+    THREE_MACHINES, LAST, PLAIN, Ok(FROM_LAST);
+    THREE_MACHINES, BEST, PLAIN, Ok(FROM_BEST);
+    ONE_JOB, b"sequence 1\nmakespan 0\n", PLAIN, Ok(b"flowshop certificate 1\n1 1 0\n0\n1\nA\nend\n");
+    THREE_MACHINES, NEH, CROWDED, Err(CommandFault::Choice(OptionFault::Workers));
+    THREE_MACHINES, NEH, SolveRequest { budget: 6, ..PLAIN }, Err(CommandFault::Run(SolveFault::OverBudget(0)));
+    LONG_TREES, LONG_TREES_START, SolveRequest { budget: 16_330, ..PLAIN },
+        Err(CommandFault::Run(SolveFault::OverBudget(0)));
+};
 
 /// Whether `solve` from a start comes to what a row says.
 fn solves<R: Threads + Wait + Sync>(rt: &R, alloc: Global, row: &Row) -> bool {

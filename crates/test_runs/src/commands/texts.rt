@@ -141,44 +141,17 @@ pub(super) const TWO_ENDED_12: &[u8] = b"flowshop two-ended 1\n3 3\n12 12\n3 1 2
 pub(super) const TWO_ENDED_11: &[u8] = b"flowshop two-ended 1\n3 3\n11 13\n2 1 3\n-\nend\n";
 
 /// Start texts for three jobs that are refused, and their faults.
-pub(super) static OTHER_STARTS: [(&[u8], CommandFault); 12] = [
-    (b"", CommandFault::Start(StartFault::Line(1))),
-    (b"2 1 3\n", CommandFault::Start(StartFault::Line(1))),
-    (
-        b"sequence 2 1 3\nmakespan x\n",
-        CommandFault::Start(StartFault::Line(2)),
-    ),
-    (
-        b"sequence 9 9\nmakespan x\n",
-        CommandFault::Start(StartFault::Line(2)),
-    ),
-    (
-        b"\nsequence 2 1 3\n\nmakespan 14\n",
-        CommandFault::Start(StartFault::Line(4)),
-    ),
-    (
-        b"sequence 2 1 3\nmakespan 12\n",
-        CommandFault::Start(StartFault::Line(2)),
-    ),
-    (
-        b"sequence 2 1 3\nmakespan 13\nend\n",
-        CommandFault::Start(StartFault::Line(3)),
-    ),
-    (b"sequence\n", CommandFault::Start(StartFault::Line(1))),
-    (
-        b"sequence 2 1\nmakespan 14\n",
-        CommandFault::Sequence(SequenceFault::Length),
-    ),
-    (
-        b"sequence 2 4 2\n",
-        CommandFault::Sequence(SequenceFault::Job(2)),
-    ),
-    (
-        b"sequence 2 1 65535\n",
-        CommandFault::Sequence(SequenceFault::Job(3)),
-    ),
-    (
-        b"sequence 2 2 4\nmakespan 13\n",
-        CommandFault::Sequence(SequenceFault::Twice(2)),
-    ),
-];
+pub(super) static OTHER_STARTS: [(&[u8], CommandFault); 12] = rows! {
+    b"", CommandFault::Start(StartFault::Line(1));
+    b"2 1 3\n", CommandFault::Start(StartFault::Line(1));
+    b"sequence 2 1 3\nmakespan x\n", CommandFault::Start(StartFault::Line(2));
+    b"sequence 9 9\nmakespan x\n", CommandFault::Start(StartFault::Line(2));
+    b"\nsequence 2 1 3\n\nmakespan 14\n", CommandFault::Start(StartFault::Line(4));
+    b"sequence 2 1 3\nmakespan 12\n", CommandFault::Start(StartFault::Line(2));
+    b"sequence 2 1 3\nmakespan 13\nend\n", CommandFault::Start(StartFault::Line(3));
+    b"sequence\n", CommandFault::Start(StartFault::Line(1));
+    b"sequence 2 1\nmakespan 14\n", CommandFault::Sequence(SequenceFault::Length);
+    b"sequence 2 4 2\n", CommandFault::Sequence(SequenceFault::Job(2));
+    b"sequence 2 1 65535\n", CommandFault::Sequence(SequenceFault::Job(3));
+    b"sequence 2 2 4\nmakespan 13\n", CommandFault::Sequence(SequenceFault::Twice(2));
+};

@@ -8,7 +8,7 @@ pub fill-requires : goal.fill-requires
 fill-requires c =
     omega (
       arith,
-      come-fits (shop_of c.args.shop.now) c.args.number (length c.args.part.now.directions.now) c.args.node.now
+      come-fits (shop_of c.args.shop.now) c.args.threshold (length c.args.part.now.directions.now) c.args.node.now
           c.in-Ok.ensures.jobs c.in-Ok.found c.in-Ok.ensures.found,
       c.in-Ok.ensures.room,
       ap length c.as_slice.ensures.value,
@@ -16,7 +16,7 @@ fill-requires c =
 
 pub returns-in-Ok-clause-searched : goal.returns-in-Ok-clause-searched
 returns-in-Ok-clause-searched c done =
-    come-searched (shop_of c.args.shop.now) c.args.number (length c.args.part.now.directions.now) c.args.node.now
+    come-searched (shop_of c.args.shop.now) c.args.threshold (length c.args.part.now.directions.now) c.args.node.now
     c.in-Ok.ensures.jobs c.in-Ok.found c.fill.new.room (take c.len-part.result c.fill-in-Ok.new.room)
     (take c.len-part-in-Ok.result c.fill-in-Ok-2.new.room) c.in-Ok.ensures.found
     (cc (c.fill.ensures.front, c.as_slice.ensures.value))
@@ -35,7 +35,7 @@ returns-in-Ok-clause-searched c done =
 
 pub returns-in-Ok-clause-proved : goal.returns-in-Ok-clause-proved
 returns-in-Ok-clause-proved c done says =
-    come-proved (shop_of c.args.shop.now) c.args.number (length c.args.part.now.directions.now) c.args.node.now
+    come-proved (shop_of c.args.shop.now) c.args.threshold (length c.args.part.now.directions.now) c.args.node.now
     c.in-Ok.ensures.jobs c.in-Ok.found (take c.len-part.result c.fill-in-Ok.new.room) c.in-Ok.ensures.found
     (cc (
       c.fill-in-Ok.ensures.front,
@@ -46,14 +46,14 @@ returns-in-Ok-clause-proved c done says =
 
 pub returns-in-Ok-clause-below : goal.returns-in-Ok-clause-below
 returns-in-Ok-clause-below c done says =
-    come-below (shop_of c.args.shop.now) c.args.number (length c.args.part.now.directions.now) c.args.node.now
+    come-below (shop_of c.args.shop.now) c.args.threshold (length c.args.part.now.directions.now) c.args.node.now
     c.in-Ok.ensures.jobs c.in-Ok.found c.fill.new.room c.in-Ok.ensures.found
     (cc (c.fill.ensures.front, c.as_slice.ensures.value)) says
 
 pub returns-in-Ok-clause-rest : goal.returns-in-Ok-clause-rest
 returns-in-Ok-clause-rest c =
     kept-behind c.args.shop.now.jobs c.in-Ok.found.sequence.items c.args.part.now.sequence.now c.fill.new.room
-    (come-whole (shop_of c.args.shop.now) c.args.number (length c.args.part.now.directions.now) c.args.node.now
+    (come-whole (shop_of c.args.shop.now) c.args.threshold (length c.args.part.now.directions.now) c.args.node.now
     c.in-Ok.ensures.jobs c.in-Ok.found c.in-Ok.ensures.found)
     (rw c.as_slice.ensures.value at c.fill.ensures.rest)
 
@@ -61,7 +61,7 @@ pub returns-in-Err-clause-enough : goal.returns-in-Err-clause-enough
 returns-in-Err-clause-enough c none many = elim c.in-Err.ensures.refused [
   | inl ran_out ↦ inr (c.refused.ensures.fault.0 ∙ ran_out)
   | inr (inl given) ↦ absurd (cc)
-  | inr (inr long) ↦ absurd (never-too-long (shop_of c.args.shop.now) c.args.number
+  | inr (inr long) ↦ absurd (never-too-long (shop_of c.args.shop.now) c.args.threshold
       (length c.args.part.now.directions.now) c.args.node.now (length c.args.part.now.rest.now) c.in-Err.fault long.1
       many)
 ]

@@ -6,15 +6,15 @@ use Rattle.flow_directions.proofs.directions.prove.Goals as goal
 
 pub returns-in-Proved-clause-shown : goal.returns-in-Proved-clause-shown
 returns-in-Proved-clause-shown c =
-    found-shows c.args.instance.now c.args.number c.args.budget c.args.first.now c.args.last.now
+    found-shows c.args.instance.now c.args.threshold c.args.budget c.args.first.now c.args.last.now
     (Proved c.in-Proved.directions) c.in_ok-directions.ensures.jobs
-    (subst (IsAdvanced c.args.instance.now c.args.number c.args.budget c.args.first.now c.args.last.now) c.in-Proved.is
+    (subst (IsAdvanced c.args.instance.now c.args.threshold c.args.budget c.args.first.now c.args.last.now) c.in-Proved.is
     c.in_ok-directions.ensures.advanced)
 
 pub returns-in-Below-clause-shown : goal.returns-in-Below-clause-shown
 returns-in-Below-clause-shown c =
-    let is = subst (IsAdvanced c.args.instance.now c.args.number c.args.budget c.args.first.now c.args.last.now)
+    let is = subst (IsAdvanced c.args.instance.now c.args.threshold c.args.budget c.args.first.now c.args.last.now)
     c.in-Below.is c.in_ok-directions.ensures.advanced in
-    found-shows c.args.instance.now c.args.number c.args.budget c.args.first.now c.args.last.now
+    found-shows c.args.instance.now c.args.threshold c.args.budget c.args.first.now c.args.last.now
     (Below c.in-Below.sequence c.in-Below.makespan (length c.in-Below.directions.items))
     c.in_ok-directions.ensures.jobs is.0

@@ -16,7 +16,7 @@ loop-lane-preserved g c =
     let names = c.args.names.now in
     let shop = c.args.instance.now in
     let low : lane < 16 = omega (arith, c.loop-lane-test.true) in
-    let wide : lane < g.V.Lanes.WIDTH = omega (arith, low, c.requires.wide) in
+    let wide : lane < g.V.Vector.WIDTH = omega (arith, low, c.requires.wide) in
     let within : lane < length names = omega (arith, low, c.requires.names) in
     elim c.if-left-lane-eq1.branch [
       | then-left-lane-eq1 w ↦

@@ -11,7 +11,7 @@ abbrev pub invariant-loop-lane : goal.invariant-loop-lane
 invariant-loop-lane g l = record {
   small : l.sum ≤ l.lane * 4294967295;
   rest : (first last : List ℕ) → IsNode l.instance first last l.node →
-      IsGroup g.V.Lanes.list g.V.Lanes.CAP g.V.Lanes.WIDTH l.instance l.names l.group →
+      IsGroup g.V.Vector.list g.V.Vector.CAP g.V.Vector.WIDTH l.instance l.names l.group →
       ((lane : ℕ) → lane < 16 → bit_at l.left lane ≡ 1 → has (first ++ last) (slice_index l.names lane) ≡ false) →
       l.sum + sum_by (child_bound l.instance l.end first last) (picked l.left l.lane (drop l.lane l.names))
       ≡ sum_by (child_bound l.instance l.end first last) (picked l.left 0 l.names);

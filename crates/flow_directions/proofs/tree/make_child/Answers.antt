@@ -22,7 +22,7 @@ open_child-requires-clause-at g c =
       at.0,
       at.1,
       at.2,
-      subst (IsOpenNode g.V.Lanes.list g.V.Lanes.CAP g.V.Lanes.WIDTH shop at.0 at.1 at.2 pack) parent_is at.3,
+      subst (IsOpenNode g.V.Vector.list g.V.Vector.CAP g.V.Vector.WIDTH shop at.0 at.1 at.2 pack) parent_is at.3,
       at.4,
       at.5,
       at.6,
@@ -33,8 +33,8 @@ open_child-requires-clause-at g c =
       subst (HasRoomToOpen shop (length pack.groups.items)) child_is at.11,
     )
 
-pub returns-clause-child : goal.returns-clause-child
-returns-clause-child g c =
+pub returns : goal.returns
+returns g c =
     let split = c.split_at_mut-above in
     let above = split.result.0.now in
     let deeper = split.result.1.now in
@@ -51,10 +51,10 @@ returns-clause-child g c =
       λ shop groups empty room. c.open_child.ensures.room shop groups
           (subst (HasRoomToOpen shop groups) (parted-right c.args.nodes.now above deeper making.to empty child
           split.ensures.value split.ensures.front_len c.requires.room) room),
-      λ number first last empty is is_pack room limit marked.
+      λ threshold first last empty is is_pack room limit marked.
           let parent_is = parted-left c.args.nodes.now above deeper making.at empty parent split.ensures.value low in
-          c.open_child.ensures.child number first last
-          (subst (IsOpenNode g.V.Lanes.list g.V.Lanes.CAP g.V.Lanes.WIDTH shop number first last pack) parent_is is)
+          c.open_child.ensures.child threshold first last
+          (subst (IsOpenNode g.V.Vector.list g.V.Vector.CAP g.V.Vector.WIDTH shop threshold first last pack) parent_is is)
           is_pack room limit
           (sym (ap (λ n. mark (children_at making.put.end n).below.words making.put.place) parent_is) ∙ marked),
     )

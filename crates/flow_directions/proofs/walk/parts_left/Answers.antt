@@ -23,19 +23,19 @@ levels-init g c =
     record {
       left = refl;
       count = omega (arith, ap length pushed);
-      stands = λ shop number first last is stands. stands;
-      met = λ shop number first last is stands.
-          ap (λ ps. met_with shop number (names_of tree.packs.items) (c.args.left + length levels) first last levels
-          (parts_visits shop number ps)) pushed
-          ∙ ap (met_with shop number (names_of tree.packs.items) (c.args.left + length levels) first last levels)
-          (parts-more shop number [] node
-          ∙ met-node shop number (first_of first levels) (last_of last levels) node
+      stands = λ shop threshold first last is stands. stands;
+      met = λ shop threshold first last is stands.
+          ap (λ ps. met_with shop threshold (names_of tree.packs.items) (c.args.left + length levels) first last levels
+          (parts_visits shop threshold ps)) pushed
+          ∙ ap (met_with shop threshold (names_of tree.packs.items) (c.args.left + length levels) first last levels)
+          (parts-more shop threshold [] node
+          ∙ met-node shop threshold (first_of first levels) (last_of last levels) node
           (c.in_ok-node.ensures shop.jobs (first_of first levels) (last_of last levels) stands.has_lists));
-      each = λ shop number first last is stands are.
+      each = λ shop threshold first last is stands are.
           subst (All (IsPart shop)) (sym pushed) (All-push (IsPart shop) [] node (All-nil (IsPart shop))
           (node-part shop (first_of first levels) (last_of last levels) node
           (c.in_ok-node.ensures shop.jobs (first_of first levels) (last_of last levels) stands.has_lists)
-          (levels-jobs shop number (names_of tree.packs.items) (c.args.left + length levels) first last levels
+          (levels-jobs shop threshold (names_of tree.packs.items) (c.args.left + length levels) first last levels
           stands.are_levels are)));
     }
 
@@ -93,28 +93,28 @@ levels-preserved g c =
     record {
       left = omega (arith, here.left, fewer);
       count = omega (arith, here.count, fewer, ap length pushed, length-append parts (part ∷ []));
-      stands = λ shop number first last is stands.
-          let before = here.stands shop number first last is stands in
-          left-stands shop number (names_of packs) first last left c.levels.lists levels rest level before parted
+      stands = λ shop threshold first last is stands.
+          let before = here.stands shop threshold first last is stands in
+          left-stands shop threshold (names_of packs) first last left c.levels.lists levels rest level before parted
           c.take.new.self
           (c.take.ensures shop.jobs (first_of first rest) (last_of last rest) level.job
-          (left-lists shop number (names_of packs) first last left c.levels.lists levels rest level before parted));
-      met = λ shop number first last is stands.
-          let before = here.stands shop number first last is stands in
+          (left-lists shop threshold (names_of packs) first last left c.levels.lists levels rest level before parted));
+      met = λ shop threshold first last is stands.
+          let before = here.stands shop threshold first last is stands in
           let lists = c.take.ensures shop.jobs (first_of first rest) (last_of last rest) level.job
-          (left-lists shop number (names_of packs) first last left c.levels.lists levels rest level before parted) in
-          ap (λ ps. met_with shop number (names_of packs) left first last rest (parts_visits shop number ps)) pushed
-          ∙ left-met shop number (names_of packs) first last left c.levels.lists levels rest level before parted parts
+          (left-lists shop threshold (names_of packs) first last left c.levels.lists levels rest level before parted) in
+          ap (λ ps. met_with shop threshold (names_of packs) left first last rest (parts_visits shop threshold ps)) pushed
+          ∙ left-met shop threshold (names_of packs) first last left c.levels.lists levels rest level before parted parts
           part c.in_ok-jobs.jobs.items jobs
           (c.in_ok-children.ensures shop.jobs (first_of first rest) (last_of last rest) lists)
-          ∙ here.met shop number first last is stands;
-      each = λ shop number first last is stands are.
-          let before = here.stands shop number first last is stands in
+          ∙ here.met shop threshold first last is stands;
+      each = λ shop threshold first last is stands are.
+          let before = here.stands shop threshold first last is stands in
           let lists = c.take.ensures shop.jobs (first_of first rest) (last_of last rest) level.job
-          (left-lists shop number (names_of packs) first last left c.levels.lists levels rest level before parted) in
+          (left-lists shop threshold (names_of packs) first last left c.levels.lists levels rest level before parted) in
           subst (All (IsPart shop)) (sym pushed)
-          (left-each shop number (names_of packs) first last left c.levels.lists levels rest level before parted parts
+          (left-each shop threshold (names_of packs) first last left c.levels.lists levels rest level before parted parts
           part c.in_ok-jobs.jobs.items jobs
           (c.in_ok-children.ensures shop.jobs (first_of first rest) (last_of last rest) lists) are
-          (here.each shop number first last is stands are));
+          (here.each shop threshold first last is stands are));
     }

@@ -12,20 +12,20 @@ abbrev pub invariant-levels : goal.invariant-levels
 invariant-levels g l = record {
   left : l.left + length l.levels.items ≡ l.fn.left + length l.fn.levels.items;
   count : length l.parts.items + length l.levels.items ≡ length l.fn.levels.items + 1;
-  stands : (shop : Shop) (number : ℕ) (first last : List ℕ) → IsTree g.V.Lanes.CAP shop number l.tree →
-      StandsBelow shop number (names_of l.tree.packs.items) first last (l.fn.left + length l.fn.levels.items) l.fn.lists
+  stands : (shop : Shop) (threshold : ℕ) (first last : List ℕ) → IsTree g.V.Vector.CAP shop threshold l.tree →
+      StandsBelow shop threshold (names_of l.tree.packs.items) first last (l.fn.left + length l.fn.levels.items) l.fn.lists
       l.fn.levels.items →
-      StandsBelow shop number (names_of l.tree.packs.items) first last (l.fn.left + length l.fn.levels.items) l.lists
+      StandsBelow shop threshold (names_of l.tree.packs.items) first last (l.fn.left + length l.fn.levels.items) l.lists
       l.levels.items;
-  met : (shop : Shop) (number : ℕ) (first last : List ℕ) → IsTree g.V.Lanes.CAP shop number l.tree →
-      StandsBelow shop number (names_of l.tree.packs.items) first last (l.fn.left + length l.fn.levels.items) l.fn.lists
+  met : (shop : Shop) (threshold : ℕ) (first last : List ℕ) → IsTree g.V.Vector.CAP shop threshold l.tree →
+      StandsBelow shop threshold (names_of l.tree.packs.items) first last (l.fn.left + length l.fn.levels.items) l.fn.lists
       l.fn.levels.items →
-      met_with shop number (names_of l.tree.packs.items) (l.fn.left + length l.fn.levels.items) first last
-      l.levels.items (parts_visits shop number l.parts.items)
-      ≡ met_with shop number (names_of l.tree.packs.items) (l.fn.left + length l.fn.levels.items) first last
-      l.fn.levels.items (visits shop number (first_of first l.fn.levels.items) (last_of last l.fn.levels.items));
-  each : (shop : Shop) (number : ℕ) (first last : List ℕ) → IsTree g.V.Lanes.CAP shop number l.tree →
-      StandsBelow shop number (names_of l.tree.packs.items) first last (l.fn.left + length l.fn.levels.items) l.fn.lists
+      met_with shop threshold (names_of l.tree.packs.items) (l.fn.left + length l.fn.levels.items) first last
+      l.levels.items (parts_visits shop threshold l.parts.items)
+      ≡ met_with shop threshold (names_of l.tree.packs.items) (l.fn.left + length l.fn.levels.items) first last
+      l.fn.levels.items (visits shop threshold (first_of first l.fn.levels.items) (last_of last l.fn.levels.items));
+  each : (shop : Shop) (threshold : ℕ) (first last : List ℕ) → IsTree g.V.Vector.CAP shop threshold l.tree →
+      StandsBelow shop threshold (names_of l.tree.packs.items) first last (l.fn.left + length l.fn.levels.items) l.fn.lists
       l.fn.levels.items →
       AreJobs shop.jobs (first ++ last) → All (IsPart shop) l.parts.items;
 }

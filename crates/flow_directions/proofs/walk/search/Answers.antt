@@ -30,21 +30,21 @@ pub returns-then-terms-eq0 : goal.returns-then-terms-eq0
 returns-then-terms-eq0 g c = record {
   found = λ first last are at.
       let shop = c.args.instance.now in
-      let number = c.args.terms.number in
+      let threshold = c.args.terms.threshold in
       let packs = c.args.tree.packs.items in
       let levels = c.in_ok-levels.levels.items in
       let parts = c.in_ok-parts.parts in
       let empty : levels ≡ [] = c.in_ok-levels.ensures.items in
       let left : ℕ = c.args.left + length levels in
-      let below : StandsBelow shop number (names_of packs) first last left c.args.lists levels =
-      subst (StandsBelow shop number (names_of packs) first last left c.args.lists) (sym empty)
+      let below : StandsBelow shop threshold (names_of packs) first last left c.args.lists levels =
+      subst (StandsBelow shop threshold (names_of packs) first last left c.args.lists) (sym empty)
       (record { are_levels = tt; has_lists = at.has_lists }) in
-      found-none shop number c.args.terms.budget first last c.new-directions.result parts c.new-directions.ensures.items
+      found-none shop threshold c.args.terms.budget first last c.new-directions.result parts c.new-directions.ensures.items
       c.if-terms-eq0.true at.is_open.below (omega (arith, at.count, c.requires.some))
-      (c.in_ok-parts.ensures.parts shop number first last c.requires.tree below
-      ∙ ap (λ ls. met_with shop number (names_of packs) left first last ls
-      (visits shop number (first_of first ls) (last_of last ls))) empty)
-      (c.in_ok-parts.ensures.each shop number first last c.requires.tree below are)
+      (c.in_ok-parts.ensures.parts shop threshold first last c.requires.tree below
+      ∙ ap (λ ls. met_with shop threshold (names_of packs) left first last ls
+      (visits shop threshold (first_of first ls) (last_of last ls))) empty)
+      (c.in_ok-parts.ensures.each shop threshold first last c.requires.tree below are)
       (omega (arith, c.in_ok-parts.ensures.count, ap length empty, at.count, c.requires.some));
 }
 
@@ -63,19 +63,19 @@ walk-init g c =
     ∙ ap (λ xs. xs ++ c.sign_of.result ∷ []) c.new-directions.ensures.items
     ∙ ap (λ s. s ∷ []) c.sign_of.ensures in
     record {
-      tree = made.tree c.args.terms.number c.requires.tree;
+      tree = made.tree c.args.terms.threshold c.requires.tree;
       packs = ap (λ ps. length ps.items) made.packs;
       left = omega (arith, ap length empty);
       some = c.requires.some;
       room = made.room;
       within = omega (arith, ap length written, c.if-terms-eq0.false);
       stands = λ first last are at.
-          subst (λ ls. Stands g.V.Lanes.list g.V.Lanes.CAP g.V.Lanes.WIDTH shop c.args.terms.number first last
+          subst (λ ls. Stands g.V.Vector.list g.V.Vector.CAP g.V.Vector.WIDTH shop c.args.terms.threshold first last
           c.args.left
           text c.args.lists packs2 nodes2 ls here) (sym empty)
-          (stands-first g.V.Lanes.list g.V.Lanes.CAP g.V.Lanes.WIDTH shop c.args.terms.number first last c.args.left
+          (stands-first g.V.Vector.list g.V.Vector.CAP g.V.Vector.WIDTH shop c.args.terms.threshold first last c.args.left
           c.args.lists c.args.tree packs2 nodes2 here text at c.requires.some
-          (made.level c.args.terms.number first last c.requires.tree at.is_open at.count) written);
+          (made.level c.args.terms.threshold first last c.requires.tree at.is_open at.count) written);
     }
 
 -- the pack that has the jobs left
@@ -109,7 +109,7 @@ returns-in_default g c = record {
       let levels = c.walk.levels.items in
       let empty : jobs_of (names_of packs) (c.args.left - length levels) c.walk.here ≡ [] =
       ap (chosen c.walk.here.rest.words) (sym (names g next)) ∙ c.in-None.ensures.none in
-      let done = stands-done g.V.Lanes.list g.V.Lanes.CAP g.V.Lanes.WIDTH c.args.instance.now c.args.terms.number first
+      let done = stands-done g.V.Vector.list g.V.Vector.CAP g.V.Vector.WIDTH c.args.instance.now c.args.terms.threshold first
       last c.args.left c.walk.directions.items c.walk.lists packs c.walk.tree.nodes.items levels c.walk.here
       (c.walk.invariant.stands first last are at)
       (omega (arith, c.in_default.ensures.cases.0, c.walk.levels.ok.0)) empty in
@@ -154,7 +154,7 @@ walk-preserved-in-None g c =
       within = here.within;
       stands = λ first last are is.
           let before = here.stands first last are is in
-          stands-back g.V.Lanes.list g.V.Lanes.CAP g.V.Lanes.WIDTH shop c.args.terms.number first last c.args.left
+          stands-back g.V.Vector.list g.V.Vector.CAP g.V.Vector.WIDTH shop c.args.terms.threshold first last c.args.left
           c.walk.directions.items c.walk.lists packs c.walk.tree.nodes.items levels rest c.walk.here level
           c.take.new.self
           before empty parted
@@ -165,7 +165,7 @@ walk-preserved-in-None g c =
 
 -- how many jobs the node has
 node-count : (g : Over) (c : After-next g) (first last : List ℕ) →
-    Stands g.V.Lanes.list g.V.Lanes.CAP g.V.Lanes.WIDTH c.args.instance.now c.args.terms.number first last c.args.left
+    Stands g.V.Vector.list g.V.Vector.CAP g.V.Vector.WIDTH c.args.instance.now c.args.terms.threshold first last c.args.left
     c.walk.directions.items c.walk.lists c.walk.tree.packs.items c.walk.tree.nodes.items c.walk.levels.items
     c.walk.here →
     length (first_of first c.walk.levels.items) + length (last_of last c.walk.levels.items)
@@ -208,16 +208,16 @@ turn g c =
       first = c.in-Some.ensures.first;
     })
 
--- where it was the last job, a sequence below the number is reached
+-- where it was the last job, a sequence below the threshold is reached
 low : (g : Over) (c : After-put g) (first last : List ℕ) → c.walk.left ≡ 1 →
-    Stands g.V.Lanes.list g.V.Lanes.CAP g.V.Lanes.WIDTH c.args.instance.now c.args.terms.number first last c.args.left
+    Stands g.V.Vector.list g.V.Vector.CAP g.V.Vector.WIDTH c.args.instance.now c.args.terms.threshold first last c.args.left
     c.walk.directions.items c.walk.lists c.walk.tree.packs.items c.walk.tree.nodes.items c.walk.levels.items
     c.walk.here →
-    (first_below c.args.instance.now c.args.terms.number first last ≡ Some c.put.new.self.jobs.items)
-    × (c.walk.directions.items ≡ directions_of c.args.instance.now c.args.terms.number first last)
+    (first_below c.args.instance.now c.args.terms.threshold first last ≡ Some c.put.new.self.jobs.items)
+    × (c.walk.directions.items ≡ directions_of c.args.instance.now c.args.terms.threshold first last)
 low g c first last one stands =
     let shop = c.args.instance.now in
-    let number = c.args.terms.number in
+    let threshold = c.args.terms.threshold in
     let packs = c.walk.tree.packs.items in
     let nodes = c.walk.tree.nodes.items in
     let levels = c.walk.levels.items in
@@ -226,9 +226,9 @@ low g c first last one stands =
     let behind : List ℕ = last_of last levels in
     let some = (goal.at.After-put g c).In-Some in
     let is = turn g some in
-    let opened = turn-open g.V.Lanes.list g.V.Lanes.CAP g.V.Lanes.WIDTH shop number first last c.args.left
+    let opened = turn-open g.V.Vector.list g.V.Vector.CAP g.V.Vector.WIDTH shop threshold first last c.args.left
     c.walk.directions.items c.walk.lists packs nodes levels c.walk.here here c.in-Some.place stands is in
-    turn-low g.V.Lanes.list g.V.Lanes.CAP g.V.Lanes.WIDTH shop number first last c.args.left c.walk.directions.items
+    turn-low g.V.Vector.list g.V.Vector.CAP g.V.Vector.WIDTH shop threshold first last c.args.left c.walk.directions.items
     c.walk.lists packs nodes levels c.walk.here here c.in-Some.place stands is c.put.new.self
     (omega (
       arith,
@@ -251,7 +251,7 @@ sequence_of-requires g c =
     let at = c.requires.at in
     let found = low g (goal.at.sequence_of-requires g c).After-put at.0 at.1
     (omega (arith, c.if-left-eq0.true, c.walk.invariant.some)) (c.walk.invariant.stands at.0 at.1 at.2 at.3) in
-    let reached = reached_is_below c.args.instance.now c.args.terms.number at.0 at.1 c.put.new.self.jobs.items at.2
+    let reached = reached_is_below c.args.instance.now c.args.terms.threshold at.0 at.1 c.put.new.self.jobs.items at.2
     found.0 in
     subst (IsSequence c.args.instance.now.jobs) (sym c.all.ensures.value) reached.0.2
 
@@ -261,8 +261,8 @@ returns-then-left-eq0 g c = record {
       let found = low g (goal.at.returns-then-left-eq0 g c).After-put first last
       (omega (arith, c.if-left-eq0.true, c.walk.invariant.some)) (c.walk.invariant.stands first last are at) in
       each-ok (IsSequenceAfter c.args.instance.now c.all.result.now c.walk.directions.items)
-      (IsAdvanced c.args.instance.now c.args.terms.number c.args.terms.budget first last) c.sequence_of.result
-      (λ made is. found-below c.args.instance.now c.args.terms.number c.args.terms.budget first last c.all.result.now
+      (IsAdvanced c.args.instance.now c.args.terms.threshold c.args.terms.budget first last) c.sequence_of.result
+      (λ made is. found-below c.args.instance.now c.args.terms.threshold c.args.terms.budget first last c.all.result.now
       c.walk.directions.items made (found.0 ∙ ap Some (sym c.all.ensures.value)) found.1 c.walk.invariant.within is)
       c.sequence_of.ensures.found;
 }
@@ -270,16 +270,16 @@ returns-then-left-eq0 g c = record {
 -- where the search stops there, the levels are those above the child
 stopped : (g : Over) (c : After-put g) (first last : List ℕ) (total : ℕ) (levels : List Level) → total ≡ c.args.left →
     levels ≡ c.walk.levels.items ++ c.next.new.self ∷ [] →
-    Stands g.V.Lanes.list g.V.Lanes.CAP g.V.Lanes.WIDTH c.args.instance.now c.args.terms.number first last c.args.left
+    Stands g.V.Vector.list g.V.Vector.CAP g.V.Vector.WIDTH c.args.instance.now c.args.terms.threshold first last c.args.left
     c.walk.directions.items c.walk.lists c.walk.tree.packs.items c.walk.tree.nodes.items c.walk.levels.items
     c.walk.here →
-    StandsBelow c.args.instance.now c.args.terms.number (names_of c.walk.tree.packs.items) first last total
+    StandsBelow c.args.instance.now c.args.terms.threshold (names_of c.walk.tree.packs.items) first last total
     c.put.new.self
     levels
 stopped g c first last total levels all levels_are stands =
-    subst (StandsBelow c.args.instance.now c.args.terms.number (names_of c.walk.tree.packs.items) first last total
+    subst (StandsBelow c.args.instance.now c.args.terms.threshold (names_of c.walk.tree.packs.items) first last total
     c.put.new.self) (sym levels_are)
-    (turn-stopped g.V.Lanes.list g.V.Lanes.CAP g.V.Lanes.WIDTH c.args.instance.now c.args.terms.number first last
+    (turn-stopped g.V.Vector.list g.V.Vector.CAP g.V.Vector.WIDTH c.args.instance.now c.args.terms.threshold first last
     c.args.left c.walk.directions.items c.walk.lists c.walk.tree.packs.items c.walk.tree.nodes.items c.walk.levels.items
     c.walk.here c.next.new.self c.in-Some.place stands (turn g (goal.at.After-put g c).In-Some) total c.put.new.self all
     (c.put.ensures c.args.instance.now.jobs (first_of first c.walk.levels.items) (last_of last c.walk.levels.items)
@@ -291,7 +291,7 @@ parts_left-requires-then-len-terms-clause-at g c =
     let levels2 = c.push-then-len-terms.new.self.items in
     let pushed : levels2 ≡ c.walk.levels.items ++ c.next.new.self ∷ [] = c.in_ok-push-in-Some.ensures.items in (
       c.args.instance.now,
-      c.args.terms.number,
+      c.args.terms.threshold,
       at.0,
       at.1,
       c.walk.invariant.tree,
@@ -311,7 +311,7 @@ pub returns-then-len-terms : goal.returns-then-len-terms
 returns-then-len-terms g c = record {
   found = λ first last are at.
       let shop = c.args.instance.now in
-      let number = c.args.terms.number in
+      let threshold = c.args.terms.threshold in
       let packs = c.walk.tree.packs.items in
       let nodes = c.walk.tree.nodes.items in
       let levels = c.walk.levels.items in
@@ -330,21 +330,21 @@ returns-then-len-terms g c = record {
         c.walk.invariant.some,
       ) in
       let below = stopped g put first last total levels2 all pushed stands in
-      let opened = turn-open g.V.Lanes.list g.V.Lanes.CAP g.V.Lanes.WIDTH shop number first last c.args.left
+      let opened = turn-open g.V.Vector.list g.V.Vector.CAP g.V.Vector.WIDTH shop threshold first last c.args.left
       c.walk.directions.items c.walk.lists packs nodes levels c.walk.here here c.in-Some.place stands (turn g some) in
-      let continues = turn-over g.V.Lanes.list g.V.Lanes.CAP g.V.Lanes.WIDTH shop number first last c.args.left
+      let continues = turn-over g.V.Vector.list g.V.Vector.CAP g.V.Vector.WIDTH shop threshold first last c.args.left
       c.walk.directions.items c.walk.lists packs nodes levels c.walk.here here c.in-Some.place stands (turn g some) in
-      found-over shop number c.args.terms.budget total first last c.walk.directions c.in_ok-parts-in-Some.parts
+      found-over shop threshold c.args.terms.budget total first last c.walk.directions c.in_ok-parts-in-Some.parts
       (names_of packs) levels2
       (omega (arith, c.walk.invariant.within, c.if-len-terms.true, c.len.ensures, c.walk.directions.ok.0))
-      (subst (λ n. Continues (visits shop number first last) c.walk.directions.items (met_with shop number
-      (names_of packs) n first last levels2 (visits shop number (first_of first levels2) (last_of last levels2))))
+      (subst (λ n. Continues (visits shop threshold first last) c.walk.directions.items (met_with shop threshold
+      (names_of packs) n first last levels2 (visits shop threshold (first_of first levels2) (last_of last levels2))))
       (sym all)
-      (subst (λ ls. Continues (visits shop number first last) c.walk.directions.items (met_with shop number
-      (names_of packs) c.args.left first last ls (visits shop number (first_of first ls) (last_of last ls))))
+      (subst (λ ls. Continues (visits shop threshold first last) c.walk.directions.items (met_with shop threshold
+      (names_of packs) c.args.left first last ls (visits shop threshold (first_of first ls) (last_of last ls))))
       (sym pushed) continues))
-      (subst (λ ls. end_bound shop (first_of first ls) (last_of last ls) < number) (sym pushed)
-      (lists-push (λ f l. end_bound shop f l < number) first last levels here opened.below))
+      (subst (λ ls. end_bound shop (first_of first ls) (last_of last ls) < threshold) (sym pushed)
+      (lists-push (λ f l. end_bound shop f l < threshold) first last levels here opened.below))
       (subst (λ ls. 0 < length (jobs_left shop.jobs (first_of first ls ++ last_of last ls))) (sym pushed)
       (lists-push (λ f l. 0 < length (jobs_left shop.jobs (f ++ l))) first last levels here (omega (
         arith,
@@ -355,8 +355,8 @@ returns-then-len-terms g c = record {
         c.walk.invariant.some,
         c.if-left-eq0.false,
       ))))
-      (c.in_ok-parts-in-Some.ensures.parts shop number first last c.walk.invariant.tree below)
-      (c.in_ok-parts-in-Some.ensures.each shop number first last c.walk.invariant.tree below are)
+      (c.in_ok-parts-in-Some.ensures.parts shop threshold first last c.walk.invariant.tree below)
+      (c.in_ok-parts-in-Some.ensures.each shop threshold first last c.walk.invariant.tree below are)
       (omega (
         arith,
         c.in_ok-parts-in-Some.ensures.count,
@@ -371,10 +371,10 @@ returns-then-len-terms g c = record {
 
 -- the child is searched next
 next : (g : Over) (c : After-put g) (first last : List ℕ) →
-    Stands g.V.Lanes.list g.V.Lanes.CAP g.V.Lanes.WIDTH c.args.instance.now c.args.terms.number first last c.args.left
+    Stands g.V.Vector.list g.V.Vector.CAP g.V.Vector.WIDTH c.args.instance.now c.args.terms.threshold first last c.args.left
     c.walk.directions.items c.walk.lists c.walk.tree.packs.items c.walk.tree.nodes.items c.walk.levels.items
     c.walk.here →
-    IsNext g.V.Lanes.list g.V.Lanes.CAP g.V.Lanes.WIDTH c.args.instance.now c.args.terms.number
+    IsNext g.V.Vector.list g.V.Vector.CAP g.V.Vector.WIDTH c.args.instance.now c.args.terms.threshold
     c.walk.tree.packs.items c.walk.tree.nodes.items (c.walk.left - 1 + 1) (first_of first c.walk.levels.items)
     (last_of last c.walk.levels.items) c.in-Some.place c.next.new.self
 next g c first last stands =
@@ -399,10 +399,10 @@ next g c first last stands =
       c.walk.invariant.left,
       c.walk.invariant.some,
     ) in
-    subst (λ n. IsNext g.V.Lanes.list g.V.Lanes.CAP g.V.Lanes.WIDTH c.args.instance.now c.args.terms.number packs
+    subst (λ n. IsNext g.V.Vector.list g.V.Vector.CAP g.V.Vector.WIDTH c.args.instance.now c.args.terms.threshold packs
     nodes n
     (first_of first levels) (last_of last levels) c.in-Some.place c.next.new.self) more
-    (turn-next g.V.Lanes.list g.V.Lanes.CAP g.V.Lanes.WIDTH c.args.instance.now c.args.terms.number first last
+    (turn-next g.V.Vector.list g.V.Vector.CAP g.V.Vector.WIDTH c.args.instance.now c.args.terms.threshold first last
     c.args.left
     c.walk.directions.items c.walk.lists packs nodes levels c.walk.here c.next.new.self c.in-Some.place stands
     (turn g some) size)
@@ -410,7 +410,7 @@ next g c first last stands =
 pub go-requires-clause-at : goal.go-requires-clause-at
 go-requires-clause-at g c =
     let at = c.requires.at in (
-      c.args.terms.number,
+      c.args.terms.threshold,
       first_of at.0 c.walk.levels.items,
       last_of at.1 c.walk.levels.items,
       c.walk.invariant.tree,
@@ -420,7 +420,7 @@ go-requires-clause-at g c =
 pub walk-preserved : goal.walk-preserved
 walk-preserved g c =
     let shop = c.args.instance.now in
-    let number = c.args.terms.number in
+    let threshold = c.args.terms.threshold in
     let packs = c.walk.tree.packs.items in
     let nodes = c.walk.tree.nodes.items in
     let packs2 = c.go.new.self.packs.items in
@@ -441,7 +441,7 @@ walk-preserved g c =
     let more : c.walk.left - 1 + 1 ≡ c.args.left - length levels = omega (arith, inv.left, inv.some) in
     let less : c.walk.left - 1 ≡ c.args.left - length levels - 1 = omega (arith, inv.left, inv.some) in
     record {
-      tree = made.tree number inv.tree;
+      tree = made.tree threshold inv.tree;
       packs = made.count ∙ inv.packs;
       left = omega (arith, inv.left, inv.some, ap length pushed, length-append levels (parent ∷ []));
       some = omega (arith, c.if-left-eq0.false);
@@ -460,9 +460,9 @@ walk-preserved g c =
           let behind : List ℕ = last_of last levels in
           let here = c.next.new.self in
           let is_next = next g put first last stands in
-          subst (λ ls. Stands g.V.Lanes.list g.V.Lanes.CAP g.V.Lanes.WIDTH shop number first last c.args.left text2
+          subst (λ ls. Stands g.V.Vector.list g.V.Vector.CAP g.V.Vector.WIDTH shop threshold first last c.args.left text2
           c.put.new.self packs2 nodes2 ls child) (sym pushed)
-          (turn-down g.V.Lanes.list g.V.Lanes.CAP g.V.Lanes.WIDTH shop number first last c.args.left text c.walk.lists
+          (turn-down g.V.Vector.list g.V.Vector.CAP g.V.Vector.WIDTH shop threshold first last c.args.left text c.walk.lists
           packs nodes levels c.walk.here here c.in-Some.place stands (turn g some) packs2 nodes2 c.put.new.self parent
           child
           made.count
@@ -470,11 +470,11 @@ walk-preserved g c =
           (omega (arith, inv.left, inv.some, c.if-left-eq0.false))
           (λ n none least. made.others n none (omega (arith, least, less)))
           made.above made.above_it.2 made.above_it.3 made.above_it.4 made.above_it.5
-          (subst (λ n. IsLevel g.V.Lanes.list g.V.Lanes.CAP g.V.Lanes.WIDTH shop number packs2 nodes2 n begin behind
-          parent) more (made.above_it.6 number begin behind inv.tree is_next))
-          (subst (λ n. IsBegun g.V.Lanes.list g.V.Lanes.CAP g.V.Lanes.WIDTH shop number packs2 nodes2 n
+          (subst (λ n. IsLevel g.V.Vector.list g.V.Vector.CAP g.V.Vector.WIDTH shop threshold packs2 nodes2 n begin behind
+          parent) more (made.above_it.6 threshold begin behind inv.tree is_next))
+          (subst (λ n. IsBegun g.V.Vector.list g.V.Vector.CAP g.V.Vector.WIDTH shop threshold packs2 nodes2 n
           (first_with here.end begin here.job) (last_with here.end behind here.job) child) less
-          (made.level number begin behind inv.tree is_next))
+          (made.level threshold begin behind inv.tree is_next))
           made.behind
           (c.put.ensures shop.jobs begin behind stands.has_lists)
           text2 written);

@@ -8,16 +8,16 @@ use Rattle.flow_directions.proofs.walk.search.Given as goal
 -- the walk searches the children of a level, and then those of the levels above it
 abbrev pub invariant-walk : goal.invariant-walk
 invariant-walk g l = record {
-  tree : IsTree g.V.Lanes.CAP l.instance l.terms.number l.tree;
+  tree : IsTree g.V.Vector.CAP l.instance l.terms.threshold l.tree;
   packs : length l.tree.packs.items ≡ length l.fn.tree.packs.items;
   left : l.left + length l.levels.items ≡ l.fn.left;
   some : 1 ≤ l.left;
   room : l.here.top < length l.tree.nodes.items;
   within : length l.directions.items ≤ l.terms.budget;
   stands : (first last : List ℕ) → AreJobs l.instance.jobs (first ++ last) →
-      IsAt g.V.Lanes.list g.V.Lanes.CAP g.V.Lanes.WIDTH l.instance l.terms.number first last l.fn.left l.fn.lists
+      IsAt g.V.Vector.list g.V.Vector.CAP g.V.Vector.WIDTH l.instance l.terms.threshold first last l.fn.left l.fn.lists
       l.fn.tree →
-      Stands g.V.Lanes.list g.V.Lanes.CAP g.V.Lanes.WIDTH l.instance l.terms.number first last l.fn.left
+      Stands g.V.Vector.list g.V.Vector.CAP g.V.Vector.WIDTH l.instance l.terms.threshold first last l.fn.left
       l.directions.items l.lists l.tree.packs.items l.tree.nodes.items l.levels.items l.here;
 }
 

@@ -10,16 +10,20 @@ use Rattle.flow_nodes.proofs.ChildSteps.{back-next, back-greatest}
 use Rattle.flow_nodes.proofs.bytes.open_at_back.Goals as goal
 
 pub loop-machine-init : goal.loop-machine-init
-loop-machine-init c = record {
-  within = omega arith;
-  late = λ shop first last jobs node lane is gaps are within.
-      (0, c.each-late.ensures lane within, λ e. refl, λ some. absurd (omega (arith, some)));
+loop-machine-init g c = record {
+  within = omega (arith, c.known_or-machine.ensures);
+  late = λ shop first last jobs node lane is gaps are within. (
+    0,
+    c.each-late.ensures lane within,
+    λ e. refl,
+    λ some. absurd (omega (arith, some, c.known_or-machine.ensures)),
+  );
   over = λ shop first last jobs node limit lane is gaps slacks are within.
       (0, c.each-late.ensures lane within, λ some. absurd (omega (arith, some)));
 }
 
 pub loop-machine-preserved : goal.loop-machine-preserved
-loop-machine-preserved c = record {
+loop-machine-preserved g c = record {
   within = omega (arith, c.loop-machine.invariant.within);
   late = λ shop first last jobs node lane is gaps are within.
       let machine : ℕ = c.loop-machine.machine in
@@ -97,7 +101,7 @@ loop-machine-preserved c = record {
 }
 
 pub returns : goal.returns
-returns c shop first last jobs node limit lane is gaps slacks are within =
+returns g c shop first last jobs node limit lane is gaps slacks are within =
     let all : c.loop-machine.machine + 1 ≡ 1 = omega (arith, c.loop-machine-test.false) in
     let over = c.loop-machine.invariant.over shop first last jobs node limit lane is gaps slacks are within in
     elim (cases_lt over.0 1) [

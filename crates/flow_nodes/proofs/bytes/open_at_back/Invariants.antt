@@ -3,7 +3,7 @@ use Rattle.flow_shop.specs.Shop.{Shop, numbers}
 use Rattle.flow_shop.specs.Least.{greatest}
 use Rattle.flow_shop.specs.Ends.{back}
 use Rattle.flow_shop.specs.declared.end.End.TheVariants.{Back}
-use Rattle.flow_nodes.specs.Lanes.{HasLane}
+use Rattle.flow_nodes.specs.Vectors.{HasLane}
 use Rattle.flow_nodes.specs.Nodes.{IsNode}
 use Rattle.flow_nodes.specs.Groups.{IsGroup}
 use Rattle.flow_nodes.specs.internal.Children.{back_child_at}
@@ -13,7 +13,7 @@ use Rattle.flow_nodes.proofs.bytes.open_at_back.Given as goal
 
 -- the lanes have how late the jobs are at least, and something but zero only where the limit is reached so far
 abbrev pub invariant-loop-machine : goal.invariant-loop-machine
-invariant-loop-machine l = record {
+invariant-loop-machine g l = record {
   within : l.machine ≤ length l.times;
   late : (shop : Shop) (first last jobs : List ℕ) (node : Node) (lane : ℕ) → IsNode shop first last node →
       HaveGaps Back node l.gaps → IsGroup (λ lanes. lanes) 255 16 shop jobs l.times → lane < 16 →
@@ -29,4 +29,4 @@ invariant-loop-machine l = record {
 }
 
 abbrev pub decreases-loop-machine : goal.decreases-loop-machine
-decreases-loop-machine l = l.machine
+decreases-loop-machine g l = l.machine

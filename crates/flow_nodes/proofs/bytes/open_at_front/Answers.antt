@@ -10,7 +10,7 @@ use Rattle.flow_nodes.proofs.ChildSteps.{front-next, front-greatest}
 use Rattle.flow_nodes.proofs.bytes.open_at_front.Goals as goal
 
 pub loop-place-init : goal.loop-place-init
-loop-place-init c = record {
+loop-place-init g c = record {
   late = λ shop first last jobs node lane is gaps are within.
       (0, c.each-late.ensures lane within, λ e. refl, λ some. absurd (omega (arith, some)));
   over = λ shop first last jobs node limit lane is gaps slacks are within.
@@ -18,14 +18,14 @@ loop-place-init c = record {
 }
 
 pub loop-place-preserved : goal.loop-place-preserved
-loop-place-preserved c = record {
+loop-place-preserved g c = record {
   late = λ shop first last jobs node lane is gaps are within.
       let place : ℕ = c.loop-place.place in
       let job : ℕ = slice_index jobs lane in
       let near : ℕ = slice_index node.front place in
       let before : ℕ = slice_index node.front (place - 1) in
       let free : ℕ = front shop (first ++ job ∷ []) place in
-      let below : place < shop.machines = omega (arith, c.loop-place-test.true, are.machines) in
+      let below : place < shop.machines = omega (arith, c.loop-place-test.true, c.known_or-machines.ensures, are.machines) in
       let old = c.loop-place.invariant.late shop first last jobs node lane is gaps are within in
       let late : ℕ = min old.0 255 - min (near - before) 255 in
       let start = c.excess-start.ensures lane old.0 (near - before) old.1
@@ -52,7 +52,7 @@ loop-place-preserved c = record {
       let near : ℕ = slice_index node.front place in
       let before : ℕ = slice_index node.front (place - 1) in
       let free : ℕ = front shop (first ++ job ∷ []) place in
-      let below : place < shop.machines = omega (arith, c.loop-place-test.true, are.machines) in
+      let below : place < shop.machines = omega (arith, c.loop-place-test.true, c.known_or-machines.ensures, are.machines) in
       let old = c.loop-place.invariant.late shop first last jobs node lane is gaps are within in
       let late : ℕ = min old.0 255 - min (near - before) 255 in
       let start = c.excess-start.ensures lane old.0 (near - before) old.1
@@ -84,9 +84,9 @@ loop-place-preserved c = record {
 }
 
 pub returns : goal.returns
-returns c shop first last jobs node limit lane is gaps slacks are within =
+returns g c shop first last jobs node limit lane is gaps slacks are within =
     let few : length c.args.times.now ≡ shop.machines = are.machines in
-    let all : c.loop-place.place ≡ shop.machines = omega (arith, few, c.loop-place-test.false, c.loop-place.auto.place-end) in
+    let all : c.loop-place.place ≡ shop.machines = omega (arith, few, c.loop-place-test.false, c.loop-place.auto.place-end, c.known_or-machines.ensures) in
     let over = c.loop-place.invariant.over shop first last jobs node limit lane is gaps slacks are within in
     elim (cases_lt over.0 1) [
       | inl none ↦ inl ((c.below.ensures.each lane over.0 over.1).1 none)

@@ -3,7 +3,7 @@ use Rattle.flow_shop.specs.Shop.{Shop, numbers}
 use Rattle.flow_shop.specs.Least.{greatest}
 use Rattle.flow_shop.specs.Ends.{front}
 use Rattle.flow_shop.specs.declared.end.End.TheVariants.{Front}
-use Rattle.flow_nodes.specs.Lanes.{HasLane}
+use Rattle.flow_nodes.specs.Vectors.{HasLane}
 use Rattle.flow_nodes.specs.Nodes.{IsNode}
 use Rattle.flow_nodes.specs.Groups.{IsGroup}
 use Rattle.flow_nodes.specs.internal.Children.{front_child_at}
@@ -13,7 +13,7 @@ use Rattle.flow_nodes.proofs.bytes.open_at_front.Given as goal
 
 -- the lanes have how late the jobs are at least, and something but zero only where the limit is reached so far
 abbrev pub invariant-loop-place : goal.invariant-loop-place
-invariant-loop-place l = record {
+invariant-loop-place g l = record {
   late : (shop : Shop) (first last jobs : List ℕ) (node : Node) (lane : ℕ) → IsNode shop first last node →
       HaveGaps Front node l.gaps → IsGroup (λ lanes. lanes) 255 16 shop jobs l.times → lane < 16 →
       (number : ℕ) × HasLane 255 16 l.late lane number × (l.place ≡ 0 → number ≡ 0)

@@ -1,24 +1,20 @@
-use Rattle.std.proofs.Common.{◌≡◌, ℕ, ◌-◌, ◌<◌, length, slice_index, ap, subst, arith}
-use Rattle.flow_nodes.specs.Lanes.{HasLane}
-use Rattle.flow_nodes.proofs.SpreadSteps.{spread-more}
+use Rattle.std.proofs.Common.{◌-◌, slice_index, arith}
+use Rattle.flow_nodes.specs.Vectors.{HasLane}
+use Rattle.flow_nodes.proofs.ByteSteps.{more-written}
 use Rattle.flow_nodes.proofs.bytes.write_front_gaps.Goals as goal
 
-pub loop-place-preserved : goal.loop-place-preserved
-loop-place-preserved c =
-    let place : ℕ = c.loop-place.place in
-    let fits : place < length c.loop-place.gaps = omega (arith, c.loop-place-test.true, c.loop-place.auto.gaps) in
-    let is : c.from.result ≡ (slice_index c.args.fronts.now place - slice_index c.args.fronts.now (place - 1)) =
-    omega (arith, c.from.ensures, c.saturating_sub-gap.ensures, ap (slice_index c.args.fronts.now) c.saturating_sub.ensures) in
-    record {
-      done = λ at lane none low within. spread-more
-          (λ p v. HasLane 255 16 v lane
-          (slice_index c.args.fronts.now p - slice_index c.args.fronts.now (p - 1)))
-          c.loop-place.gaps place c.all.result fits (subst (HasLane 255 16 c.all.result lane) is (c.all.ensures lane within))
-          (λ p d under. c.loop-place.invariant.done p lane d under within) at none low;
-    }
+pub machines-preserved : goal.machines-preserved
+machines-preserved c = record {
+  within = omega (arith, c.front_gaps_from-at.ensures.within, c.front_gaps_from-at.auto.gaps);
+  done = λ place lane none low within. more-written
+      (λ p v. HasLane 255 16 v lane (slice_index c.args.fronts.now p - slice_index c.args.fronts.now (p - 1)))
+      c.machines.gaps c.front_gaps_from-at.new.gaps c.machines.at c.front_gaps_from-at.result none
+      (λ p under. c.machines.invariant.done p lane none under within) (λ p under. c.front_gaps_from-at.ensures.before p none under)
+      (λ p above under. c.front_gaps_from-at.ensures.gaps p lane none above under within) place low;
+}
 
 pub returns : goal.returns
 returns c = record {
-  gaps = λ place lane none low within. c.loop-place.invariant.done place lane none
-      (omega (arith, low, c.loop-place-test.false, c.loop-place.auto.gaps)) within;
+  gaps = λ place lane none low within. c.machines.invariant.done place lane none
+      (omega (arith, low, c.machines-test.false, c.machines.auto.gaps)) within;
 }

@@ -1,23 +1,21 @@
-use Rattle.std.proofs.Common.{◌≡◌, ℕ, ◌+◌, ◌-◌, ◌<◌, length, slice_index, subst, arith}
-use Rattle.flow_nodes.specs.Lanes.{HasLane}
-use Rattle.flow_nodes.proofs.SpreadSteps.{spread-more}
+use Rattle.std.proofs.Common.{◌+◌, ◌-◌, slice_index, arith}
+use Rattle.flow_nodes.specs.Vectors.{HasLane}
+use Rattle.flow_nodes.proofs.ByteSteps.{more-written}
 use Rattle.flow_nodes.proofs.bytes.write_slacks.Goals as goal
 
-pub loop-place-preserved : goal.loop-place-preserved
-loop-place-preserved c =
-    let place : ℕ = c.loop-place.place in
-    let fits : place < length c.loop-place.slacks = omega (arith, c.loop-place-test.true, c.loop-place.auto.slacks) in
-    let is : c.from.result ≡ (c.args.limit - 1 - (slice_index c.args.node.now.front place + slice_index c.args.node.now.work place + slice_index c.args.node.now.back place)) =
-    omega (arith, c.from.ensures) in
-    record {
-      done = λ at lane none low within. spread-more
-          (λ p v. HasLane 255 16 v lane
-          (c.args.limit - 1 - (slice_index c.args.node.now.front p + slice_index c.args.node.now.work p + slice_index c.args.node.now.back p)))
-          c.loop-place.slacks place c.all.result fits (subst (HasLane 255 16 c.all.result lane) is (c.all.ensures lane within))
-          (λ p d under. c.loop-place.invariant.done p lane d under within) at none low;
-    }
+pub machines-preserved : goal.machines-preserved
+machines-preserved c = record {
+  within = omega (arith, c.slacks_from-at.ensures.within, c.slacks_from-at.auto.slacks);
+  done = λ place lane none low within. more-written
+      (λ p v. HasLane 255 16 v lane (c.args.limit - 1
+      - (slice_index c.args.node.now.front p + slice_index c.args.node.now.work p + slice_index c.args.node.now.back p)))
+      c.machines.slacks c.slacks_from-at.new.slacks c.machines.at c.slacks_from-at.result none
+      (λ p under. c.machines.invariant.done p lane none under within)
+      (λ p under. c.slacks_from-at.ensures.before p none under)
+      (λ p above under. c.slacks_from-at.ensures.slacks p lane none above under within) place low;
+}
 
 pub returns-clause-slacks : goal.returns-clause-slacks
 returns-clause-slacks c place lane none low within =
-    c.loop-place.invariant.done place lane none
-    (omega (arith, low, c.loop-place-test.false, c.loop-place.auto.slacks)) within
+    c.machines.invariant.done place lane none
+    (omega (arith, low, c.machines-test.false, c.machines.auto.slacks)) within

@@ -1,77 +1,65 @@
-use Rattle.std.proofs.Common.{◌≡◌, ℕ, ◌+◌, ◌-◌, ◌≤◌, max, ◌∷◌, map, slice_index, ap, sym, ◌∙◌}
-use Rattle.std.proofs.Common.{subst, refl, arith}
+use Rattle.std.proofs.Common.{◌≡◌, ℕ, ◌+◌, ◌-◌, ◌<◌, ◌∷◌, map, slice_index, ◌∙◌, subst, arith}
 use Rattle.flow_shop.specs.Shop.{numbers, time}
 use Rattle.flow_shop.specs.Least.{greatest}
 use Rattle.flow_shop.specs.Ends.{back}
-use Rattle.flow_nodes.specs.Lanes.{HasLane}
+use Rattle.flow_shop.specs.declared.end.End.TheVariants.{Back}
+use Rattle.flow_nodes.specs.Vectors.{HasLane}
 use Rattle.flow_nodes.specs.internal.Children.{back_child_at}
-use Rattle.flow_nodes.proofs.ChildSteps.{back-none, back-greatest-none, back-next, back-greatest}
+use Rattle.flow_nodes.specs.internal.Passes.{HasPassed, greatest_up_to}
 use Rattle.flow_nodes.proofs.GroupSteps.{lane-at}
+use Rattle.flow_nodes.proofs.OverSteps.{back-over}
+use Rattle.flow_nodes.proofs.PassSteps.{back-begun}
 use Rattle.flow_nodes.proofs.few_groups.small_back_bounds.Goals as goal
 
-pub loop-machine-init : goal.loop-machine-init
-loop-machine-init g c = record {
-  within = omega (arith, c.known_or-machine.ensures);
-  free = λ shop first last jobs lane is are within.
-      let few : shop.machines ≡ c.known_or-machine.result = sym are.machines ∙ sym c.known_or-machine.ensures in
-      subst (λ n. HasLane g.V.Lanes.CAP g.V.Lanes.WIDTH (g.V.Lanes.list c.each-free.result) lane n)
-      (sym (back-none shop first last (slice_index jobs lane) c.args.node.now is (are.each lane within))
-      ∙ ap (λ m. back shop (slice_index jobs lane ∷ last) (m + 1)) few)
-      (c.each-free.ensures lane within);
-  bounds = λ shop first last jobs lane is are within.
-      let few : shop.machines ≡ c.known_or-machine.result = sym are.machines ∙ sym c.known_or-machine.ensures in
-      subst (λ n. HasLane g.V.Lanes.CAP g.V.Lanes.WIDTH (g.V.Lanes.list c.each-free.result) lane n)
-      (sym (back-greatest-none shop first last (slice_index jobs lane) c.args.node.now is (are.each lane within))
-      ∙ ap (λ m. greatest (map (back_child_at shop first last (slice_index jobs lane))
-      (numbers (m + 1) shop.machines))) few)
-      (c.each-free.ensures lane within);
+pub others-init : goal.others-init
+others-init g c = record {
+  within = omega (arith, c.known_or-end.ensures);
+  passed = λ shop first last jobs lane is are within.
+      back-begun g.V.Vector.list g.V.Vector.CAP g.V.Vector.WIDTH shop first last (slice_index jobs lane) lane
+      c.args.node.now is (are.each lane within) (record { free = c.each-zeros.result; bounds = c.each-zeros.result })
+      (c.each-zeros.ensures lane within) (c.each-zeros.ensures lane within) c.known_or-end.result
+      (c.known_or-end.ensures ∙ are.machines);
 }
 
-pub loop-machine-preserved : goal.loop-machine-preserved
-loop-machine-preserved g c = record {
-  within = omega (arith, c.loop-machine.invariant.within);
-  free = λ shop first last jobs lane is are within.
-      let machine : ℕ = c.loop-machine.machine in
+pub others-preserved : goal.others-preserved
+others-preserved g c = record {
+  within = omega (arith, c.others.invariant.within);
+  passed = λ shop first last jobs lane is are within.
+      let place : ℕ = c.others.end - 1 in
+      let some : 0 < c.others.end = omega (arith, c.others-test.true) in
       let job : ℕ = slice_index jobs lane in
-      let near : ℕ = slice_index c.args.node.now.back (machine - 1) in
-      let free : ℕ = back shop (job ∷ last) (machine + 1) in
-      let low : 1 ≤ machine = omega (arith, c.loop-machine-test.true) in
-      let high : machine ≤ shop.machines = omega (arith, c.loop-machine.invariant.within, are.machines) in
-      let next : machine ≡ machine - 1 + 1 = omega (arith, low) in
-      let start = c.at_least-start.ensures lane free near
-      (c.loop-machine.invariant.free shop first last jobs lane is are within) (c.each.ensures lane within) in
-      let times = lane-at g.V.Lanes.list g.V.Lanes.CAP g.V.Lanes.WIDTH shop jobs c.args.group.now machine (machine - 1)
-      lane c.index-group-place.result are refl low high within c.index-group-place.is in
-      subst (λ n. HasLane g.V.Lanes.CAP g.V.Lanes.WIDTH (g.V.Lanes.list c.plus-free.result) lane n)
-      (back-next shop first last job c.args.node.now is (are.each lane within) machine near low high
-      refl
-      ∙ ap (back shop (job ∷ last)) next)
-      (c.plus-free.ensures lane (max free near) (time shop job machine) start times);
-  bounds = λ shop first last jobs lane is are within.
-      let machine : ℕ = c.loop-machine.machine in
-      let job : ℕ = slice_index jobs lane in
-      let near : ℕ = slice_index c.args.node.now.back (machine - 1) in
-      let free : ℕ = back shop (job ∷ last) (machine + 1) in
-      let low : 1 ≤ machine = omega (arith, c.loop-machine-test.true) in
-      let high : machine ≤ shop.machines = omega (arith, c.loop-machine.invariant.within, are.machines) in
-      let next : machine ≡ machine - 1 + 1 = omega (arith, low) in
-      let start = c.at_least-start.ensures lane free near
-      (c.loop-machine.invariant.free shop first last jobs lane is are within) (c.each.ensures lane within) in
-      let rest : ℕ = slice_index c.args.node.now.work (machine - 1) + slice_index c.args.node.now.front (machine - 1) in
-      let whole = c.plus.ensures lane (max free near) rest start (c.each-in-loop-machine.ensures lane within) in
-      subst (λ n. HasLane g.V.Lanes.CAP g.V.Lanes.WIDTH (g.V.Lanes.list c.at_least-bounds.result) lane n)
-      (back-greatest shop first last job c.args.node.now is (are.each lane within) machine near
-      (slice_index c.args.node.now.work (machine - 1)) (slice_index c.args.node.now.front (machine - 1)) low high refl
-      refl refl
-      ∙ ap (λ k. greatest (map (back_child_at shop first last job) (numbers k shop.machines))) next)
-      (c.at_least-bounds.ensures lane
-      (greatest (map (back_child_at shop first last job) (numbers (machine + 1) shop.machines)))
-      (max free near + rest) (c.loop-machine.invariant.bounds shop first last jobs lane is are within) whole);
+      let near : ℕ = slice_index c.args.node.now.back place in
+      let rest : ℕ = slice_index c.args.node.now.work place + slice_index c.args.node.now.front place in
+      let free : ℕ = back shop (job ∷ last) (c.others.end + 1) in
+      let there : place < shop.machines = omega (arith, some, c.others.invariant.within, are.machines) in
+      let so_far = c.others.invariant.passed shop first last jobs lane is are within in
+      let near-in = c.each-near.ensures lane within in
+      let rest-in = c.each-rest.ensures lane within in
+      let same : place ≡ place + 1 - 1 = omega arith in
+      let times = lane-at g.V.Vector.list g.V.Vector.CAP g.V.Vector.WIDTH shop jobs c.args.group.now (place + 1) place lane
+      c.index-group-end.result are same (omega arith) (omega (arith, there)) within c.index-group-end.is in
+      back-over g.V.Vector.list g.V.Vector.CAP g.V.Vector.WIDTH shop first last job lane c.args.node.now is
+      (are.each lane within) c.over_machine-pass.result place c.others.end (omega (arith, some)) there
+      (c.over_machine-pass.ensures.free lane free near (time shop job (place + 1)) so_far.free near-in times)
+      (c.over_machine-pass.ensures.bounds lane free
+      (greatest (map (back_child_at shop first last job) (numbers (c.others.end + 1) shop.machines))) near rest
+      so_far.free so_far.bounds near-in rest-in);
+}
+
+pub fours-preserved : goal.fours-preserved
+fours-preserved g c = record {
+  within = omega (arith, c.fours.invariant.within);
+  whole = omega (arith, c.fours.invariant.whole);
+  passed = λ shop first last jobs lane is are within.
+      let four : c.fours.end ≡ c.fours.end - 4 + 4 = omega (arith, c.fours-test.true, c.fours.invariant.whole) in
+      c.over_four_at_back-pass.ensures shop first last jobs lane is are within
+      (subst (λ p. HasPassed g.V.Vector.list g.V.Vector.CAP g.V.Vector.WIDTH shop Back first last (slice_index jobs lane)
+      lane p c.fours.pass) four (c.fours.invariant.passed shop first last jobs lane is are within));
 }
 
 pub returns : goal.returns
 returns g c shop first last jobs lane is are within =
-    let all : c.loop-machine.machine + 1 ≡ 1 = omega (arith, c.loop-machine-test.false) in
-    subst (λ k. HasLane g.V.Lanes.CAP g.V.Lanes.WIDTH (g.V.Lanes.list c.loop-machine.bounds) lane
-    (greatest (map (back_child_at shop first last (slice_index jobs lane)) (numbers k shop.machines)))) all
-    (c.loop-machine.invariant.bounds shop first last jobs lane is are within)
+    let all : c.fours.end ≡ 0 = omega (arith, c.fours-test.false) in
+    let passed = c.fours.invariant.passed shop first last jobs lane is are within in
+    subst (λ m. HasLane g.V.Vector.CAP g.V.Vector.WIDTH (g.V.Vector.list c.fours.pass.bounds) lane
+    (greatest_up_to shop Back first last (slice_index jobs lane) m)) all passed.bounds

@@ -1,26 +1,34 @@
-use Rattle.std.proofs.Common.{ℕ, ◌+◌, ◌<◌, ◌≤◌, List, ◌∷◌, length, map, slice_index}
-use Rattle.flow_shop.specs.Shop.{Shop, numbers}
-use Rattle.flow_shop.specs.Least.{greatest}
-use Rattle.flow_shop.specs.Ends.{back}
-use Rattle.flow_nodes.specs.Lanes.{HasLane}
+use Rattle.std.proofs.Common.{◌≡◌, ℕ, ◌%◌, ◌<◌, ◌≤◌, List, length, slice_index}
+use Rattle.flow_shop.specs.Shop.{Shop}
+use Rattle.flow_shop.specs.declared.end.End.TheVariants.{Back}
 use Rattle.flow_nodes.specs.Nodes.{IsNode}
 use Rattle.flow_nodes.specs.Groups.{IsGroup}
-use Rattle.flow_nodes.specs.internal.Children.{back_child_at}
+use Rattle.flow_nodes.specs.internal.Passes.{HasPassed}
 use Rattle.flow_nodes.proofs.few_groups.small_back_bounds.Given as goal
 
--- the lanes have the backs of the children, and what is greatest so far
-abbrev pub invariant-loop-machine : goal.invariant-loop-machine
-invariant-loop-machine g l = record {
-  within : l.machine ≤ length l.group;
-  free : (shop : Shop) (first last jobs : List ℕ) (lane : ℕ) → IsNode shop first last l.node →
-      IsGroup g.V.Lanes.list g.V.Lanes.CAP g.V.Lanes.WIDTH shop jobs l.group → lane < g.V.Lanes.WIDTH →
-      HasLane g.V.Lanes.CAP g.V.Lanes.WIDTH (g.V.Lanes.list l.free) lane
-      (back shop (slice_index jobs lane ∷ last) (l.machine + 1));
-  bounds : (shop : Shop) (first last jobs : List ℕ) (lane : ℕ) → IsNode shop first last l.node →
-      IsGroup g.V.Lanes.list g.V.Lanes.CAP g.V.Lanes.WIDTH shop jobs l.group → lane < g.V.Lanes.WIDTH →
-      HasLane g.V.Lanes.CAP g.V.Lanes.WIDTH (g.V.Lanes.list l.bounds) lane
-      (greatest (map (back_child_at shop first last (slice_index jobs lane)) (numbers (l.machine + 1) shop.machines)));
+-- the lanes have passed the machines so far
+abbrev pub invariant-others : goal.invariant-others
+invariant-others g l = record {
+  within : l.end ≤ length l.group;
+  passed : (shop : Shop) (first last jobs : List ℕ) (lane : ℕ) → IsNode shop first last l.node →
+      IsGroup g.V.Vector.list g.V.Vector.CAP g.V.Vector.WIDTH shop jobs l.group → lane < g.V.Vector.WIDTH →
+      HasPassed g.V.Vector.list g.V.Vector.CAP g.V.Vector.WIDTH shop Back first last (slice_index jobs lane) lane l.end
+      l.pass;
 }
 
-abbrev pub decreases-loop-machine : goal.decreases-loop-machine
-decreases-loop-machine g l = l.machine
+-- and fours of machines are left
+abbrev pub invariant-fours : goal.invariant-fours
+invariant-fours g l = record {
+  within : l.end ≤ length l.group;
+  whole : l.end % 4 ≡ 0;
+  passed : (shop : Shop) (first last jobs : List ℕ) (lane : ℕ) → IsNode shop first last l.node →
+      IsGroup g.V.Vector.list g.V.Vector.CAP g.V.Vector.WIDTH shop jobs l.group → lane < g.V.Vector.WIDTH →
+      HasPassed g.V.Vector.list g.V.Vector.CAP g.V.Vector.WIDTH shop Back first last (slice_index jobs lane) lane l.end
+      l.pass;
+}
+
+abbrev pub decreases-others : goal.decreases-others
+decreases-others g l = l.end
+
+abbrev pub decreases-fours : goal.decreases-fours
+decreases-fours g l = l.end

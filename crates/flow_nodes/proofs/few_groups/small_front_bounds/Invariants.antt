@@ -1,22 +1,32 @@
-use Rattle.std.proofs.Common.{ℕ, ◌<◌, List, [], ◌∷◌, ◌++◌, map, slice_index}
-use Rattle.flow_shop.specs.Shop.{Shop, numbers}
-use Rattle.flow_shop.specs.Least.{greatest}
-use Rattle.flow_shop.specs.Ends.{front}
-use Rattle.flow_nodes.specs.Lanes.{HasLane}
+use Rattle.std.proofs.Common.{ℕ, ◌-◌, ◌<◌, ◌≤◌, List, length, slice_index}
+use Rattle.flow_shop.specs.Shop.{Shop}
+use Rattle.flow_shop.specs.declared.end.End.TheVariants.{Front}
 use Rattle.flow_nodes.specs.Nodes.{IsNode}
 use Rattle.flow_nodes.specs.Groups.{IsGroup}
-use Rattle.flow_nodes.specs.internal.Children.{front_child_at}
+use Rattle.flow_nodes.specs.internal.Passes.{HasPassed}
 use Rattle.flow_nodes.proofs.few_groups.small_front_bounds.Given as goal
 
--- the lanes have the fronts of the children, and what is greatest so far
-abbrev pub invariant-loop-place : goal.invariant-loop-place
-invariant-loop-place g l = record {
-  free : (shop : Shop) (first last jobs : List ℕ) (lane : ℕ) → IsNode shop first last l.node →
-      IsGroup g.V.Lanes.list g.V.Lanes.CAP g.V.Lanes.WIDTH shop jobs l.group → lane < g.V.Lanes.WIDTH →
-      HasLane g.V.Lanes.CAP g.V.Lanes.WIDTH (g.V.Lanes.list l.free) lane
-      (front shop (first ++ slice_index jobs lane ∷ []) l.place);
-  bounds : (shop : Shop) (first last jobs : List ℕ) (lane : ℕ) → IsNode shop first last l.node →
-      IsGroup g.V.Lanes.list g.V.Lanes.CAP g.V.Lanes.WIDTH shop jobs l.group → lane < g.V.Lanes.WIDTH →
-      HasLane g.V.Lanes.CAP g.V.Lanes.WIDTH (g.V.Lanes.list l.bounds) lane
-      (greatest (map (front_child_at shop first last (slice_index jobs lane)) (numbers 1 l.place)));
+-- the lanes have passed the machines so far
+abbrev pub invariant-fours : goal.invariant-fours
+invariant-fours g l = record {
+  within : l.at ≤ length l.group;
+  passed : (shop : Shop) (first last jobs : List ℕ) (lane : ℕ) → IsNode shop first last l.node →
+      IsGroup g.V.Vector.list g.V.Vector.CAP g.V.Vector.WIDTH shop jobs l.group → lane < g.V.Vector.WIDTH →
+      HasPassed g.V.Vector.list g.V.Vector.CAP g.V.Vector.WIDTH shop Front first last (slice_index jobs lane) lane l.at
+      l.pass;
 }
+
+abbrev pub invariant-others : goal.invariant-others
+invariant-others g l = record {
+  within : l.at ≤ length l.group;
+  passed : (shop : Shop) (first last jobs : List ℕ) (lane : ℕ) → IsNode shop first last l.node →
+      IsGroup g.V.Vector.list g.V.Vector.CAP g.V.Vector.WIDTH shop jobs l.group → lane < g.V.Vector.WIDTH →
+      HasPassed g.V.Vector.list g.V.Vector.CAP g.V.Vector.WIDTH shop Front first last (slice_index jobs lane) lane l.at
+      l.pass;
+}
+
+abbrev pub decreases-fours : goal.decreases-fours
+decreases-fours g l = l.machines - l.at
+
+abbrev pub decreases-others : goal.decreases-others
+decreases-others g l = l.machines - l.at

@@ -37,13 +37,13 @@ groups-preserved g c =
         c.groups.groups.ok.0,
       );
       done = subst (λ l. (group : ℕ) (none : Vec g.row.V.Denot) → group < length l → (names : List ℕ)
-          × AreNames shop group names × IsGroup g.V.Lanes.list g.V.Lanes.CAP g.V.Lanes.WIDTH shop names
+          × AreNames shop group names × IsGroup g.V.Vector.list g.V.Vector.CAP g.V.Vector.WIDTH shop names
           (slice_index_or l group none).items) (sym pushed)
           (groups-push (λ group items. (names : List ℕ) × AreNames shop group names
-          × IsGroup g.V.Lanes.list g.V.Lanes.CAP g.V.Lanes.WIDTH shop names items) groups vector
+          × IsGroup g.V.Vector.list g.V.Vector.CAP g.V.Vector.WIDTH shop names items) groups vector
           c.groups.invariant.done (
             names,
             named,
-            subst (IsGroup g.V.Lanes.list g.V.Lanes.CAP g.V.Lanes.WIDTH shop names) (sym is) c.write_group.ensures,
+            subst (IsGroup g.V.Vector.list g.V.Vector.CAP g.V.Vector.WIDTH shop names) (sym is) c.write_group.ensures,
           ));
     }

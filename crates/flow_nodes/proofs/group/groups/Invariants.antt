@@ -9,7 +9,7 @@ invariant-groups g l = record {
   few : length l.groups.items ≤ l.count;
   done : (group : ℕ) (none : Vec g.row.V.Denot) → group < length l.groups.items →
       (names : List ℕ) × AreNames l.instance group names
-      × IsGroup g.V.Lanes.list g.V.Lanes.CAP g.V.Lanes.WIDTH l.instance names
+      × IsGroup g.V.Vector.list g.V.Vector.CAP g.V.Vector.WIDTH l.instance names
       (slice_index_or l.groups.items group none).items;
 }
 

@@ -1,7 +1,7 @@
 use Rattle.std.proofs.Common.{◌≡◌, ◌≢◌, ℕ, ◌+◌, ◌-◌, ◌*◌, ◌<◌, ◌≤◌, length, slice_index, take, drop, get_or-take}
 use Rattle.std.proofs.Common.{◌∙◌, subst, arith}
 use Rattle.std.proofs.lemmas.List.{get_or-drop, get_or-set_other}
-use Rattle.flow_nodes.specs.Lanes.{HasLane}
+use Rattle.flow_nodes.specs.Vectors.{HasLane}
 use Rattle.flow_nodes.proofs.SpreadSteps.{spread-more}
 use Rattle.flow_nodes.proofs.group.write_four.Goals as goal
 
@@ -23,9 +23,9 @@ loop-place-preserved g c =
           let fits : here < length group =
           omega (arith, c.loop-place-test.true, c.min-end.ensures, c.loop-place.auto.group) in
           spread-more
-          (λ p v. at ≤ p → HasLane g.V.Lanes.CAP g.V.Lanes.WIDTH (g.V.Lanes.list v) lane
+          (λ p v. at ≤ p → HasLane g.V.Vector.CAP g.V.Vector.WIDTH (g.V.Vector.list v) lane
           (slice_index block ((p - at) * 16 + lane))) group here c.load.result fits
-          (λ above. subst (HasLane g.V.Lanes.CAP g.V.Lanes.WIDTH (g.V.Lanes.list c.load.result) lane) read
+          (λ above. subst (HasLane g.V.Vector.CAP g.V.Vector.WIDTH (g.V.Vector.list c.load.result) lane) read
           (c.load.ensures lane within))
           (λ p d under above. c.loop-place.invariant.done p lane d above under within) place none low high;
     }

@@ -1,7 +1,7 @@
 use Rattle.std.proofs.Common.{◌≡◌, ℕ, ◌-◌, ◌<◌, ◌≤◌, length, slice_index, take, get_or-take, ◌∙◌, subst, arith}
 use Rattle.std.proofs.lemmas.List.{length-set}
 use Rattle.flow_shop.specs.Shop.{time}
-use Rattle.flow_nodes.specs.Lanes.{HasLane}
+use Rattle.flow_nodes.specs.Vectors.{HasLane}
 use Rattle.flow_nodes.proofs.GroupSteps.{written-more}
 use Rattle.flow_nodes.proofs.group.write_group.Goals as goal
 
@@ -16,7 +16,7 @@ loop-machine-preserved g c =
       length = length-set c.loop-machine.group (machine - 1) c.load.result ∙ c.loop-machine.invariant.length;
       done = λ lane none within.
           let long : lane < length c.args.jobs.now = omega (arith, within, c.requires.jobs) in
-          let loaded : HasLane g.V.Lanes.CAP g.V.Lanes.WIDTH (g.V.Lanes.list c.load.result) lane
+          let loaded : HasLane g.V.Vector.CAP g.V.Vector.WIDTH (g.V.Vector.list c.load.result) lane
           (slice_index (take (length c.args.jobs.now) c.write_times.new.times) lane) =
           c.load.ensures lane within in
           let is : slice_index (take (length c.args.jobs.now) c.write_times.new.times) lane
@@ -24,10 +24,10 @@ loop-machine-preserved g c =
           get_or-take (length c.args.jobs.now) c.write_times.new.times lane 0 long
           ∙ c.write_times.ensures.each lane long in
           written-more
-          (λ k v. HasLane g.V.Lanes.CAP g.V.Lanes.WIDTH (g.V.Lanes.list v) lane
+          (λ k v. HasLane g.V.Vector.CAP g.V.Vector.WIDTH (g.V.Vector.list v) lane
           (time c.args.instance.now (slice_index c.args.jobs.now lane) k)) c.loop-machine.group machine
           c.load.result none low (omega (arith, low, high, c.loop-machine.invariant.length))
-          (subst (λ n. HasLane g.V.Lanes.CAP g.V.Lanes.WIDTH (g.V.Lanes.list c.load.result) lane n) is loaded)
+          (subst (λ n. HasLane g.V.Vector.CAP g.V.Vector.WIDTH (g.V.Vector.list c.load.result) lane n) is loaded)
           (λ k from below. c.loop-machine.invariant.done lane none within k from below);
     }
 

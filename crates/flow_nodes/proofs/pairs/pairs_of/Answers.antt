@@ -19,6 +19,6 @@ fours-preserved g c = record {
             c.four_of.ensures.each lane within ∙ ap (slice_index c.args.numbers.now) (sym is) in
             c.put_four.ensures.each lane place within is
             ∙ c.pairs.ensures.each lane within (omega (arith, read, c.requires.fit place inside))
-            ∙ ap g.V.Lanes.pair_of read
+            ∙ ap g.V.Vector.pair_of read
       ];
 }

@@ -5,7 +5,7 @@ use Rattle.flow_nodes.proofs.pairs.pairs_of.Given as goal
 abbrev pub invariant-fours : goal.invariant-fours
 invariant-fours g l = record {
   done : (place : ℕ) → place < l.at → place < l.machines →
-      slice_index l.pairs place ≡ g.V.Lanes.pair_of (slice_index l.numbers place);
+      slice_index l.pairs place ≡ g.V.Vector.pair_of (slice_index l.numbers place);
 }
 
 abbrev pub decreases-fours : goal.decreases-fours

@@ -27,7 +27,7 @@ fours-preserved g c = record {
             ∙ omega (arith, one, two) in
             c.put_four.ensures.each lane place within is
             ∙ c.pairs.ensures.each lane within (omega (arith, read, c.requires.fit place inside))
-            ∙ ap g.V.Lanes.pair_of read
+            ∙ ap g.V.Vector.pair_of read
       ];
 }
 

@@ -1,118 +1,147 @@
 use Rattle.std.proofs.Common.{◌≡◌, ℕ, ◌+◌, ◌-◌, ◌/◌, slice_index, slice_index_or, sym, ◌∙◌, subst}
 use Rattle.std.proofs.Common.{inl, inr, arith}
 use Rattle.std.proofs.lemmas.Bool.{cases_lt}
+use Rattle.std.proofs.lemmas.Nat.Bits.{bit_at-zero}
+use Rattle.std.proofs.lemmas.Option.{same_Some, none-some}
 use Rattle.flow_shop.specs.declared.end.End.TheVariants.{Front}
-use Rattle.flow_nodes.specs.Lanes.{HasLane}
+use Rattle.flow_nodes.specs.Vectors.{HasLane}
 use Rattle.flow_nodes.specs.Groups.{child_bound}
-use Rattle.flow_nodes.specs.Open.{start_at}
+use Rattle.flow_nodes.specs.Open.{HasStartsAndBound, start_at}
 use Rattle.flow_nodes.specs.internal.Passes.{greatest_up_to}
 use Rattle.flow_nodes.proofs.PassSteps.{front-begun, none-so-far, whole-tells, up-to-all}
 use Rattle.flow_nodes.proofs.passes.below_at_front.Goals as goal
 
 pub returns-then-not-sought-clause-exact : goal.returns-then-not-sought-clause-exact
-returns-then-not-sought-clause-exact g c shop number first last jobs node lane limit is paired are within was fresh =
+returns-then-not-sought-clause-exact g c shop threshold first last jobs node lane limit is paired are within was fresh =
     let job : ℕ = slice_index jobs lane in
-    let last_pass = c.pass_front-whole.ensures.passed shop first last jobs node lane is paired are within
-    (front-begun g.V.Lanes.list g.V.Lanes.CAP g.V.Lanes.WIDTH shop first last (slice_index jobs lane) lane node is (are.each lane within) c.begun.result
-    (c.begun.ensures.free lane within) (c.begun.ensures.bounds lane within)) in
-    whole-tells shop number c.args.sought.limit Front first last job lane c.kept_below.result node limit is
+    whole-tells shop threshold c.args.sought.limit Front first last job lane c.find_below.result.below node limit is
     (are.each lane within) fresh
-    (c.kept_below.ensures.each lane (child_bound shop Front first last job)
-    (subst (HasLane g.V.Lanes.CAP g.V.Lanes.WIDTH (g.V.Lanes.list c.pass_front-whole.result.bounds) lane)
-    (up-to-all shop Front first last job c.known_or-machines.result node is (are.each lane within) fresh
-    (c.known_or-machines.ensures ∙ are.machines)) last_pass.bounds) was)
+    (c.find_below.ensures.each lane (child_bound shop Front first last job)
+    (c.whole_front-bounds.ensures shop first last jobs node lane is paired are within fresh).bound was)
 
-pub returns-clause-exact : goal.returns-clause-exact
-returns-clause-exact g c shop number first last jobs node lane limit is paired are within was fresh =
-    let job : ℕ = slice_index jobs lane in
-    let first_pass = c.pass_front-one.ensures.passed shop first last jobs node lane is paired are within
-    (front-begun g.V.Lanes.list g.V.Lanes.CAP g.V.Lanes.WIDTH shop first last (slice_index jobs lane) lane node is (are.each lane within) c.begun-2.result
-    (c.begun-2.ensures.free lane within) (c.begun-2.ensures.bounds lane within)) in
-    let second_pass = c.pass_front-two.ensures.passed shop first last jobs node lane is paired are within
-    first_pass in
-    let last_pass = c.pass_front-whole-2.ensures.passed shop first last jobs node lane is paired are within
-    second_pass in
-    whole-tells shop number c.args.sought.limit Front first last job lane c.kept_below-4.result node limit is
-    (are.each lane within) fresh
-    (c.kept_below-4.ensures.each lane (child_bound shop Front first last job)
-    (subst (HasLane g.V.Lanes.CAP g.V.Lanes.WIDTH (g.V.Lanes.list c.pass_front-whole-2.result.bounds) lane)
-    (up-to-all shop Front first last job c.known_or-machines.result node is (are.each lane within) fresh
-    (c.known_or-machines.ensures ∙ are.machines)) last_pass.bounds) was)
+pub returns-then-not-sought-clause-whole : goal.returns-then-not-sought-clause-whole
+returns-then-not-sought-clause-whole g c shop first last jobs node lane bounds is paired are within fresh same =
+    subst (HasStartsAndBound g.V.Vector.list g.V.Vector.CAP g.V.Vector.WIDTH shop Front first last
+    (slice_index jobs lane) lane c.whole_front-bounds.new.starts)
+    (same_Some c.whole_front-bounds.result bounds (sym c.find_below.ensures.bounds ∙ same))
+    (c.whole_front-bounds.ensures shop first last jobs node lane is paired are within fresh)
+
+pub returns-then-not-sought-clause-known : goal.returns-then-not-sought-clause-known
+returns-then-not-sought-clause-known g c lane one = (c.whole_front-bounds.result, c.find_below.ensures.bounds)
 
 pub returns-then-kept_below-eq0-clause-exact : goal.returns-then-kept_below-eq0-clause-exact
-returns-then-kept_below-eq0-clause-exact g c shop number first last jobs node lane limit is paired are within was fresh =
+returns-then-kept_below-eq0-clause-exact g c shop threshold first last jobs node lane limit is paired are within was fresh =
     let job : ℕ = slice_index jobs lane in
-    let first_pass = c.pass_front-one.ensures.passed shop first last jobs node lane is paired are within
-    (front-begun g.V.Lanes.list g.V.Lanes.CAP g.V.Lanes.WIDTH shop first last (slice_index jobs lane) lane node is (are.each lane within) c.begun-2.result
-    (c.begun-2.ensures.free lane within) (c.begun-2.ensures.bounds lane within)) in
-    none-so-far shop number c.args.sought.limit Front first last job (c.known_or-machines.result / 3) lane
-    c.kept_below-2.result node limit is (are.each lane within) fresh
+    let begin = (front-begun g.V.Vector.list g.V.Vector.CAP g.V.Vector.WIDTH shop first last
+    job lane node is (are.each lane within) c.begun.result (c.begun.ensures.free lane within)
+    (c.begun.ensures.bounds lane within)) in
+    let first_pass = c.pass_front-one.ensures.passed shop first last jobs node lane is paired are within begin in
+    none-so-far shop threshold c.args.sought.limit Front first last job (c.known_or-machines.result / 3) lane
+    c.kept_below.result node limit is (are.each lane within) fresh
     (omega (arith, c.known_or-machines.ensures, are.machines)) c.if-kept_below-eq0.true
-    (c.kept_below-2.ensures.each lane (greatest_up_to shop Front first last job (c.known_or-machines.result / 3)) first_pass.bounds
-    was)
+    (c.kept_below.ensures.each lane (greatest_up_to shop Front first last job (c.known_or-machines.result / 3))
+    first_pass.bounds was)
+
+pub returns-then-kept_below-eq0-clause-known : goal.returns-then-kept_below-eq0-clause-known
+returns-then-kept_below-eq0-clause-known g c lane one = absurd (omega (arith, one, bit_at-zero lane))
+
+pub returns-then-kept_below-eq0-clause-whole : goal.returns-then-kept_below-eq0-clause-whole
+returns-then-kept_below-eq0-clause-whole g c shop first last jobs node lane bounds is paired are within fresh same =
+    absurd (none-some bounds same)
 
 pub returns-then-kept_below-eq0-2-clause-exact : goal.returns-then-kept_below-eq0-2-clause-exact
-returns-then-kept_below-eq0-2-clause-exact g c shop number first last jobs node lane limit is paired are within was fresh =
+returns-then-kept_below-eq0-2-clause-exact g c shop threshold first last jobs node lane limit is paired are within was fresh =
     let job : ℕ = slice_index jobs lane in
-    let first_pass = c.pass_front-one.ensures.passed shop first last jobs node lane is paired are within
-    (front-begun g.V.Lanes.list g.V.Lanes.CAP g.V.Lanes.WIDTH shop first last (slice_index jobs lane) lane node is (are.each lane within) c.begun-2.result
-    (c.begun-2.ensures.free lane within) (c.begun-2.ensures.bounds lane within)) in
-    let second_pass = c.pass_front-two.ensures.passed shop first last jobs node lane is paired are within
-    first_pass in
-    none-so-far shop number c.args.sought.limit Front first last job (c.known_or-machines.result - c.known_or-machines.result / 3) lane
-    c.kept_below-3.result node limit is (are.each lane within) fresh
+    let begin = (front-begun g.V.Vector.list g.V.Vector.CAP g.V.Vector.WIDTH shop first last
+    job lane node is (are.each lane within) c.begun.result (c.begun.ensures.free lane within)
+    (c.begun.ensures.bounds lane within)) in
+    let first_pass = c.pass_front-one.ensures.passed shop first last jobs node lane is paired are within begin in
+    let second_pass = c.pass_front-two.ensures.passed shop first last jobs node lane is paired are within first_pass in
+    none-so-far shop threshold c.args.sought.limit Front first last job (c.known_or-machines.result - c.known_or-machines.result / 3) lane
+    c.kept_below-2.result node limit is (are.each lane within) fresh
     (omega (arith, c.known_or-machines.ensures, are.machines)) c.if-kept_below-eq0-2.true
-    (c.kept_below-3.ensures.each lane (greatest_up_to shop Front first last job (c.known_or-machines.result - c.known_or-machines.result / 3)) second_pass.bounds
-    was)
+    (c.kept_below-2.ensures.each lane (greatest_up_to shop Front first last job (c.known_or-machines.result - c.known_or-machines.result / 3))
+    second_pass.bounds was)
 
-pub returns-then-not-sought-clause-starts : goal.returns-then-not-sought-clause-starts
-returns-then-not-sought-clause-starts g c shop first last jobs node lane machine none is paired are within one on =
-    let next : machine - 1 + 1 ≡ machine = omega (arith, on.0) in
-    subst (λ k. HasLane g.V.Lanes.CAP g.V.Lanes.WIDTH
-    (g.V.Lanes.list (slice_index_or c.pass_front-whole.new.starts (machine - 1) none)) lane
-    (start_at shop Front first last (slice_index jobs lane) k)) next
-    (c.pass_front-whole.ensures.starts shop first last jobs node lane (machine - 1) none is paired are within
-    (front-begun g.V.Lanes.list g.V.Lanes.CAP g.V.Lanes.WIDTH shop first last (slice_index jobs lane) lane node is (are.each lane within) c.begun.result
-    (c.begun.ensures.free lane within) (c.begun.ensures.bounds lane within)) (omega arith)
-    (omega (arith, c.known_or-machines.ensures, are.machines, on.0, on.1)))
+pub returns-then-kept_below-eq0-2-clause-known : goal.returns-then-kept_below-eq0-2-clause-known
+returns-then-kept_below-eq0-2-clause-known g c lane one = absurd (omega (arith, one, bit_at-zero lane))
 
-pub returns-clause-starts : goal.returns-clause-starts
-returns-clause-starts g c shop first last jobs node lane machine none is paired are within one on =
-    let place : ℕ = machine - 1 in
-    let next : place + 1 ≡ machine = omega (arith, on.0) in
-    let begin = (front-begun g.V.Lanes.list g.V.Lanes.CAP g.V.Lanes.WIDTH shop first last (slice_index jobs lane) lane node is (are.each lane within) c.begun-2.result
-    (c.begun-2.ensures.free lane within) (c.begun-2.ensures.bounds lane within)) in
-    let first_pass = c.pass_front-one.ensures.passed shop first last jobs node lane is paired are within
-    begin in
-    let second_pass = c.pass_front-two.ensures.passed shop first last jobs node lane is paired are within
-    first_pass in
-    let at_two : slice_index_or c.pass_front-whole-2.new.starts place none ≡ slice_index_or c.pass_front-two.new.starts place none →
-    HasLane g.V.Lanes.CAP g.V.Lanes.WIDTH (g.V.Lanes.list (slice_index_or c.pass_front-two.new.starts place none)) lane
-    (start_at shop Front first last (slice_index jobs lane) (place + 1)) →
-    HasLane g.V.Lanes.CAP g.V.Lanes.WIDTH (g.V.Lanes.list (slice_index_or c.pass_front-whole-2.new.starts place none)) lane
-    (start_at shop Front first last (slice_index jobs lane) (place + 1)) =
-    λ same has. subst (λ v. HasLane g.V.Lanes.CAP g.V.Lanes.WIDTH (g.V.Lanes.list v) lane (start_at shop Front first last (slice_index jobs lane) (place + 1))) (sym same) has in
-    let at_one : slice_index_or c.pass_front-two.new.starts place none ≡ slice_index_or c.pass_front-one.new.starts place none →
-    slice_index_or c.pass_front-whole-2.new.starts place none ≡ slice_index_or c.pass_front-two.new.starts place none →
-    HasLane g.V.Lanes.CAP g.V.Lanes.WIDTH (g.V.Lanes.list (slice_index_or c.pass_front-one.new.starts place none)) lane
-    (start_at shop Front first last (slice_index jobs lane) (place + 1)) →
-    HasLane g.V.Lanes.CAP g.V.Lanes.WIDTH (g.V.Lanes.list (slice_index_or c.pass_front-whole-2.new.starts place none)) lane
-    (start_at shop Front first last (slice_index jobs lane) (place + 1)) =
-    λ same then has. at_two then (subst (λ v. HasLane g.V.Lanes.CAP g.V.Lanes.WIDTH (g.V.Lanes.list v) lane (start_at shop Front first last (slice_index jobs lane) (place + 1))) (sym same) has) in
-    subst (λ k. HasLane g.V.Lanes.CAP g.V.Lanes.WIDTH
-    (g.V.Lanes.list (slice_index_or c.pass_front-whole-2.new.starts place none)) lane
-    (start_at shop Front first last (slice_index jobs lane) k)) next
-    (elim (cases_lt place (c.known_or-machines.result / 3)) [
-      | inl low ↦
-          at_one (c.pass_front-two.ensures.others place none (inl low))
-          (c.pass_front-whole-2.ensures.others place none (inl (omega (arith, low))))
-          (c.pass_front-one.ensures.starts shop first last jobs node lane place none is paired are within begin (omega arith) low)
-      | inr high ↦ elim (cases_lt place (c.known_or-machines.result - c.known_or-machines.result / 3)) [
-        | inl low ↦
-            at_two (c.pass_front-whole-2.ensures.others place none (inl low))
-            (c.pass_front-two.ensures.starts shop first last jobs node lane place none is paired are within first_pass high low)
-        | inr above ↦
-            c.pass_front-whole-2.ensures.starts shop first last jobs node lane place none is paired are within second_pass above
-            (omega (arith, c.known_or-machines.ensures, are.machines, on.0, on.1))
-      ]
-    ])
+pub returns-then-kept_below-eq0-2-clause-whole : goal.returns-then-kept_below-eq0-2-clause-whole
+returns-then-kept_below-eq0-2-clause-whole g c shop first last jobs node lane bounds is paired are within fresh same =
+    absurd (none-some bounds same)
+
+pub returns-clause-exact : goal.returns-clause-exact
+returns-clause-exact g c shop threshold first last jobs node lane limit is paired are within was fresh =
+    let job : ℕ = slice_index jobs lane in
+    let begin = (front-begun g.V.Vector.list g.V.Vector.CAP g.V.Vector.WIDTH shop first last
+    job lane node is (are.each lane within) c.begun.result (c.begun.ensures.free lane within)
+    (c.begun.ensures.bounds lane within)) in
+    let first_pass = c.pass_front-one.ensures.passed shop first last jobs node lane is paired are within begin in
+    let second_pass = c.pass_front-two.ensures.passed shop first last jobs node lane is paired are within first_pass in
+    let last_pass = c.pass_front-whole.ensures.passed shop first last jobs node lane is paired are within second_pass in
+    whole-tells shop threshold c.args.sought.limit Front first last job lane c.find_below-2.result.below node limit is
+    (are.each lane within) fresh
+    (c.find_below-2.ensures.each lane (child_bound shop Front first last job)
+    (subst (HasLane g.V.Vector.CAP g.V.Vector.WIDTH (g.V.Vector.list c.pass_front-whole.result.bounds) lane)
+    (up-to-all shop Front first last job c.known_or-machines.result node is (are.each lane within) fresh
+    (c.known_or-machines.ensures ∙ are.machines)) last_pass.bounds) was)
+
+pub returns-clause-known : goal.returns-clause-known
+returns-clause-known g c lane one = (c.pass_front-whole.result.bounds, c.find_below-2.ensures.bounds)
+
+pub returns-clause-whole : goal.returns-clause-whole
+returns-clause-whole g c shop first last jobs node lane bounds is paired are within fresh same =
+    let job : ℕ = slice_index jobs lane in
+    let begin = (front-begun g.V.Vector.list g.V.Vector.CAP g.V.Vector.WIDTH shop first last
+    job lane node is (are.each lane within) c.begun.result (c.begun.ensures.free lane within)
+    (c.begun.ensures.bounds lane within)) in
+    let first_pass = c.pass_front-one.ensures.passed shop first last jobs node lane is paired are within begin in
+    let second_pass = c.pass_front-two.ensures.passed shop first last jobs node lane is paired are within first_pass in
+    let last_pass = c.pass_front-whole.ensures.passed shop first last jobs node lane is paired are within second_pass in
+    subst (HasStartsAndBound g.V.Vector.list g.V.Vector.CAP g.V.Vector.WIDTH shop Front first last job lane
+    c.pass_front-whole.new.starts) (same_Some c.pass_front-whole.result.bounds bounds
+    (sym c.find_below-2.ensures.bounds ∙ same)) (record {
+      start = λ machine zero on.
+          let place : ℕ = machine - 1 in
+          let next : place + 1 ≡ machine = omega (arith, on.0) in
+          let at_two : slice_index_or c.pass_front-whole.new.starts place zero
+          ≡ slice_index_or c.pass_front-two.new.starts place zero →
+          HasLane g.V.Vector.CAP g.V.Vector.WIDTH (g.V.Vector.list (slice_index_or c.pass_front-two.new.starts place zero)) lane
+          (start_at shop Front first last job (place + 1)) →
+          HasLane g.V.Vector.CAP g.V.Vector.WIDTH (g.V.Vector.list (slice_index_or c.pass_front-whole.new.starts place zero)) lane
+          (start_at shop Front first last job (place + 1)) =
+          λ kept has. subst (λ v. HasLane g.V.Vector.CAP g.V.Vector.WIDTH (g.V.Vector.list v) lane
+          (start_at shop Front first last job (place + 1))) (sym kept) has in
+          let at_one : slice_index_or c.pass_front-two.new.starts place zero
+          ≡ slice_index_or c.pass_front-one.new.starts place zero →
+          slice_index_or c.pass_front-whole.new.starts place zero
+          ≡ slice_index_or c.pass_front-two.new.starts place zero →
+          HasLane g.V.Vector.CAP g.V.Vector.WIDTH (g.V.Vector.list (slice_index_or c.pass_front-one.new.starts place zero)) lane
+          (start_at shop Front first last job (place + 1)) →
+          HasLane g.V.Vector.CAP g.V.Vector.WIDTH (g.V.Vector.list (slice_index_or c.pass_front-whole.new.starts place zero)) lane
+          (start_at shop Front first last job (place + 1)) =
+          λ kept then has. at_two then (subst (λ v. HasLane g.V.Vector.CAP g.V.Vector.WIDTH (g.V.Vector.list v) lane
+          (start_at shop Front first last job (place + 1))) (sym kept) has) in
+          subst (λ k. HasLane g.V.Vector.CAP g.V.Vector.WIDTH
+          (g.V.Vector.list (slice_index_or c.pass_front-whole.new.starts place zero)) lane
+          (start_at shop Front first last job k)) next
+          (elim (cases_lt place (c.known_or-machines.result / 3)) [
+            | inl low ↦
+                at_one (c.pass_front-two.ensures.others place zero (inl low))
+                (c.pass_front-whole.ensures.others place zero (inl (omega (arith, low))))
+                (c.pass_front-one.ensures.starts shop first last jobs node lane place zero is paired are within begin
+                (omega arith) low)
+            | inr high ↦ elim (cases_lt place (c.known_or-machines.result - c.known_or-machines.result / 3)) [
+              | inl low ↦
+                  at_two (c.pass_front-whole.ensures.others place zero (inl low))
+                  (c.pass_front-two.ensures.starts shop first last jobs node lane place zero is paired are within first_pass
+                  high low)
+              | inr above ↦
+                  c.pass_front-whole.ensures.starts shop first last jobs node lane place zero is paired are within
+                  second_pass above (omega (arith, c.known_or-machines.ensures, are.machines, on.0, on.1))
+            ]
+          ]);
+      bound = subst (HasLane g.V.Vector.CAP g.V.Vector.WIDTH (g.V.Vector.list c.pass_front-whole.result.bounds) lane)
+          (up-to-all shop Front first last job c.known_or-machines.result node is (are.each lane within) fresh
+          (c.known_or-machines.ensures ∙ are.machines)) last_pass.bounds;
+    })

@@ -5,7 +5,7 @@ use Rattle.std.proofs.lemmas.List.{get_or-set_other}
 use Rattle.flow_shop.specs.Shop.{numbers, time}
 use Rattle.flow_shop.specs.Least.{greatest}
 use Rattle.flow_shop.specs.Ends.{back}
-use Rattle.flow_nodes.specs.Lanes.{HasLane}
+use Rattle.flow_nodes.specs.Vectors.{HasLane}
 use Rattle.flow_nodes.specs.Open.{start_at}
 use Rattle.flow_nodes.specs.internal.Children.{back_child_at}
 use Rattle.flow_nodes.specs.internal.Passes.{HasPassed}
@@ -46,14 +46,14 @@ loop-machine-preserved g c = record {
       let whole = c.plus.ensures lane (max free near) rest start
       (c.from_pair-in-loop-machine.ensures rest lane (paired.rest (machine - 1) below).1
       (paired.rest (machine - 1) below).0 within) in
-      let times = lane-at g.V.Lanes.list g.V.Lanes.CAP g.V.Lanes.WIDTH shop jobs c.args.group.now machine (machine - 1)
+      let times = lane-at g.V.Vector.list g.V.Vector.CAP g.V.Vector.WIDTH shop jobs c.args.group.now machine (machine - 1)
       lane c.index-group-place.result are refl low high within c.index-group-place.is in
       record {
-        free = subst (λ n. HasLane g.V.Lanes.CAP g.V.Lanes.WIDTH (g.V.Lanes.list c.plus-free.result) lane n)
+        free = subst (λ n. HasLane g.V.Vector.CAP g.V.Vector.WIDTH (g.V.Vector.list c.plus-free.result) lane n)
             (back-next shop first last job node is (are.each lane within) machine near low high refl
             ∙ ap (back shop (job ∷ last)) next)
             (c.plus-free.ensures lane (max free near) (time shop job machine) start times);
-        bounds = subst (λ n. HasLane g.V.Lanes.CAP g.V.Lanes.WIDTH (g.V.Lanes.list c.at_least-bounds.result) lane n)
+        bounds = subst (λ n. HasLane g.V.Vector.CAP g.V.Vector.WIDTH (g.V.Vector.list c.at_least-bounds.result) lane n)
             (back-greatest shop first last job node is (are.each lane within) machine near
             (slice_index node.work (machine - 1)) (slice_index node.front (machine - 1)) low high refl refl refl
             ∙ ap (λ k. greatest (map (back_child_at shop first last job) (numbers k shop.machines))) next)
@@ -75,10 +75,10 @@ loop-machine-preserved g c = record {
       let start = c.at_least-start.ensures lane free near so_far.free
       (c.from_pair.ensures near lane (paired.near (machine - 1) below).1 (paired.near (machine - 1) below).0 within) in
       spread-down
-      (λ p v. HasLane g.V.Lanes.CAP g.V.Lanes.WIDTH (g.V.Lanes.list v) lane
+      (λ p v. HasLane g.V.Vector.CAP g.V.Vector.WIDTH (g.V.Vector.list v) lane
       (start_at shop Back first last job (p + 1))) c.loop-machine.starts (machine - 1) c.args.to
       c.at_least-start.result (omega (arith, below, c.requires.starts, c.loop-machine.auto.starts))
-      (subst (λ n. HasLane g.V.Lanes.CAP g.V.Lanes.WIDTH (g.V.Lanes.list c.at_least-start.result) lane n)
+      (subst (λ n. HasLane g.V.Vector.CAP g.V.Vector.WIDTH (g.V.Vector.list c.at_least-start.result) lane n)
       (back-start shop first last job node is machine near low high refl
       ∙ ap (start_at shop Back first last job) next) start)
       (λ place none above under. c.loop-machine.invariant.starts shop first last jobs node lane is paired are within
@@ -101,7 +101,7 @@ pub returns-clause-passed : goal.returns-clause-passed
 returns-clause-passed g c shop first last jobs node lane is paired are within before =
     let all : c.loop-machine.machine ≡ c.args.from =
     omega (arith, c.loop-machine-test.false, c.loop-machine.invariant.low) in
-    subst (λ m. HasPassed g.V.Lanes.list g.V.Lanes.CAP g.V.Lanes.WIDTH shop Back first last (slice_index jobs lane) lane
+    subst (λ m. HasPassed g.V.Vector.list g.V.Vector.CAP g.V.Vector.WIDTH shop Back first last (slice_index jobs lane) lane
     m (record { free = c.loop-machine.free; bounds = c.loop-machine.bounds })) all
     (c.loop-machine.invariant.passed shop first last jobs node lane is paired are within before)
 

@@ -1,7 +1,7 @@
 use Rattle.std.proofs.Common.{◌≡◌, ℕ, ◌+◌, ◌-◌, ◌<◌, ◌≤◌, List, length, slice_index, slice_index_or}
 use Rattle.std.specs.Prelude.{◌⊎◌}
 use Rattle.flow_shop.specs.Shop.{Shop}
-use Rattle.flow_nodes.specs.Lanes.{HasLane}
+use Rattle.flow_nodes.specs.Vectors.{HasLane}
 use Rattle.flow_nodes.specs.Nodes.{IsNode}
 use Rattle.flow_nodes.specs.Groups.{IsGroup}
 use Rattle.flow_nodes.specs.Open.{start_at}
@@ -17,19 +17,19 @@ invariant-loop-machine g l = record {
   low : l.from ≤ l.machine;
   high : l.machine ≤ l.to;
   passed : (shop : Shop) (first last jobs : List ℕ) (node : Node) (lane : ℕ) → IsNode shop first last node →
-      IsPaired g.V.Lanes.pair_of g.V.Lanes.CAP (length l.group) Back node l.pairs →
-      IsGroup g.V.Lanes.list g.V.Lanes.CAP g.V.Lanes.WIDTH shop jobs l.group → lane < g.V.Lanes.WIDTH →
-      HasPassed g.V.Lanes.list g.V.Lanes.CAP g.V.Lanes.WIDTH shop Back first last (slice_index jobs lane) lane l.to
+      IsPaired g.V.Vector.pair_of g.V.Vector.CAP (length l.group) Back node l.pairs →
+      IsGroup g.V.Vector.list g.V.Vector.CAP g.V.Vector.WIDTH shop jobs l.group → lane < g.V.Vector.WIDTH →
+      HasPassed g.V.Vector.list g.V.Vector.CAP g.V.Vector.WIDTH shop Back first last (slice_index jobs lane) lane l.to
       l.fn.pass →
-      HasPassed g.V.Lanes.list g.V.Lanes.CAP g.V.Lanes.WIDTH shop Back first last (slice_index jobs lane) lane l.machine
+      HasPassed g.V.Vector.list g.V.Vector.CAP g.V.Vector.WIDTH shop Back first last (slice_index jobs lane) lane l.machine
       (record { free = l.free; bounds = l.bounds });
   starts : (shop : Shop) (first last jobs : List ℕ) (node : Node) (lane : ℕ) → IsNode shop first last node →
-      IsPaired g.V.Lanes.pair_of g.V.Lanes.CAP (length l.group) Back node l.pairs →
-      IsGroup g.V.Lanes.list g.V.Lanes.CAP g.V.Lanes.WIDTH shop jobs l.group → lane < g.V.Lanes.WIDTH →
-      HasPassed g.V.Lanes.list g.V.Lanes.CAP g.V.Lanes.WIDTH shop Back first last (slice_index jobs lane) lane l.to
+      IsPaired g.V.Vector.pair_of g.V.Vector.CAP (length l.group) Back node l.pairs →
+      IsGroup g.V.Vector.list g.V.Vector.CAP g.V.Vector.WIDTH shop jobs l.group → lane < g.V.Vector.WIDTH →
+      HasPassed g.V.Vector.list g.V.Vector.CAP g.V.Vector.WIDTH shop Back first last (slice_index jobs lane) lane l.to
       l.fn.pass →
       (place : ℕ) (none : g.row.V.Denot) → l.machine ≤ place → place < l.to →
-      HasLane g.V.Lanes.CAP g.V.Lanes.WIDTH (g.V.Lanes.list (slice_index_or l.starts place none)) lane
+      HasLane g.V.Vector.CAP g.V.Vector.WIDTH (g.V.Vector.list (slice_index_or l.starts place none)) lane
       (start_at shop Back first last (slice_index jobs lane) (place + 1));
   others : (place : ℕ) (none : g.row.V.Denot) → (place < l.machine) ⊎ (l.to ≤ place) →
       slice_index_or l.starts place none ≡ slice_index_or l.fn.starts place none;

@@ -5,7 +5,7 @@ use Rattle.std.proofs.lemmas.List.{get_or-set_other}
 use Rattle.flow_shop.specs.Shop.{numbers, time}
 use Rattle.flow_shop.specs.Least.{greatest}
 use Rattle.flow_shop.specs.Ends.{front}
-use Rattle.flow_nodes.specs.Lanes.{HasLane}
+use Rattle.flow_nodes.specs.Vectors.{HasLane}
 use Rattle.flow_nodes.specs.Open.{start_at}
 use Rattle.flow_nodes.specs.internal.Children.{front_child_at}
 use Rattle.flow_nodes.specs.internal.Passes.{HasPassed}
@@ -40,13 +40,13 @@ loop-place-preserved g c = record {
       let whole = c.plus.ensures lane (max free near) rest start
       (c.from_pair-in-loop-place.ensures rest lane (paired.rest place below).1 (paired.rest place below).0 within) in
       let same : place ≡ place + 1 - 1 = omega arith in
-      let times = lane-at g.V.Lanes.list g.V.Lanes.CAP g.V.Lanes.WIDTH shop jobs c.args.group.now (place + 1) place lane
+      let times = lane-at g.V.Vector.list g.V.Vector.CAP g.V.Vector.WIDTH shop jobs c.args.group.now (place + 1) place lane
       c.index-group-place.result are same (omega arith) (omega (arith, below, few)) within c.index-group-place.is in
       record {
-        free = subst (λ n. HasLane g.V.Lanes.CAP g.V.Lanes.WIDTH (g.V.Lanes.list c.plus-free.result) lane n)
+        free = subst (λ n. HasLane g.V.Vector.CAP g.V.Vector.WIDTH (g.V.Vector.list c.plus-free.result) lane n)
             (front-next shop first last job node is (are.each lane within) place near (omega (arith, below, few)) refl)
             (c.plus-free.ensures lane (max free near) (time shop job (place + 1)) start times);
-        bounds = subst (λ n. HasLane g.V.Lanes.CAP g.V.Lanes.WIDTH (g.V.Lanes.list c.at_least-bounds.result) lane n)
+        bounds = subst (λ n. HasLane g.V.Vector.CAP g.V.Vector.WIDTH (g.V.Vector.list c.at_least-bounds.result) lane n)
             (front-greatest shop first last job node is (are.each lane within) place near (slice_index node.work place)
             (slice_index node.back place) (omega (arith, below, few)) refl refl refl)
             (c.at_least-bounds.ensures lane (greatest (map (front_child_at shop first last job) (numbers 1 place)))
@@ -63,10 +63,10 @@ loop-place-preserved g c = record {
       let start = c.at_least-start.ensures lane free near so_far.free
       (c.from_pair.ensures near lane (paired.near place below).1 (paired.near place below).0 within) in
       spread-more
-      (λ p v. c.args.from ≤ p → HasLane g.V.Lanes.CAP g.V.Lanes.WIDTH (g.V.Lanes.list v) lane
+      (λ p v. c.args.from ≤ p → HasLane g.V.Vector.CAP g.V.Vector.WIDTH (g.V.Vector.list v) lane
       (start_at shop Front first last job (p + 1))) c.loop-place.starts place c.at_least-start.result
       (omega (arith, below, c.requires.starts, c.loop-place.auto.starts))
-      (λ behind. subst (λ n. HasLane g.V.Lanes.CAP g.V.Lanes.WIDTH (g.V.Lanes.list c.at_least-start.result) lane n)
+      (λ behind. subst (λ n. HasLane g.V.Vector.CAP g.V.Vector.WIDTH (g.V.Vector.list c.at_least-start.result) lane n)
       (front-start shop first last job node is place near (omega (arith, below, few)) refl) start)
       (c.loop-place.invariant.starts shop first last jobs node lane is paired are within before);
   others = λ place none apart.
@@ -86,7 +86,7 @@ loop-place-preserved g c = record {
 pub returns-clause-passed : goal.returns-clause-passed
 returns-clause-passed g c shop first last jobs node lane is paired are within before =
     let all : c.loop-place.place ≡ c.args.to = omega (arith, c.loop-place-test.false, c.requires.order) in
-    subst (λ m. HasPassed g.V.Lanes.list g.V.Lanes.CAP g.V.Lanes.WIDTH shop Front first last (slice_index jobs lane) lane
+    subst (λ m. HasPassed g.V.Vector.list g.V.Vector.CAP g.V.Vector.WIDTH shop Front first last (slice_index jobs lane) lane
     m (record { free = c.loop-place.free; bounds = c.loop-place.bounds })) all
     (c.loop-place.invariant.passed shop first last jobs node lane is paired are within before)
 

@@ -7,14 +7,14 @@ use Rattle.flow_workers.proofs.PieceSteps.{all-more}
 use Rattle.flow_workers.proofs.deal.deal.Goals as goal
 
 pub taken-preserved : goal.taken-preserved
-taken-preserved c shop number =
+taken-preserved c shop threshold =
     let dealt = c.taken.dealt.items in
     let piece = c.in-Some.piece in
     let rest = c.take_first.new.pieces.items in
-    ap (λ xs. behind (all_met shop number xs) (pieces_met shop number rest)) c.in_ok-push.ensures.items
-    ∙ ap (λ m. behind m (pieces_met shop number rest)) (all-more shop number dealt (Open piece))
-    ∙ behind-assoc (all_met shop number dealt) (piece_met shop number piece) (pieces_met shop number rest)
-    ∙ ap (behind (all_met shop number dealt))
-    (ap (λ p. behind (taken_met shop number p) (pieces_met shop number rest)) (sym c.in-Some.is)
-    ∙ c.in_ok-piece.ensures shop number)
-    ∙ c.taken.invariant shop number
+    ap (λ xs. behind (all_met shop threshold xs) (pieces_met shop threshold rest)) c.in_ok-push.ensures.items
+    ∙ ap (λ m. behind m (pieces_met shop threshold rest)) (all-more shop threshold dealt (Open piece))
+    ∙ behind-assoc (all_met shop threshold dealt) (piece_met shop threshold piece) (pieces_met shop threshold rest)
+    ∙ ap (behind (all_met shop threshold dealt))
+    (ap (λ p. behind (taken_met shop threshold p) (pieces_met shop threshold rest)) (sym c.in-Some.is)
+    ∙ c.in_ok-piece.ensures shop threshold)
+    ∙ c.taken.invariant shop threshold

@@ -5,6 +5,6 @@ use Rattle.flow_workers.proofs.deal.deal.Given as goal
 
 -- what was dealt so far, and the pieces that are left
 abbrev pub invariant-taken : goal.invariant-taken
-invariant-taken l = (shop : Shop) (number : ℕ) →
-    behind (all_met shop number l.dealt.items) (pieces_met shop number l.pieces.items)
-    ≡ pieces_met shop number l.fn.pieces.items
+invariant-taken l = (shop : Shop) (threshold : ℕ) →
+    behind (all_met shop threshold l.dealt.items) (pieces_met shop threshold l.pieces.items)
+    ≡ pieces_met shop threshold l.fn.pieces.items

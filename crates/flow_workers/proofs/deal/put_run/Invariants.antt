@@ -5,9 +5,9 @@ use Rattle.flow_workers.proofs.deal.put_run.Given as goal
 
 -- the pieces that are still to be put, and those before which they are put
 abbrev pub invariant-pieces : goal.invariant-pieces
-invariant-pieces l = (shop : Shop) (number : ℕ) →
-    behind (pieces_met shop number l.run.items) (pieces_met shop number l.pieces.items)
-    ≡ behind (pieces_met shop number l.fn.run.items) (pieces_met shop number l.fn.pieces.items)
+invariant-pieces l = (shop : Shop) (threshold : ℕ) →
+    behind (pieces_met shop threshold l.run.items) (pieces_met shop threshold l.pieces.items)
+    ≡ behind (pieces_met shop threshold l.fn.run.items) (pieces_met shop threshold l.fn.pieces.items)
 
 abbrev pub decreases-pieces : goal.decreases-pieces
 decreases-pieces l = length l.run.items

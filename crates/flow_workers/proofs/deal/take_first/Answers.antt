@@ -8,7 +8,7 @@ use Rattle.flow_workers.proofs.PieceSteps.{children-met, first-and-others}
 use Rattle.flow_workers.proofs.deal.take_first.Goals as goal
 
 pub returns : goal.returns
-returns c shop number =
+returns c shop threshold =
     let rest = c.pop_front.new.self.items in
     let end = c.in-Left-Children.end in
     let first = c.in-Left-Children.first in
@@ -21,10 +21,10 @@ returns c shop number =
     c.as_slice.ensures.value
     (subst (λ xs. IsNodeOf (first_with end c.as_slice.result.now job) (last_with end xs job) node)
     c.as_slice-2.ensures.value c.in_ok-node.ensures) in
-    ap (λ xs. behind (met (part_visits shop number node)) (pieces_met shop number xs))
+    ap (λ xs. behind (met (part_visits shop threshold node)) (pieces_met shop threshold xs))
     c.in_ok-push_front.ensures.items
-    ∙ children-met shop number end first last jobs others job node rest is
+    ∙ children-met shop threshold end first last jobs others job node rest is
     (first-and-others jobs.items others.items job (omega (arith, c.remove-job.ensures.len)) c.remove-job.ensures.value
     c.remove-job.ensures.items)
-    ∙ sym (ap (pieces_met shop number) c.in-Some.ensures.items
-    ∙ ap (λ p. pieces_met shop number (p ∷ rest)) (c.in-Left-Children.is ∙ ap Left c.in-Left-Children.field-0-is))
+    ∙ sym (ap (pieces_met shop threshold) c.in-Some.ensures.items
+    ∙ ap (λ p. pieces_met shop threshold (p ∷ rest)) (c.in-Left-Children.is ∙ ap Left c.in-Left-Children.field-0-is))

@@ -12,10 +12,10 @@ use Rattle.flow_workers.proofs.node.search_node.Goals as goal
 use Rattle.flow_workers.proofs.node.search_node.Goals.{In-Ok-Rest, After-with_left-in-Ok-Rest}
 
 -- what the search came to, where it is over its budget
-rest : (c : In-Ok-Rest) → IsAdvanced c.args.sought.now.instance.now c.args.sought.now.number c.args.budget
+rest : (c : In-Ok-Rest) → IsAdvanced c.args.sought.now.instance.now c.args.sought.now.threshold c.args.budget
     c.args.first.now c.args.last.now (Rest c.in-Ok-Rest.directions c.in-Ok-Rest.parts)
 rest c =
-    subst (IsAdvanced c.args.sought.now.instance.now c.args.sought.now.number c.args.budget c.args.first.now
+    subst (IsAdvanced c.args.sought.now.instance.now c.args.sought.now.threshold c.args.budget c.args.first.now
     c.args.last.now) c.in-Ok-Rest.field-0-is c.in-Ok-Rest.ensures.advanced
 
 -- as many directions are written as the budget
@@ -30,10 +30,10 @@ all-written c =
 pub returns-in-Ok-Rest-clause-met : goal.returns-in-Ok-Rest-clause-met
 returns-in-Ok-Rest-clause-met c =
     let shop = c.args.sought.now.instance.now in
-    let number = c.args.sought.now.number in
+    let threshold = c.args.sought.now.threshold in
     IfOk-weaker c.with_left-in-Ok-Rest.result _ _ (λ found are.
-    ap (pieces_met shop number) are
-    ∙ sym (rest-met shop number c.args.first.now c.args.last.now c.in-Ok-Rest.directions.items
+    ap (pieces_met shop threshold) are
+    ∙ sym (rest-met shop threshold c.args.first.now c.args.last.now c.in-Ok-Rest.directions.items
     c.in-Ok-Rest.parts.items (rest (goal.at.returns-in-Ok-Rest-clause-met c).In-Ok-Rest).2))
     c.with_left-in-Ok-Rest.ensures.pieces
 

@@ -9,10 +9,10 @@ use Rattle.flow_workers.proofs.round.put_replies.Given as goal
 abbrev pub invariant-replies : goal.invariant-replies
 invariant-replies l =
     (length l.dealt ≡ length l.fn.dealt) × All (HasPlace l.fn.dealt) l.replies.items
-    × ((shop : Shop) (number : ℕ) → All (StandsFor shop number l.fn.dealt) l.fn.replies.items →
-    All (StandsFor shop number l.fn.dealt) l.replies.items
+    × ((shop : Shop) (threshold : ℕ) → All (StandsFor shop threshold l.fn.dealt) l.fn.replies.items →
+    All (StandsFor shop threshold l.fn.dealt) l.replies.items
     × ((k : ℕ) (d : Dealt) → k < length l.fn.dealt →
-    dealt_met shop number (slice_index_or l.dealt k d) ≡ dealt_met shop number (slice_index_or l.fn.dealt k d)))
+    dealt_met shop threshold (slice_index_or l.dealt k d) ≡ dealt_met shop threshold (slice_index_or l.fn.dealt k d)))
 
 abbrev pub decreases-replies : goal.decreases-replies
 decreases-replies l = length l.replies.items

@@ -7,9 +7,9 @@ abbrev pub invariant-lists : goal.invariant-lists
 invariant-lists g l =
     All (λ list. IfOk list (λ replies. All (HasPlace l.fn.dealt) replies.items)) l.lists.items
     × All (λ list. IfOk list (λ replies.
-    All (StandsFor l.fn.sought.instance.now l.fn.sought.number l.fn.dealt) replies.items)) l.lists.items
+    All (StandsFor l.fn.sought.instance.now l.fn.sought.threshold l.fn.dealt) replies.items)) l.lists.items
     × All (HasPlace l.fn.dealt) l.replies.items
-    × All (StandsFor l.fn.sought.instance.now l.fn.sought.number l.fn.dealt) l.replies.items
+    × All (StandsFor l.fn.sought.instance.now l.fn.sought.threshold l.fn.dealt) l.replies.items
 
 abbrev pub decreases-lists : goal.decreases-lists
 decreases-lists g l = length l.lists.items

@@ -5,7 +5,7 @@ use Rattle.test_libraries.proofs.nodes.child_bound.Goals as goal
 
 pub write_group-requires-clause-each : goal.write_group-requires-clause-each
 write_group-requires-clause-each g c lane within =
-    let few : g.V.Lanes.WIDTH ≤ 64 = g.met.V.Lanes.narrow in
+    let few : g.V.Vector.WIDTH ≤ 64 = g.met.V.Vector.narrow in
     let there : lane < c.WIDTH.result = omega (arith, within, c.WIDTH.ensures) in
     let is : slice_index (take c.WIDTH.result (replicate 64 c.args.job)) lane ≡ c.args.job =
     get_or-take c.WIDTH.result (replicate 64 c.args.job) lane 0 there

@@ -32,7 +32,7 @@ returns-clause-pack g c none =
     let there : slice_index_or (set fewer at new ++ more) at none ≡ new =
     get_or_append_left (set fewer at new) more none at (omega (arith, low, length-set fewer at new))
     ∙ get_or-set_same fewer at new none low in
-    subst (IsPack g.V.Lanes.list g.V.Lanes.CAP g.V.Lanes.WIDTH c.args.instance.now) (sym there) c.fill.ensures.pack
+    subst (IsPack g.V.Vector.list g.V.Vector.CAP g.V.Vector.WIDTH c.args.instance.now) (sym there) c.fill.ensures.pack
 
 pub returns-clause-jobs : goal.returns-clause-jobs
 returns-clause-jobs g c =

@@ -1,5 +1,5 @@
 use Rattle.std.proofs.Common.{◌≡◌, ◌+◌, ◌-◌, ◌*◌, ◌≤◌, [], length}
-use Rattle.flow_nodes.specs.Lanes.{limit_of}
+use Rattle.flow_nodes.specs.Vectors.{limit_of}
 use Rattle.flow_check.specs.internal.Frames.{pack_groups}
 use Rattle.flow_nodes.specs.Packs.{HasRoomFor}
 use Rattle.flow_check.specs.internal.Frames.{ArePacks, here, above, names_at}
@@ -14,10 +14,10 @@ invariant-walk g l = record {
   left : l.left + l.path.depth ≡ l.instance.jobs;
   some : 1 ≤ l.left;
   size : length l.path.frames.items ≡ l.instance.jobs;
-  limit : l.path.opener.limit ≡ limit_of l.number;
+  limit : l.path.opener.limit ≡ limit_of l.threshold;
   room : HasRoomFor l.instance l.path.opener;
-  packs : ArePacks g.V.Lanes.list g.V.Lanes.CAP g.V.Lanes.WIDTH l.instance l.left l.path.packs.items;
-  stands : Stands l.instance l.number (read_node l.instance l.number l.instance.jobs [] [] l.text) l.text l.place
+  packs : ArePacks g.V.Vector.list g.V.Vector.CAP g.V.Vector.WIDTH l.instance l.left l.path.packs.items;
+  stands : Stands l.instance l.threshold (read_node l.instance l.threshold l.instance.jobs [] [] l.text) l.text l.place
       (λ left. names_at l.path.packs.items (pack_groups left - 1)) (above l.path) (here l.path);
 }
 

@@ -18,9 +18,9 @@ inside : (g : Over) (c : After-pack g) → c.group_count-groups.result - 1 < len
 inside g c = omega (arith, c.group_count-groups.ensures, c.requires.packs, c.requires.some)
 
 -- how many groups it has
-groups : (g : Over) (c : After-pack g) (number : ℕ) → IsTree g.V.Lanes.CAP c.args.instance.now number c.args.tree.now →
+groups : (g : Over) (c : After-pack g) (threshold : ℕ) → IsTree g.V.Vector.CAP c.args.instance.now threshold c.args.tree.now →
     length c.pack.new.pack.groups.items ≡ c.group_count-groups.result - 1 + 1
-groups g c number tree =
+groups g c threshold tree =
     let old = c.index_mut.result.now in
     c.pack.ensures.count
     ∙ ap (λ p. length p.groups.items) c.index_mut.ensures.value
@@ -34,27 +34,27 @@ pack-is g c =
     (inside g (goal.at.After-index g c).After-pack)
 
 -- the marks of the jobs left
-marks : (g : Over) (c : After-index g) (number : ℕ) (first last : List ℕ) →
+marks : (g : Over) (c : After-index g) (threshold : ℕ) (first last : List ℕ) →
     IsStart c.args.instance.now first last c.args.self.now →
-    IsTree g.V.Lanes.CAP c.args.instance.now number c.args.tree.now →
+    IsTree g.V.Vector.CAP c.args.instance.now threshold c.args.tree.now →
     chosen c.first-root.result.words c.index.result.now.names.items ≡ jobs_left c.args.instance.now.jobs (first ++ last)
-marks g c number first last is tree =
+marks g c threshold first last is tree =
     let pack = c.pack.new.pack in
     ap (λ p. chosen c.first-root.result.words p.names.items) (pack-is g c)
     ∙ c.first-root.ensures.begin pack.names.items
     (omega (
       arith,
       c.pack.ensures.pack.room.names,
-      groups g (goal.at.After-index g c).After-pack number tree,
+      groups g (goal.at.After-index g c).After-pack threshold tree,
       c.group_count-groups.ensures,
       c.requires.some,
     ))
     ∙ c.pack.ensures.jobs first last is
 
 packed : (g : Over) (c : After-index g) →
-    IsPack g.V.Lanes.list g.V.Lanes.CAP g.V.Lanes.WIDTH c.args.instance.now c.index.result.now
+    IsPack g.V.Vector.list g.V.Vector.CAP g.V.Vector.WIDTH c.args.instance.now c.index.result.now
 packed g c =
-    subst (IsPack g.V.Lanes.list g.V.Lanes.CAP g.V.Lanes.WIDTH c.args.instance.now) (sym (pack-is g c))
+    subst (IsPack g.V.Vector.list g.V.Vector.CAP g.V.Vector.WIDTH c.args.instance.now) (sym (pack-is g c))
     c.pack.ensures.pack
 
 -- memory for the node
@@ -67,7 +67,12 @@ room : (g : Over) (c : After-index g) (count : ℕ) → count ≡ c.group_count-
     })
 room g c count same =
     let made = subst (λ n. HasRoomToOpen c.args.instance.now n c.in_ok-root.root) (sym same) c.in_ok-root.ensures in
-    record { at_front = made.at_front; at_back = made.at_back }
+    record {
+      at_front = made.at_front;
+      at_back = made.at_back;
+      front_bounds = made.front_bounds;
+      back_bounds = made.back_bounds;
+    }
 
 pub open-requires-clause-at : goal.open-requires-clause-at
 open-requires-clause-at g c =
@@ -94,7 +99,7 @@ open-requires-clause-at g c =
     )
 
 pub returns-clause-tree : goal.returns-clause-tree
-returns-clause-tree g c number first last is low tree =
+returns-clause-tree g c threshold first last is low tree =
     let shop = c.args.instance.now in
     let index = (goal.at.returns-clause-tree g c).After-index in
     let after = (goal.at.After-index g index).After-pack in
@@ -107,11 +112,11 @@ returns-clause-tree g c number first last is low tree =
     let count : length packs ≡ c.group_count-groups.result =
     omega (arith, c.requires.packs, c.group_count-groups.ensures) in
     record {
-      limit = c.open.ensures.limit ∙ tree.limit;
+      limit = tree.limit;
       capped = tree.capped;
-      opener = c.open.ensures.opener shop tree.opener;
+      opener = tree.opener;
       packs = packs-set shop packs at c.pack.new.pack (inside g after) c.pack.ensures.pack.room
-          (groups g after number tree) tree.packs;
+          (groups g after threshold tree) tree.packs;
       nodes = λ place none within.
           subst (λ n. HasRoomToOpen shop n (slice_index_or c.push.new.self.items place none)) (sym size)
           (subst (λ ns. HasRoomToOpen shop (length packs) (slice_index_or ns place none)) (sym items)
@@ -121,10 +126,10 @@ returns-clause-tree g c number first last is low tree =
     }
 
 pub returns-clause-at : goal.returns-clause-at
-returns-clause-at g c number first last is low tree =
-    let list = g.V.Lanes.list in
-    let cap = g.V.Lanes.CAP in
-    let width = g.V.Lanes.WIDTH in
+returns-clause-at g c threshold first last is low tree =
+    let list = g.V.Vector.list in
+    let cap = g.V.Vector.CAP in
+    let width = g.V.Vector.WIDTH in
     let shop = c.args.instance.now in
     let index = (goal.at.returns-clause-at g c).After-index in
     let after = (goal.at.After-index g index).After-pack in
@@ -137,19 +142,19 @@ returns-clause-at g c number first last is low tree =
     let stood : (none : _) → slice_index_or (set packs at pack) (group_count c.args.self.now.left - 1) none ≡ pack =
     λ none. ap (λ p. slice_index_or (set packs at pack) p none) place
     ∙ get_or-set_same packs at pack none (inside g after) in
-    let opened : IsOpenNode list cap width shop number first last pack c.open.new.node =
-    subst (λ p. IsOpenNode list cap width shop number first last p c.open.new.node) (pack-is g index)
-    (c.open.ensures.node shop number first last tree.limit is.is_node (packed g index)
-    (marks g index number first last is tree)) in
+    let opened : IsOpenNode list cap width shop threshold first last pack c.open.new.node =
+    subst (λ p. IsOpenNode list cap width shop threshold first last p c.open.new.node) (pack-is g index)
+    (c.open.ensures.node shop threshold first last tree.limit is.is_node (packed g index)
+    (marks g index threshold first last is tree)) in
     record {
       is_open = record {
         below = low;
         is_pack = λ none. subst (IsPack list cap width shop) (sym (stood none)) c.pack.ensures.pack;
         is_open = λ none empty.
-            subst (λ p. IsOpenNode list cap width shop number first last p (slice_index_or c.push.new.self.items 0
+            subst (λ p. IsOpenNode list cap width shop threshold first last p (slice_index_or c.push.new.self.items 0
             empty))
             (sym (stood none))
-            (subst (λ ns. IsOpenNode list cap width shop number first last pack (slice_index_or ns 0 empty)) (sym items)
+            (subst (λ ns. IsOpenNode list cap width shop threshold first last pack (slice_index_or ns 0 empty)) (sym items)
             opened);
       };
       has_lists = is.has_lists;

@@ -17,8 +17,8 @@ nodes-preserved g c =
     let room = subst (λ n. HasRoomToOpen shop n node) count c.in_ok-node.ensures in
     record {
       packs = c.nodes.invariant.packs;
-      tree = λ number tree.
-          let before = c.nodes.invariant.tree number tree in
+      tree = λ threshold tree.
+          let before = c.nodes.invariant.tree threshold tree in
           record {
             limit = before.limit;
             capped = before.capped;
@@ -34,4 +34,18 @@ nodes-preserved g c =
           ap (take (length c.args.self.now.nodes.items)) items
           ∙ take-append-le (length c.args.self.now.nodes.items) old (node ∷ []) c.nodes.invariant.more
           ∙ c.nodes.invariant.begin;
+    }
+
+pub returns-in_err-push-clause-tree : goal.returns-in_err-push-clause-tree
+returns-in_err-push-clause-tree g c threshold tree =
+    let before = c.nodes.invariant.tree threshold tree in
+    let items = c.in_err-push.ensures.items in
+    record {
+      limit = before.limit;
+      capped = before.capped;
+      opener = before.opener;
+      packs = before.packs;
+      nodes = λ place none low.
+          subst (λ ns. HasRoomToOpen c.args.instance.now (length c.nodes.self.packs.items)
+          (slice_index_or ns place none)) (sym items) (before.nodes place none (omega (arith, low, ap length items)));
     }

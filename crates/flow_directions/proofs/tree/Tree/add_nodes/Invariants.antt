@@ -6,8 +6,8 @@ use Rattle.flow_directions.proofs.tree.Tree.add_nodes.Given as goal
 abbrev pub invariant-nodes : goal.invariant-nodes
 invariant-nodes g l = record {
   packs : l.self.packs ≡ l.fn.self.packs;
-  tree : (number : ℕ) → IsTree g.V.Lanes.CAP l.instance number l.fn.self →
-      IsTree g.V.Lanes.CAP l.instance number l.self;
+  tree : (threshold : ℕ) → IsTree g.V.Vector.CAP l.instance threshold l.fn.self →
+      IsTree g.V.Vector.CAP l.instance threshold l.self;
   more : length l.fn.self.nodes.items ≤ length l.self.nodes.items;
   begin : take (length l.fn.self.nodes.items) l.self.nodes.items ≡ l.fn.self.nodes.items;
 }

@@ -12,13 +12,13 @@ use Rattle.flow_directions.proofs.tree.Tree.go.Goals as goal
 use Rattle.flow_directions.proofs.tree.Tree.go.Goals.{After-child-child, After-enter}
 
 -- how many jobs are left at the child
-count : (g : Over) (c : After-child-child g) (number : ℕ) (first last : List ℕ) →
-    IsNext g.V.Lanes.list g.V.Lanes.CAP g.V.Lanes.WIDTH c.args.instance.now number c.args.self.now.packs.items
+count : (g : Over) (c : After-child-child g) (threshold : ℕ) (first last : List ℕ) →
+    IsNext g.V.Vector.list g.V.Vector.CAP g.V.Vector.WIDTH c.args.instance.now threshold c.args.self.now.packs.items
     c.args.self.now.nodes.items (c.args.left + 1) first last c.args.place c.args.here.now →
     length (jobs_left c.args.instance.now.jobs (first_with c.args.here.now.end first c.args.here.now.job
     ++ last_with c.args.here.now.end last c.args.here.now.job)) ≡ c.args.left
-count g c number first last next =
-    next-count g.V.Lanes.list g.V.Lanes.CAP g.V.Lanes.WIDTH c.args.instance.now number c.args.self.now.packs.items
+count g c threshold first last next =
+    next-count g.V.Vector.list g.V.Vector.CAP g.V.Vector.WIDTH c.args.instance.now threshold c.args.self.now.packs.items
     c.args.self.now.nodes.items c.args.left first last c.args.place c.args.here.now next
 
 -- the nodes before the first free place stay
@@ -70,13 +70,13 @@ pub returns-clause-above : goal.returns-clause-above
 returns-clause-above g c = above g (goal.at.returns-clause-above g c).After-enter
 
 -- the level that is put behind those above it
-stays : (g : Over) (c : After-enter g) (number : ℕ) (first last : List ℕ) →
-    IsTree g.V.Lanes.CAP c.args.instance.now number c.args.self.now →
-    IsNext g.V.Lanes.list g.V.Lanes.CAP g.V.Lanes.WIDTH c.args.instance.now number c.args.self.now.packs.items
+stays : (g : Over) (c : After-enter g) (threshold : ℕ) (first last : List ℕ) →
+    IsTree g.V.Vector.CAP c.args.instance.now threshold c.args.self.now →
+    IsNext g.V.Vector.list g.V.Vector.CAP g.V.Vector.WIDTH c.args.instance.now threshold c.args.self.now.packs.items
     c.args.self.now.nodes.items (c.args.left + 1) first last c.args.place c.args.here.now →
-    IsLevel g.V.Lanes.list g.V.Lanes.CAP g.V.Lanes.WIDTH c.args.instance.now number c.enter.new.self.packs.items
+    IsLevel g.V.Vector.list g.V.Vector.CAP g.V.Vector.WIDTH c.args.instance.now threshold c.enter.new.self.packs.items
     c.enter.new.self.nodes.items (c.args.left + 1) first last c.child-child.new.here
-stays g c number first last tree next =
+stays g c threshold first last tree next =
     let packs2 = c.child-child.new.self.packs.items in
     let packs4 = c.enter.new.self.packs.items in
     let nodes2 = c.child-child.new.self.nodes.items in
@@ -90,14 +90,14 @@ stays g c number first last tree next =
     fewer-kept nodes3 nodes4 top c.in_ok-spot.spot.top (omega (arith, low, c.in_ok-spot.ensures.behind))
     c.enter.ensures.above
     ∙ fewer-kept nodes2 nodes3 top c.child-child.result.top low c.settle.ensures.above in
-    level-moved g.V.Lanes.list g.V.Lanes.CAP g.V.Lanes.WIDTH c.args.instance.now number packs2 packs4 nodes2 nodes4
+    level-moved g.V.Vector.list g.V.Vector.CAP g.V.Vector.WIDTH c.args.instance.now threshold packs2 packs4 nodes2 nodes4
     left
     first last here
     (omega (arith, c.requires.few, ap (λ ps. length ps.items) c.child-child.ensures.packs))
     (ap (λ ps. length ps.items) c.enter.ensures.packs ∙ c.settle.ensures.count)
     (λ none. ap (λ ps. slice_index_or ps.items (group_count left - 1) none) c.enter.ensures.packs
     ∙ c.settle.ensures.others left none (omega arith))
-    same (c.child-child.ensures.level number first last tree next)
+    same (c.child-child.ensures.level threshold first last tree next)
 
 pub returns-clause-above_it : goal.returns-clause-above_it
 returns-clause-above_it g c =
@@ -113,14 +113,14 @@ returns-clause-above_it g c =
     )
 
 pub returns-clause-level : goal.returns-clause-level
-returns-clause-level g c number first last tree next =
+returns-clause-level g c threshold first last tree next =
     let first2 : List ℕ = first_with c.args.here.now.end first c.args.here.now.job in
     let last2 : List ℕ = last_with c.args.here.now.end last c.args.here.now.job in
-    let tree2 = c.child-child.ensures.tree number tree in
-    let counted = count g (goal.at.returns-clause-level g c).After-child-child number first last next in
-    c.enter.ensures.level number first2 last2 (c.in_ok-spot.ensures.tree number tree2)
-    (c.in_ok-spot.ensures.node number first2 last2 tree2
-    (c.child-child.ensures.child number first last tree next) counted) counted
+    let tree2 = c.child-child.ensures.tree threshold tree in
+    let counted = count g (goal.at.returns-clause-level g c).After-child-child threshold first last next in
+    c.enter.ensures.level threshold first2 last2 (c.in_ok-spot.ensures.tree threshold tree2)
+    (c.in_ok-spot.ensures.node threshold first2 last2 tree2
+    (c.child-child.ensures.child threshold first last tree next) counted) counted
 
 pub returns-in_err-push-clause-above : goal.returns-in_err-push-clause-above
 returns-in_err-push-clause-above g c =

@@ -2,7 +2,7 @@ use Rattle.std.proofs.Common.{length, ap, ◌∙◌, arith}
 use Rattle.flow_directions.proofs.tree.Tree.new.Goals as goal
 
 pub returns-clause-tree : goal.returns-clause-tree
-returns-clause-tree g c number is cap = record {
+returns-clause-tree g c threshold is cap = record {
   limit = c.in_ok-new.ensures.limit ∙ is;
   capped = omega (arith, is, cap);
   opener = c.in_ok-new.ensures.room;

@@ -24,12 +24,12 @@ refill-requires-clause-from g c none =
     (sym c.as_mut_slice.ensures.value) (c.requires.at.3.packs.rooms c.args.groups none c.requires.more)
 
 -- the jobs that are packed anew are those left
-left-is : (g : Over) (c : After-index g) (number : ℕ) {first last : _} (none : _) →
-    IsOpenAt g.V.Lanes.list g.V.Lanes.CAP g.V.Lanes.WIDTH c.args.instance.now number first last (c.args.groups + 1)
+left-is : (g : Over) (c : After-index g) (threshold : ℕ) {first last : _} (none : _) →
+    IsOpenAt g.V.Vector.list g.V.Vector.CAP g.V.Vector.WIDTH c.args.instance.now threshold first last (c.args.groups + 1)
     c.args.at c.args.self.now.packs.items c.args.self.now.nodes.items →
     jobs_at (slice_index_or c.as_mut_slice.result.now c.args.groups none) c.index.result.now.left
     ≡ jobs_left c.args.instance.now.jobs (first ++ last)
-left-is g c number none is =
+left-is g c threshold none is =
     let node = c.index.result.now in
     let e : c.args.groups + 1 - 1 ≡ c.args.groups = omega arith in
     ap (λ ps. jobs_at (slice_index_or ps c.args.groups none) node.left) c.as_mut_slice.ensures.value
@@ -94,24 +94,24 @@ read-is : (g : Over) (c : After-index-3 g) → c.index-3.result.now ≡ c.refill
 read-is g c = c.index-3.ensures ∙ pack-is g (goal.at.After-index-3 g c).After-refill c.index-3.result.now
 
 -- the node that is packed
-node-is : (g : Over) (c : After-index-3 g) (number : ℕ) {first last : _} →
-    IsOpenAt g.V.Lanes.list g.V.Lanes.CAP g.V.Lanes.WIDTH c.args.instance.now number first last (c.args.groups + 1)
+node-is : (g : Over) (c : After-index-3 g) (threshold : ℕ) {first last : _} →
+    IsOpenAt g.V.Vector.list g.V.Vector.CAP g.V.Vector.WIDTH c.args.instance.now threshold first last (c.args.groups + 1)
     c.args.at c.args.self.now.packs.items c.args.self.now.nodes.items →
     IsNode c.args.instance.now first last c.index-2.result.now.node
-node-is g c number {first} {last} is =
+node-is g c threshold {first} {last} is =
     subst (λ n. IsNode c.args.instance.now first last n.node) (sym c.index-2.ensures)
     (is.is_open c.refill.ensures.pack.0 c.index-2.result.now).is_node
 
 -- and its jobs left
-has-left : (g : Over) (c : After-index-3 g) (number : ℕ) {first last : _} →
-    IsOpenAt g.V.Lanes.list g.V.Lanes.CAP g.V.Lanes.WIDTH c.args.instance.now number first last (c.args.groups + 1)
+has-left : (g : Over) (c : After-index-3 g) (threshold : ℕ) {first last : _} →
+    IsOpenAt g.V.Vector.list g.V.Vector.CAP g.V.Vector.WIDTH c.args.instance.now threshold first last (c.args.groups + 1)
     c.args.at c.args.self.now.packs.items c.args.self.now.nodes.items →
     length (jobs_left c.args.instance.now.jobs (first ++ last)) ≡ c.args.groups * 16 →
     HasLeft c.args.instance.now first last c.index-3.result.now.names.items c.first-packed.result
-has-left g c number is count =
+has-left g c threshold is count =
     let pack = c.refill.ensures.pack.0 in
     let read = read-is g c in
-    let left = left-is g (goal.at.After-index-3 g c).After-index number pack is in
+    let left = left-is g (goal.at.After-index-3 g c).After-index threshold pack is in
     let names : length pack.names.items ≡ c.args.groups * 16 =
     omega (arith, groups-are g (goal.at.After-index-3 g c).After-refill, c.refill.ensures.pack.2.room.names) in
     ap (λ p. chosen c.first-packed.result.words p.names.items) read
@@ -142,16 +142,21 @@ open-requires-clause-at g c =
       at.1,
       at.2,
       node-is g here at.0 at.4,
-      subst (IsPack g.V.Lanes.list g.V.Lanes.CAP g.V.Lanes.WIDTH shop) (sym (read-is g here)) c.refill.ensures.pack.2,
+      subst (IsPack g.V.Vector.list g.V.Vector.CAP g.V.Vector.WIDTH shop) (sym (read-is g here)) c.refill.ensures.pack.2,
       at.3.opener,
       at.3.limit,
       at.4.below,
       has-left g here at.0 at.4 at.5,
-      record { at_front = room.at_front; at_back = room.at_back },
+      record {
+        at_front = room.at_front;
+        at_back = room.at_back;
+        front_bounds = room.front_bounds;
+        back_bounds = room.back_bounds;
+      },
     )
 
 pub returns-clause-tree : goal.returns-clause-tree
-returns-clause-tree g c number tree =
+returns-clause-tree g c threshold tree =
     let shop = c.args.instance.now in
     let nodes = c.args.self.now.nodes.items in
     let packs = c.args.self.now.packs.items in
@@ -164,9 +169,9 @@ returns-clause-tree g c number tree =
     let room = subst (HasRoomToOpen shop (length packs)) (sym c.index_mut-packed.ensures.value)
     (tree.nodes c.args.to old c.requires.room) in
     record {
-      limit = c.open.ensures.limit ∙ tree.limit;
+      limit = tree.limit;
       capped = tree.capped;
-      opener = c.open.ensures.opener shop tree.opener;
+      opener = tree.opener;
       packs = subst (HavePacks shop) (sym are)
           (packs-set shop packs (c.args.groups - 1) pack low c.refill.ensures.pack.2.room
           (omega (arith, c.requires.some, groups-are g (goal.at.returns-clause-tree g c).After-refill)) tree.packs);
@@ -176,7 +181,12 @@ returns-clause-tree g c number tree =
           (subst (λ n. HasRoomToOpen shop n (slice_index_or (set nodes c.args.to c.open.new.node) place none))
           (sym count)
           (each-set (λ _ node. HasRoomToOpen shop (length packs) node) nodes c.args.to c.open.new.node c.requires.room
-          (c.open.ensures.room shop (length packs) (record { at_front = room.at_front; at_back = room.at_back }))
+          (c.open.ensures.room shop (length packs) (record {
+            at_front = room.at_front;
+            at_back = room.at_back;
+            front_bounds = room.front_bounds;
+            back_bounds = room.back_bounds;
+          }))
           tree.nodes place none within));
     }
 
@@ -197,26 +207,26 @@ pub returns-clause-above : goal.returns-clause-above
 returns-clause-above g c = take-set c.args.self.now.nodes.items c.args.to c.open.new.node
 
 pub returns-clause-node : goal.returns-clause-node
-returns-clause-node g c number first last tree is count =
+returns-clause-node g c threshold first last tree is count =
     let here = (goal.at.returns-clause-node g c).After-index-3 in
     let shop = c.args.instance.now in
     let nodes = c.args.self.now.nodes.items in
     let packs = c.args.self.now.packs.items in
     let pack = c.refill.ensures.pack.0 in
     let low : c.args.groups - 1 < length packs = omega (arith, c.requires.more, c.requires.some) in
-    let opened = c.open.ensures.node shop number first last tree.limit (node-is g here number is)
-    (subst (IsPack g.V.Lanes.list g.V.Lanes.CAP g.V.Lanes.WIDTH shop) (sym (read-is g here)) c.refill.ensures.pack.2)
-    (has-left g here number is count) in
-    subst (λ ps. IsOpenAt g.V.Lanes.list g.V.Lanes.CAP g.V.Lanes.WIDTH shop number first last c.args.groups c.args.to ps
+    let opened = c.open.ensures.node shop threshold first last tree.limit (node-is g here threshold is)
+    (subst (IsPack g.V.Vector.list g.V.Vector.CAP g.V.Vector.WIDTH shop) (sym (read-is g here)) c.refill.ensures.pack.2)
+    (has-left g here threshold is count) in
+    subst (λ ps. IsOpenAt g.V.Vector.list g.V.Vector.CAP g.V.Vector.WIDTH shop threshold first last c.args.groups c.args.to ps
     (set nodes c.args.to c.open.new.node)) (sym (packs-are g (goal.at.returns-clause-node g c).After-refill)) (record {
       below = is.below;
       is_pack = λ none.
-          subst (IsPack g.V.Lanes.list g.V.Lanes.CAP g.V.Lanes.WIDTH shop)
+          subst (IsPack g.V.Vector.list g.V.Vector.CAP g.V.Vector.WIDTH shop)
           (sym (get_or-set_same packs (c.args.groups - 1) pack none low)) c.refill.ensures.pack.2;
       is_open = λ none empty.
-          subst (λ n. IsOpenNode g.V.Lanes.list g.V.Lanes.CAP g.V.Lanes.WIDTH shop number first last
+          subst (λ n. IsOpenNode g.V.Vector.list g.V.Vector.CAP g.V.Vector.WIDTH shop threshold first last
           (slice_index_or (set packs (c.args.groups - 1) pack) (c.args.groups - 1) none) n)
           (sym (get_or-set_same nodes c.args.to c.open.new.node empty c.requires.room))
-          (subst (λ p. IsOpenNode g.V.Lanes.list g.V.Lanes.CAP g.V.Lanes.WIDTH shop number first last p c.open.new.node)
+          (subst (λ p. IsOpenNode g.V.Vector.list g.V.Vector.CAP g.V.Vector.WIDTH shop threshold first last p c.open.new.node)
           (read-is g here ∙ sym (get_or-set_same packs (c.args.groups - 1) pack none low)) opened);
     })

@@ -22,22 +22,22 @@ use Rattle.flow_directions.proofs.tree.Tree.weigh.Goals.{In_default}
 
 -- the node of these lists, at the beginning
 abbrev IsThere : (g : Over) → Start g → ℕ → List ℕ → List ℕ → Type 0
-IsThere g c number first last =
-    IsOpenAt g.V.Lanes.list g.V.Lanes.CAP g.V.Lanes.WIDTH c.args.instance.now number first last c.args.groups c.args.at
+IsThere g c threshold first last =
+    IsOpenAt g.V.Vector.list g.V.Vector.CAP g.V.Vector.WIDTH c.args.instance.now threshold first last c.args.groups c.args.at
     c.args.self.now.packs.items c.args.self.now.nodes.items
 
--- the jobs below the number are those of the node's children
-below-is : (g : Over) (c : After-at g) (number : ℕ) (first last : List ℕ) (none : _) →
-    IsThere g (goal.at.After-at g c).Start number first last →
+-- the jobs below the threshold are those of the node's children
+below-is : (g : Over) (c : After-at g) (threshold : ℕ) (first last : List ℕ) (none : _) →
+    IsThere g (goal.at.After-at g c).Start threshold first last →
     jobs_at (slice_index_or c.args.self.now.packs.items (c.args.groups - 1) none) c.at.result.now.below
-    ≡ left_below c.args.instance.now number c.args.weighing.end first last
-below-is g c number first last none is =
+    ≡ left_below c.args.instance.now threshold c.args.weighing.end first last
+below-is g c threshold first last none is =
     let pack = slice_index_or c.args.self.now.packs.items (c.args.groups - 1) none in
     let node = c.index.result.now in
     let open_is = is.is_open none node in
     ap (λ children. jobs_at pack children.below)
     (c.at.ensures ∙ ap (children_at c.args.weighing.end) c.index.ensures)
-    ∙ (children-of g.V.Lanes.list g.V.Lanes.CAP g.V.Lanes.WIDTH c.args.instance.now number c.args.weighing.end first
+    ∙ (children-of g.V.Vector.list g.V.Vector.CAP g.V.Vector.WIDTH c.args.instance.now threshold c.args.weighing.end first
     last pack (slice_index_or c.args.self.now.nodes.items c.args.at node) open_is).below
 
 pub children-init : goal.children-init
@@ -56,7 +56,7 @@ children-init g c =
       packs = refl;
       size = refl;
       above = refl;
-      tree = λ number tree. tree;
+      tree = λ threshold tree. tree;
       before = λ place below. absurd (omega (arith, below));
       behind = omega arith;
       same = λ not. refl;
@@ -70,7 +70,7 @@ children-init g c =
             arith,
             size none,
             c.requires.kept node keeps,
-            (children-of g.V.Lanes.list g.V.Lanes.CAP g.V.Lanes.WIDTH shop at.0 end at.1 at.2
+            (children-of g.V.Vector.list g.V.Vector.CAP g.V.Vector.WIDTH shop at.0 end at.1 at.2
                 (slice_index_or packs (c.args.groups - 1) none) (slice_index_or nodes c.args.at node)
                 (at.4.is_open none node)).count,
           );
@@ -80,13 +80,13 @@ children-init g c =
         count-small shop at.0 at.1 at.2 end (slice_index_or nodes c.args.at c.index.result.now).node
             (at.4.is_open none c.index.result.now).is_node,
       );
-      sum = λ number first last none tree is. omega (
+      sum = λ threshold first last none tree is. omega (
         arith,
-        ap (sum_by (fewest_at shop number end first last)) (below-is g here number first last none is),
-        weight-is shop number end first last,
+        ap (sum_by (fewest_at shop threshold end first last)) (below-is g here threshold first last none is),
+        weight-is shop threshold end first last,
       );
-      kept = λ number first last none tree is keeps.
-          ([], below-is g here number first last none is, omega arith, tt);
+      kept = λ threshold first last none tree is keeps.
+          ([], below-is g here threshold first last none is, omega arith, tt);
     }
 
 -- how many names there are
@@ -129,12 +129,12 @@ room-is g c =
     ]
 
 -- the node is still there
-still-is : (g : Over) (c : In-Some g) (number : ℕ) (first last : List ℕ) →
-    IsThere g (goal.at.In-Some g c).Start number first last →
-    IsOpenAt g.V.Lanes.list g.V.Lanes.CAP g.V.Lanes.WIDTH c.args.instance.now number first last c.args.groups c.args.at
+still-is : (g : Over) (c : In-Some g) (threshold : ℕ) (first last : List ℕ) →
+    IsThere g (goal.at.In-Some g c).Start threshold first last →
+    IsOpenAt g.V.Vector.list g.V.Vector.CAP g.V.Vector.WIDTH c.args.instance.now threshold first last c.args.groups c.args.at
     c.children.self.packs.items c.children.self.nodes.items
-still-is g c number first last is =
-    open-kept g.V.Lanes.list g.V.Lanes.CAP g.V.Lanes.WIDTH c.args.instance.now number first last c.args.groups c.args.at
+still-is g c threshold first last is =
+    open-kept g.V.Vector.list g.V.Vector.CAP g.V.Vector.WIDTH c.args.instance.now threshold first last c.args.groups c.args.at
     c.args.weighing.to c.args.self.now.packs.items c.children.self.packs.items c.args.self.now.nodes.items
     c.children.self.nodes.items (ap (λ v. v.items) c.children.invariant.packs) c.children.invariant.above
     c.requires.order is
@@ -169,37 +169,37 @@ index-requires-in-Some g c =
     )
 
 -- its child, once it is made
-child-is : (g : Over) (c : After-make g) (number : ℕ) (first last : List ℕ) (none : _) →
-    IsTree g.V.Lanes.CAP c.args.instance.now number c.args.self.now →
-    IsThere g (goal.at.After-make g c).Start number first last →
-    IsOpenAt g.V.Lanes.list g.V.Lanes.CAP g.V.Lanes.WIDTH c.args.instance.now number
+child-is : (g : Over) (c : After-make g) (threshold : ℕ) (first last : List ℕ) (none : _) →
+    IsTree g.V.Vector.CAP c.args.instance.now threshold c.args.self.now →
+    IsThere g (goal.at.After-make g c).Start threshold first last →
+    IsOpenAt g.V.Vector.list g.V.Vector.CAP g.V.Vector.WIDTH c.args.instance.now threshold
     (first_with c.args.weighing.end first (job_is g (goal.at.After-make g c).In-Some none))
     (last_with c.args.weighing.end last (job_is g (goal.at.After-make g c).In-Some none)) c.args.groups c.children.to
     c.make.new.self.packs.items c.make.new.self.nodes.items
-child-is g c number first last none tree is =
+child-is g c threshold first last none tree is =
     let end = c.args.weighing.end in
-    subst (λ ps. IsOpenAt g.V.Lanes.list g.V.Lanes.CAP g.V.Lanes.WIDTH c.args.instance.now number
+    subst (λ ps. IsOpenAt g.V.Vector.list g.V.Vector.CAP g.V.Vector.WIDTH c.args.instance.now threshold
     (first_with end first (slice_index (slice_index_or ps (c.args.groups - 1) none).names.items c.in-Some.place))
     (last_with end last (slice_index (slice_index_or ps (c.args.groups - 1) none).names.items c.in-Some.place))
     c.args.groups c.children.to c.make.new.self.packs.items c.make.new.self.nodes.items)
     (ap (λ v. v.items) c.children.invariant.packs)
-    (c.make.ensures.child number first last none (c.children.invariant.tree number tree)
-    (still-is g (goal.at.After-make g c).In-Some number first last is))
+    (c.make.ensures.child threshold first last none (c.children.invariant.tree threshold tree)
+    (still-is g (goal.at.After-make g c).In-Some threshold first last is))
 
 -- what it adds
-fewest-is : (g : Over) (c : After-fewest-weight g) (number : ℕ) (first last : List ℕ) (none : _) →
-    IsTree g.V.Lanes.CAP c.args.instance.now number c.args.self.now →
-    IsThere g (goal.at.After-fewest-weight g c).Start number first last →
+fewest-is : (g : Over) (c : After-fewest-weight g) (threshold : ℕ) (first last : List ℕ) (none : _) →
+    IsTree g.V.Vector.CAP c.args.instance.now threshold c.args.self.now →
+    IsThere g (goal.at.After-fewest-weight g c).Start threshold first last →
     c.fewest-weight.result
-    ≡ fewest_at c.args.instance.now number c.args.weighing.end first last
+    ≡ fewest_at c.args.instance.now threshold c.args.weighing.end first last
     (job_is g (goal.at.After-fewest-weight g c).In-Some none)
-fewest-is g c number first last none tree is =
+fewest-is g c threshold first last none tree is =
     let end = c.args.weighing.end in
     let job = job_is g (goal.at.After-fewest-weight g c).In-Some none in
     let pack = slice_index_or c.make.new.self.packs.items (c.args.groups - 1) none in
-    let child = child-is g (goal.at.After-fewest-weight g c).After-make number first last none tree is in
-    c.fewest-weight.ensures c.args.instance.now number (first_with end first job) (last_with end last job) pack
-    (subst (IsOpenNode g.V.Lanes.list g.V.Lanes.CAP g.V.Lanes.WIDTH c.args.instance.now number
+    let child = child-is g (goal.at.After-fewest-weight g c).After-make threshold first last none tree is in
+    c.fewest-weight.ensures c.args.instance.now threshold (first_with end first job) (last_with end last job) pack
+    (subst (IsOpenNode g.V.Vector.list g.V.Vector.CAP g.V.Vector.WIDTH c.args.instance.now threshold
     (first_with end first job) (last_with end last job) pack) (sym c.index-in-Some.ensures)
     (child.is_open none c.index-in-Some.result.now))
 
@@ -225,20 +225,20 @@ small-is g c none =
     )
 
 -- and what the others add makes the whole weight
-more-is : (g : Over) (c : After-fewest-weight g) (number : ℕ) (first last : List ℕ) (none : _) →
-    IsTree g.V.Lanes.CAP c.args.instance.now number c.args.self.now →
-    IsThere g (goal.at.After-fewest-weight g c).Start number first last →
+more-is : (g : Over) (c : After-fewest-weight g) (threshold : ℕ) (first last : List ℕ) (none : _) →
+    IsTree g.V.Vector.CAP c.args.instance.now threshold c.args.self.now →
+    IsThere g (goal.at.After-fewest-weight g c).Start threshold first last →
     c.children.weight + c.fewest-weight.result
-    + sum_by (fewest_at c.args.instance.now number c.args.weighing.end first last)
+    + sum_by (fewest_at c.args.instance.now threshold c.args.weighing.end first last)
     (jobs_at (slice_index_or c.args.self.now.packs.items (c.args.groups - 1) none) c.pop_from.new.self)
-    ≡ weight c.args.instance.now number c.args.weighing.end first last
-more-is g c number first last none tree is =
+    ≡ weight c.args.instance.now threshold c.args.weighing.end first last
+more-is g c threshold first last none tree is =
     let here = (goal.at.After-fewest-weight g c).In-Some in
     let pack = slice_index_or c.args.self.now.packs.items (c.args.groups - 1) none in
-    weight-more c.args.instance.now number c.args.weighing.end first last (job_is g here none)
+    weight-more c.args.instance.now threshold c.args.weighing.end first last (job_is g here none)
     (jobs_at pack c.children.rest) (jobs_at pack c.pop_from.new.self) c.children.weight c.fewest-weight.result
-    (first-job g here none) (fewest-is g c number first last none tree is)
-    (c.children.invariant.sum number first last none tree is)
+    (first-job g here none) (fewest-is g c threshold first last none tree is)
+    (c.children.invariant.sum threshold first last none tree is)
 
 pub overflow_add-weight : goal.overflow_add-weight
 overflow_add-weight g c =
@@ -263,12 +263,12 @@ returns-then-weight-weighing-clause-small g c =
     omega (arith, small-is g (goal.at.returns-then-weight-weighing-clause-small g c).After-fewest-weight none)
 
 pub returns-then-weight-weighing-clause-reaches : goal.returns-then-weight-weighing-clause-reaches
-returns-then-weight-weighing-clause-reaches g c number first last tree is reached =
+returns-then-weight-weighing-clause-reaches g c threshold first last tree is reached =
     let none = some-of c.args.self.now.packs.items (omega (arith, c.requires.some, c.requires.few)) in
     omega (
       arith,
       reached,
-      more-is g (goal.at.returns-then-weight-weighing-clause-reaches g c).After-fewest-weight number first last none
+      more-is g (goal.at.returns-then-weight-weighing-clause-reaches g c).After-fewest-weight threshold first last none
           tree is,
     )
 
@@ -292,7 +292,7 @@ children-preserved-then-weighing g c =
       packs = c.make.ensures.packs ∙ inv.packs;
       size = c.make.ensures.size ∙ inv.size;
       above = above-is g made;
-      tree = λ number tree. c.make.ensures.tree number (inv.tree number tree);
+      tree = λ threshold tree. c.make.ensures.tree threshold (inv.tree threshold tree);
       before = c.in-Some.ensures.before;
       marked = λ place empty one. inv.marked place empty (c.in-Some.ensures.fewer place one);
       behind = omega (arith, inv.behind);
@@ -300,23 +300,23 @@ children-preserved-then-weighing g c =
       room = λ none keeps. omega (arith, inv.room none keeps, ap length (first-job g got none));
       small = small-is g here;
       sum = more-is g here;
-      kept = λ number first last none tree is keeps.
-          let before = inv.kept number first last none tree is keeps in
+      kept = λ threshold first last none tree is keeps.
+          let before = inv.kept threshold first last none tree is keeps in
           let pack = slice_index_or c.args.self.now.packs.items (c.args.groups - 1) none in
           let job = job_is g got none in (
             before.0 ++ job ∷ [],
             append_assoc before.0 (job ∷ []) (jobs_at pack c.pop_from.new.self)
                 ∙ ap (λ l. before.0 ++ l) (sym (first-job g got none)) ∙ before.1,
             omega (arith, before.2, length-append before.0 (job ∷ [])),
-            children-more g.V.Lanes.list g.V.Lanes.CAP g.V.Lanes.WIDTH shop number end first last c.args.groups before.0
+            children-more g.V.Vector.list g.V.Vector.CAP g.V.Vector.WIDTH shop threshold end first last c.args.groups before.0
                 job c.args.weighing.to c.make.new.self.packs.items c.make.new.self.nodes.items
-                (children-kept g.V.Lanes.list g.V.Lanes.CAP g.V.Lanes.WIDTH shop number end first last c.args.groups
+                (children-kept g.V.Vector.list g.V.Vector.CAP g.V.Vector.WIDTH shop threshold end first last c.args.groups
                 before.0 c.args.weighing.to c.children.to c.children.self.packs.items c.make.new.self.packs.items
                 c.children.self.nodes.items c.make.new.self.nodes.items (ap (λ v. v.items) c.make.ensures.packs)
                 c.make.ensures.above (omega (arith, before.2)) before.3)
-                (subst (λ p. IsOpenAt g.V.Lanes.list g.V.Lanes.CAP g.V.Lanes.WIDTH shop number
+                (subst (λ p. IsOpenAt g.V.Vector.list g.V.Vector.CAP g.V.Vector.WIDTH shop threshold
                 (first_with end first job) (last_with end last job) c.args.groups p c.make.new.self.packs.items
-                c.make.new.self.nodes.items) before.2 (child-is g made number first last none tree is)),
+                c.make.new.self.nodes.items) before.2 (child-is g made threshold first last none tree is)),
           );
     }
 
@@ -329,7 +329,7 @@ children-preserved g c =
       packs = c.make.ensures.packs ∙ inv.packs;
       size = c.make.ensures.size ∙ inv.size;
       above = above-is g made;
-      tree = λ number tree. c.make.ensures.tree number (inv.tree number tree);
+      tree = λ threshold tree. c.make.ensures.tree threshold (inv.tree threshold tree);
       before = c.in-Some.ensures.before;
       marked = λ place empty one. inv.marked place empty (c.in-Some.ensures.fewer place one);
       behind = inv.behind;
@@ -337,7 +337,7 @@ children-preserved g c =
       room = λ none keeps. absurd (true≢false (sym keeps ∙ c.if-weighing.false));
       small = small-is g here;
       sum = more-is g here;
-      kept = λ number first last none tree is keeps. absurd (true≢false (sym keeps ∙ c.if-weighing.false));
+      kept = λ threshold first last none tree is keeps. absurd (true≢false (sym keeps ∙ c.if-weighing.false));
     }
 
 pub returns-clause-small : goal.returns-clause-small
@@ -353,26 +353,26 @@ none-left g c none =
     (size-is g (goal.at.In_default g c).Start none)
 
 pub returns-clause-exact : goal.returns-clause-exact
-returns-clause-exact g c number first last tree is less =
+returns-clause-exact g c threshold first last tree is less =
     let none = some-of c.args.self.now.packs.items (omega (arith, c.requires.some, c.requires.few)) in
     omega (
       arith,
-      c.children.invariant.sum number first last none tree is,
-      ap (sum_by (fewest_at c.args.instance.now number c.args.weighing.end first last))
+      c.children.invariant.sum threshold first last none tree is,
+      ap (sum_by (fewest_at c.args.instance.now threshold c.args.weighing.end first last))
           (none-left g (goal.at.returns-clause-exact g c).In_default none),
     )
 
 pub returns-clause-reaches : goal.returns-clause-reaches
-returns-clause-reaches g c number first last tree is reached =
+returns-clause-reaches g c threshold first last tree is reached =
     let none = some-of c.args.self.now.packs.items (omega (arith, c.requires.some, c.requires.few)) in
-    omega (arith, c.children.invariant.sum number first last none tree is, reached)
+    omega (arith, c.children.invariant.sum threshold first last none tree is, reached)
 
 pub returns-clause-kept : goal.returns-clause-kept
-returns-clause-kept g c number first last tree is keeps less =
+returns-clause-kept g c threshold first last tree is keeps less =
     let none = some-of c.args.self.now.packs.items (omega (arith, c.requires.some, c.requires.few)) in
-    let all = c.children.invariant.kept number first last none tree is keeps in
-    let done : all.0 ≡ left_below c.args.instance.now number c.args.weighing.end first last =
+    let all = c.children.invariant.kept threshold first last none tree is keeps in
+    let done : all.0 ≡ left_below c.args.instance.now threshold c.args.weighing.end first last =
     sym (append-nil all.0)
     ∙ ap (λ l. all.0 ++ l) (sym (none-left g (goal.at.returns-clause-kept g c).In_default none)) ∙ all.1 in
-    subst (λ l. AreKept g.V.Lanes.list g.V.Lanes.CAP g.V.Lanes.WIDTH c.args.instance.now number c.args.weighing.end
+    subst (λ l. AreKept g.V.Vector.list g.V.Vector.CAP g.V.Vector.WIDTH c.args.instance.now threshold c.args.weighing.end
     first last c.args.groups l c.args.weighing.to c.children.self.packs.items c.children.self.nodes.items) done all.3

@@ -16,8 +16,8 @@ invariant-children g l = record {
   packs : l.self.packs ≡ l.fn.self.packs;
   size : length l.self.nodes.items ≡ length l.fn.self.nodes.items;
   above : take l.weighing.to l.self.nodes.items ≡ take l.weighing.to l.fn.self.nodes.items;
-  tree : (number : ℕ) → IsTree g.V.Lanes.CAP l.instance number l.fn.self →
-      IsTree g.V.Lanes.CAP l.instance number l.self;
+  tree : (threshold : ℕ) → IsTree g.V.Vector.CAP l.instance threshold l.fn.self →
+      IsTree g.V.Vector.CAP l.instance threshold l.self;
   before : (place : ℕ) → place < l.next → mark l.rest.words place ≡ 0;
   marked : (place : ℕ) (empty : OpenNode g.row.V.Denot) → mark l.rest.words place ≡ 1 →
       mark (children_at l.weighing.end (slice_index_or l.fn.self.nodes.items l.at empty)).below.words place ≡ 1;
@@ -28,22 +28,22 @@ invariant-children g l = record {
       ≤ length l.fn.self.nodes.items;
   small : (none : Pack g.row.V.Denot) →
       l.weight + 800 * length (jobs_at (slice_index_or l.fn.self.packs.items (l.groups - 1) none) l.rest) ≤ 640000;
-  sum : (number : ℕ) (first last : List ℕ) (none : Pack g.row.V.Denot) →
-      IsTree g.V.Lanes.CAP l.instance number l.fn.self →
-      IsOpenAt g.V.Lanes.list g.V.Lanes.CAP g.V.Lanes.WIDTH l.instance number first last l.groups l.at
+  sum : (threshold : ℕ) (first last : List ℕ) (none : Pack g.row.V.Denot) →
+      IsTree g.V.Vector.CAP l.instance threshold l.fn.self →
+      IsOpenAt g.V.Vector.list g.V.Vector.CAP g.V.Vector.WIDTH l.instance threshold first last l.groups l.at
       l.fn.self.packs.items l.fn.self.nodes.items →
-      l.weight + sum_by (fewest_at l.instance number l.weighing.end first last)
+      l.weight + sum_by (fewest_at l.instance threshold l.weighing.end first last)
       (jobs_at (slice_index_or l.fn.self.packs.items (l.groups - 1) none) l.rest)
-      ≡ weight l.instance number l.weighing.end first last;
-  kept : (number : ℕ) (first last : List ℕ) (none : Pack g.row.V.Denot) →
-      IsTree g.V.Lanes.CAP l.instance number l.fn.self →
-      IsOpenAt g.V.Lanes.list g.V.Lanes.CAP g.V.Lanes.WIDTH l.instance number first last l.groups l.at
+      ≡ weight l.instance threshold l.weighing.end first last;
+  kept : (threshold : ℕ) (first last : List ℕ) (none : Pack g.row.V.Denot) →
+      IsTree g.V.Vector.CAP l.instance threshold l.fn.self →
+      IsOpenAt g.V.Vector.list g.V.Vector.CAP g.V.Vector.WIDTH l.instance threshold first last l.groups l.at
       l.fn.self.packs.items l.fn.self.nodes.items → l.weighing.keeps ≡ true →
       (done : List ℕ)
       × (done ++ jobs_at (slice_index_or l.fn.self.packs.items (l.groups - 1) none) l.rest
-      ≡ left_below l.instance number l.weighing.end first last)
+      ≡ left_below l.instance threshold l.weighing.end first last)
       × (l.to ≡ l.weighing.to + length done)
-      × AreKept g.V.Lanes.list g.V.Lanes.CAP g.V.Lanes.WIDTH l.instance number l.weighing.end first last l.groups done
+      × AreKept g.V.Vector.list g.V.Vector.CAP g.V.Vector.WIDTH l.instance threshold l.weighing.end first last l.groups done
       l.weighing.to l.self.packs.items l.self.nodes.items;
 }
 

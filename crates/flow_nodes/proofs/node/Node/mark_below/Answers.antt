@@ -58,37 +58,37 @@ loop-group-preserved g c =
                   ))
             ]
       ];
-      exact = λ shop number first last jobs place none limit is under are was fresh.
+      exact = λ shop threshold first last jobs place none limit is under are was fresh.
           let bound = child_bound shop c.args.end first last (slice_index jobs (place % 16)) in
           elim (cases_lt (place / 16) group) [
             | inl before ↦
                 let apart : place / 16 ≢ group = omega (arith, before) in
                 let says =
-                c.loop-group.invariant.exact shop number first last jobs place none limit is before are was fresh in
+                c.loop-group.invariant.exact shop threshold first last jobs place none limit is before are was fresh in
                 elim c.if-word-ne0.branch [
                   | then-word-ne0 w ↦
-                      subst (λ m. mark m.words place ≡ 1 ↔ (bound < number)) (sym w.below-is)
-                      (subst (λ n. n ≡ 1 ↔ (bound < number)) (sym (mark-elsewhere words group _ place apart)) says)
+                      subst (λ m. mark m.words place ≡ 1 ↔ (bound < threshold)) (sym w.below-is)
+                      (subst (λ n. n ≡ 1 ↔ (bound < threshold)) (sym (mark-elsewhere words group _ place apart)) says)
                   | else-word-ne0 w ↦
-                      subst (λ m. mark m.words place ≡ 1 ↔ (bound < number)) (sym w.below-is)
-                      (subst (λ n. n ≡ 1 ↔ (bound < number)) (sym (mark-elsewhere words group _ place apart)) says)
+                      subst (λ m. mark m.words place ≡ 1 ↔ (bound < threshold)) (sym w.below-is)
+                      (subst (λ n. n ≡ 1 ↔ (bound < threshold)) (sym (mark-elsewhere words group _ place apart)) says)
                 ]
             | inr above ↦
                 let there : place / 16 ≡ group = omega (arith, above, under) in
                 elim c.if-word-ne0.branch [
                   | then-word-ne0 w ↦
-                      let of_group : IsGroup g.V.Lanes.list g.V.Lanes.CAP g.V.Lanes.WIDTH shop jobs
+                      let of_group : IsGroup g.V.Vector.list g.V.Vector.CAP g.V.Vector.WIDTH shop jobs
                       w.as_slice.result.now =
-                      subst (IsGroup g.V.Lanes.list g.V.Lanes.CAP g.V.Lanes.WIDTH shop jobs)
+                      subst (IsGroup g.V.Vector.list g.V.Vector.CAP g.V.Vector.WIDTH shop jobs)
                       (sym (w.as_slice.ensures.value ∙ ap (λ v. v.items) (w.index-groups-group.is
                       ∙ get_or_default c.args.groups.now group w.index-groups-group.result none
                       c.loop-group-test.true)))
-                      (subst (λ i. IsGroup g.V.Lanes.list g.V.Lanes.CAP g.V.Lanes.WIDTH shop jobs
+                      (subst (λ i. IsGroup g.V.Vector.list g.V.Vector.CAP g.V.Vector.WIDTH shop jobs
                       (slice_index_or c.args.groups.now i none).items) there are) in
-                      subst (λ m. mark m.words place ≡ 1 ↔ (bound < number)) (sym w.below-is)
+                      subst (λ m. mark m.words place ≡ 1 ↔ (bound < threshold)) (sym w.below-is)
                       (written-exact left words group w.children_below-bits.result w.from.result place few
-                      w.from.ensures there bound number was
-                      (lane-tells g.V.Lanes.list g.V.Lanes.CAP g.V.Lanes.WIDTH c.requires.wide shop number c.args.limit
+                      w.from.ensures there bound threshold was
+                      (lane-tells g.V.Vector.list g.V.Vector.CAP g.V.Vector.WIDTH c.requires.wide shop threshold c.args.limit
                       c.args.end first last c.args.self.now jobs w.as_slice.result.now w.children_below-bits.result
                       (place % 16) is of_group limit (omega arith) fresh
                       (w.children_below-bits.ensures.each shop first last jobs (place % 16) is of_group

@@ -47,20 +47,20 @@ loop-group-preserved g c =
                   ))
             ]
       ];
-      rest = λ shop number first last jobs node place none limit is gaps slacks under are was fresh.
+      rest = λ shop threshold first last jobs node place none limit is gaps slacks under are was fresh.
           let bound : ℕ = child_bound shop c.args.end first last (slice_index jobs (place % 16)) in
           elim (cases_lt (place / 16) group) [
             | inl before ↦
                 let apart : place / 16 ≢ group = omega (arith, before) in
                 let says =
-                here.rest shop number first last jobs node place none limit is gaps slacks before are was fresh in
+                here.rest shop threshold first last jobs node place none limit is gaps slacks before are was fresh in
                 elim c.if-word-ne0.branch [
                   | then-word-ne0 w ↦
-                      subst (λ m. (mark m.words place ≡ 1) ⊎ (number ≤ bound)) (sym w.kept-is)
-                      (subst (λ n. (n ≡ 1) ⊎ (number ≤ bound)) (sym (mark-elsewhere words group _ place apart)) says)
+                      subst (λ m. (mark m.words place ≡ 1) ⊎ (threshold ≤ bound)) (sym w.kept-is)
+                      (subst (λ n. (n ≡ 1) ⊎ (threshold ≤ bound)) (sym (mark-elsewhere words group _ place apart)) says)
                   | else-word-ne0 w ↦
-                      subst (λ m. (mark m.words place ≡ 1) ⊎ (number ≤ bound)) (sym w.kept-is)
-                      (subst (λ n. (n ≡ 1) ⊎ (number ≤ bound)) (sym (mark-elsewhere words group _ place apart)) says)
+                      subst (λ m. (mark m.words place ≡ 1) ⊎ (threshold ≤ bound)) (sym w.kept-is)
+                      (subst (λ n. (n ≡ 1) ⊎ (threshold ≤ bound)) (sym (mark-elsewhere words group _ place apart)) says)
                 ]
             | inr above ↦
                 let there : place / 16 ≡ group = omega (arith, above, under) in
@@ -73,9 +73,9 @@ loop-group-preserved g c =
                       c.loop-group-test.true)))
                       (subst (λ i. IsGroup (λ (lanes : List ℕ). lanes) 255 16 shop jobs
                       (slice_index_or c.args.groups.now i none).items) there are) in
-                      subst (λ m. (mark m.words place ≡ 1) ⊎ (number ≤ bound)) (sym w.kept-is)
+                      subst (λ m. (mark m.words place ≡ 1) ⊎ (threshold ≤ bound)) (sym w.kept-is)
                       (kept-or-high left words group w.open_lanes-bits.result w.from.result place few
-                      w.from.ensures there shop number c.args.self.now.limit c.args.end first last node
+                      w.from.ensures there shop threshold c.args.self.now.limit c.args.end first last node
                       (slice_index jobs (place % 16)) is (of_group.each (place % 16) (omega arith)) limit fresh was
                       (w.open_lanes-bits.ensures shop first last jobs node (place % 16) is gaps slacks of_group
                       (omega arith) fresh))
@@ -119,6 +119,6 @@ loop-group-preserved g c =
     }
 
 pub returns-clause-rest : goal.returns-clause-rest
-returns-clause-rest g c shop number first last jobs node place none limit is gaps slacks under are was fresh =
-    c.loop-group.invariant.rest shop number first last jobs node place none limit is gaps slacks
+returns-clause-rest g c shop threshold first last jobs node place none limit is gaps slacks under are was fresh =
+    c.loop-group.invariant.rest shop threshold first last jobs node place none limit is gaps slacks
     (omega (arith, under, c.loop-group-test.false)) are was fresh

@@ -3,7 +3,7 @@ use Rattle.std.proofs.Common.{slice_index_or}
 use Rattle.std.specs.Global.{Vec}
 use Rattle.flow_shop.specs.Shop.{Shop}
 use Rattle.flow_shop.specs.Sequences.{has}
-use Rattle.flow_nodes.specs.Lanes.{limit_of}
+use Rattle.flow_nodes.specs.Vectors.{limit_of}
 use Rattle.flow_nodes.specs.Nodes.{IsNode}
 use Rattle.flow_nodes.specs.Groups.{IsGroup, child_bound, most_groups}
 use Rattle.flow_nodes.specs.Marks.{mark}
@@ -16,12 +16,12 @@ abbrev pub invariant-loop-group : goal.invariant-loop-group
 invariant-loop-group g l = record {
   size : length l.kept.words ≡ most_groups;
   within : (place : ℕ) → place / 16 < l.group → mark l.kept.words place ≡ 1 → mark l.left.words place ≡ 1;
-  rest : (shop : Shop) (number : ℕ) (first last jobs : List ℕ) (node : Node) (place : ℕ)
-      (none : Vec (List ℕ)) → l.self.limit ≡ limit_of number → IsNode shop first last node →
+  rest : (shop : Shop) (threshold : ℕ) (first last jobs : List ℕ) (node : Node) (place : ℕ)
+      (none : Vec (List ℕ)) → l.self.limit ≡ limit_of threshold → IsNode shop first last node →
       HaveGaps l.end node l.self.gaps.items → HaveSlacks l.self.limit node l.self.slacks.items →
       place / 16 < l.group →
       IsGroup (λ (lanes : List ℕ). lanes) 255 16 shop jobs (slice_index_or l.groups (place / 16) none).items →
       mark l.left.words place ≡ 1 → has (first ++ last) (slice_index jobs (place % 16)) ≡ false →
-      (mark l.kept.words place ≡ 1) ⊎ (number ≤ child_bound shop l.end first last (slice_index jobs (place % 16)));
+      (mark l.kept.words place ≡ 1) ⊎ (threshold ≤ child_bound shop l.end first last (slice_index jobs (place % 16)));
   none : l.union ≡ 0 → (place : ℕ) → place / 16 < l.group → mark l.kept.words place ≡ 0;
 }

@@ -7,7 +7,7 @@ use Rattle.flow_nodes.specs.Open.{HasStartRoom, IsOpenNode}
 use Rattle.flow_nodes.specs.internal.Pairs.{AreRests}
 use Rattle.flow_nodes.proofs.PairSteps.{constant-is, node-fits}
 use Rattle.flow_nodes.proofs.JobsMarked.{marked-left}
-use Rattle.flow_nodes.proofs.OpenSteps.{kept-children}
+use Rattle.flow_nodes.proofs.OpenSteps.{kept-children, kept-starts}
 use Rattle.flow_nodes.proofs.PutSteps.{cleared-apart, cleared-was, put-job, put-fresh, put-below, put-row, put-left}
 use Rattle.flow_nodes.proofs.opener.Opener.open_child_of.Goals as goal
 
@@ -78,7 +78,7 @@ pairs_of_sums-rest-requires-clause-fit g c on low =
     c.index-row.result.now at.5.rows c.index.ensures c.from.ensures c.index-row.ensures) in
     omega (
       arith,
-      (node-fits shop (first_with end at.1 job) (last_with end at.2 job) node g.V.Lanes.CAP at.0 c.args.self.now.limit is
+      (node-fits shop (first_with end at.1 job) (last_with end at.2 job) node g.V.Vector.CAP at.0 c.args.self.now.limit is
           (put-below at.3 at.4 end place at.8 at.9) at.6 c.requires.limit on (omega (arith, low, at.5.machines))).0,
     )
 
@@ -96,7 +96,7 @@ pairs_of_sums-rest-requires-clause-small g c on low =
     c.index-row.result.now at.5.rows c.index.ensures c.from.ensures c.index-row.ensures) in
     omega (
       arith,
-      (node-fits shop (first_with end at.1 job) (last_with end at.2 job) node g.V.Lanes.CAP at.0 c.args.self.now.limit is
+      (node-fits shop (first_with end at.1 job) (last_with end at.2 job) node g.V.Vector.CAP at.0 c.args.self.now.limit is
           (put-below at.3 at.4 end place at.8 at.9) at.6 c.requires.limit on (omega (arith, low, at.5.machines))).1,
     )
 
@@ -128,7 +128,7 @@ pairs_of_sums-rest-requires-in-Back-clause-fit g c on low =
     c.index-row.result.now at.5.rows c.index.ensures c.from.ensures c.index-row.ensures) in
     omega (
       arith,
-      (node-fits shop (first_with end at.1 job) (last_with end at.2 job) node g.V.Lanes.CAP at.0 c.args.self.now.limit is
+      (node-fits shop (first_with end at.1 job) (last_with end at.2 job) node g.V.Vector.CAP at.0 c.args.self.now.limit is
           (put-below at.3 at.4 end place at.8 at.9) at.6 c.requires.limit on (omega (arith, low, at.5.machines))).0,
     )
 
@@ -146,7 +146,7 @@ pairs_of_sums-rest-requires-in-Back-clause-small g c on low =
     c.index-row.result.now at.5.rows c.index.ensures c.from.ensures c.index-row.ensures) in
     omega (
       arith,
-      (node-fits shop (first_with end at.1 job) (last_with end at.2 job) node g.V.Lanes.CAP at.0 c.args.self.now.limit is
+      (node-fits shop (first_with end at.1 job) (last_with end at.2 job) node g.V.Vector.CAP at.0 c.args.self.now.limit is
           (put-below at.3 at.4 end place at.8 at.9) at.6 c.requires.limit on (omega (arith, low, at.5.machines))).1,
     )
 
@@ -180,14 +180,16 @@ pub returns-in-Front-clause-room : goal.returns-in-Front-clause-room
 returns-in-Front-clause-room g c shop groups room = record {
   at_front = c.open_at.ensures.room shop groups room.at_front;
   at_back = c.keep_children.ensures.room shop groups room.at_back;
+  front_bounds = omega (arith, c.open_at.ensures.bound_count, room.front_bounds);
+  back_bounds = omega (arith, c.keep_children.ensures.bound_count, room.back_bounds);
 }
 
 pub returns-in-Front-clause-child : goal.returns-in-Front-clause-child
-returns-in-Front-clause-child g c number first last is is_pack has_room limit marked =
+returns-in-Front-clause-child g c threshold first last is is_pack has_room limit marked =
     let shop = c.args.instance.now in
-    let list = g.V.Lanes.list in
-    let cap = g.V.Lanes.CAP in
-    let width = g.V.Lanes.WIDTH in
+    let list = g.V.Vector.list in
+    let cap = g.V.Vector.CAP in
+    let width = g.V.Vector.WIDTH in
     let end = c.args.put.end in
     let place : ℕ = c.args.put.place in
     let inside = c.requires.at.8 in
@@ -207,7 +209,7 @@ returns-in-Front-clause-child g c number first last is is_pack has_room limit ma
       );
       machines = c.requires.at.10.at_back.machines;
     } in
-    let rests : AreRests g.V.Lanes.pair_of cap shop.machines Back node c.pairs_of_sums-rest.result =
+    let rests : AreRests g.V.Vector.pair_of cap shop.machines Back node c.pairs_of_sums-rest.result =
     λ on low.
     let at = c.requires.at in
     let put : ℕ = slice_index c.args.pack.now.names.items place in
@@ -229,7 +231,7 @@ returns-in-Front-clause-child g c number first last is is_pack has_room limit ma
     let count : length names ≡ c.len-groups.result * 16 =
     omega (arith, is_pack.room.names, c.len-groups.ensures, c.args.pack.now.groups.ok.0) in
     let under : (at : ℕ) → at < length names → at / 16 < c.len-groups.result = λ at low. omega (arith, low, count) in
-    subst (λ end. IsOpenNode list cap width shop number (first_with end first job) (last_with end last job)
+    subst (λ end. IsOpenNode list cap width shop threshold (first_with end first job) (last_with end last job)
     c.args.pack.now (record {
       node = node;
       left = left;
@@ -238,9 +240,9 @@ returns-in-Front-clause-child g c number first last is is_pack has_room limit ma
     })) (sym c.in-Front.is) (record {
       is_node = is_node;
       has_left = has_left;
-      at_front = c.open_at.ensures.children shop number (first_with Front first job) (last_with Front last job)
+      at_front = c.open_at.ensures.children shop threshold (first_with Front first job) (last_with Front last job)
           limit is_node is_pack has_left;
-      at_back = kept-children list cap width shop number Front first last names job c.args.parent.now.node old left
+      at_back = kept-children list cap width shop threshold Front first last names job c.args.parent.now.node old left
           c.args.parent.now.back c.keep_children.new.children is.is_node range fresh is.has_left has_left
           (cleared-was old.words left.words place c.clear.ensures.same c.clear.ensures.others)
           is_pack.room.jobs is.at_back
@@ -251,15 +253,23 @@ returns-in-Front-clause-child g c number first last is is_pack has_room limit ma
           let apart = cleared-apart kept.words begin.words place c.clear-in-Front.ensures.same
           c.clear-in-Front.ensures.others at cleared in
           (c.clear.ensures.others at apart ∙ is.at_back.within at low was, was))
-          (λ at low was also. c.keep_children.ensures.exact shop number Back (first_with Front first job)
+          (λ at low was also. c.keep_children.ensures.exact shop threshold Back (first_with Front first job)
           (last_with Front last job) (slice_index names at) node at limit room is_node
           rests (is_pack.room.jobs at low)
           (marked-left shop.jobs (first_with Front first job ++ last_with Front last job) left.words names has_left at
           low was) (under at low)
           (c.clear-in-Front.ensures.others at
           (cleared-apart old.words left.words place c.clear.ensures.same c.clear.ensures.others at was) ∙ also)
-          (λ machine none zero on. is.at_back.starts at machine none zero low also on))
-          (λ at none low one. c.keep_children.ensures.copied at none (under at low) one)
+          (λ none.
+          let was_known = is.at_back.known at low also in
+          kept-starts list cap width shop Front first last names job old c.args.parent.now.back is.at_back at none
+          was_known.0 low (is.at_back.within at low also) was_known.1))
+          (λ at before low one was. c.keep_children.ensures.known at before (under at low) one was)
+          (λ at none bounds low was same starts. c.keep_children.ensures.whole shop Back (first_with Front first job)
+          (last_with Front last job) (slice_index names at) node at none bounds room is_node rests
+          (is_pack.room.jobs at low)
+          (marked-left shop.jobs (first_with Front first job ++ last_with Front last job) left.words names has_left at
+          low was) (under at low) same starts)
           (c.keep_children.ensures.count names count);
     })
 
@@ -314,14 +324,16 @@ pub returns-in-Back-clause-room : goal.returns-in-Back-clause-room
 returns-in-Back-clause-room g c shop groups room = record {
   at_back = c.open_at-in-Back.ensures.room shop groups room.at_back;
   at_front = c.keep_children-in-Back.ensures.room shop groups room.at_front;
+  front_bounds = omega (arith, c.keep_children-in-Back.ensures.bound_count, room.front_bounds);
+  back_bounds = omega (arith, c.open_at-in-Back.ensures.bound_count, room.back_bounds);
 }
 
 pub returns-in-Back-clause-child : goal.returns-in-Back-clause-child
-returns-in-Back-clause-child g c number first last is is_pack has_room limit marked =
+returns-in-Back-clause-child g c threshold first last is is_pack has_room limit marked =
     let shop = c.args.instance.now in
-    let list = g.V.Lanes.list in
-    let cap = g.V.Lanes.CAP in
-    let width = g.V.Lanes.WIDTH in
+    let list = g.V.Vector.list in
+    let cap = g.V.Vector.CAP in
+    let width = g.V.Vector.WIDTH in
     let end = c.args.put.end in
     let place : ℕ = c.args.put.place in
     let inside = c.requires.at.8 in
@@ -341,7 +353,7 @@ returns-in-Back-clause-child g c number first last is is_pack has_room limit mar
       );
       machines = c.requires.at.10.at_front.machines;
     } in
-    let rests : AreRests g.V.Lanes.pair_of cap shop.machines Front node c.pairs_of_sums-rest-in-Back.result =
+    let rests : AreRests g.V.Vector.pair_of cap shop.machines Front node c.pairs_of_sums-rest-in-Back.result =
     λ on low.
     let at = c.requires.at in
     let put : ℕ = slice_index c.args.pack.now.names.items place in
@@ -363,7 +375,7 @@ returns-in-Back-clause-child g c number first last is is_pack has_room limit mar
     let count : length names ≡ c.len-groups.result * 16 =
     omega (arith, is_pack.room.names, c.len-groups.ensures, c.args.pack.now.groups.ok.0) in
     let under : (at : ℕ) → at < length names → at / 16 < c.len-groups.result = λ at low. omega (arith, low, count) in
-    subst (λ end. IsOpenNode list cap width shop number (first_with end first job) (last_with end last job)
+    subst (λ end. IsOpenNode list cap width shop threshold (first_with end first job) (last_with end last job)
     c.args.pack.now (record {
       node = node;
       left = left;
@@ -372,9 +384,9 @@ returns-in-Back-clause-child g c number first last is is_pack has_room limit mar
     })) (sym c.in-Back.is) (record {
       is_node = is_node;
       has_left = has_left;
-      at_back = c.open_at-in-Back.ensures.children shop number (first_with Back first job) (last_with Back last job)
+      at_back = c.open_at-in-Back.ensures.children shop threshold (first_with Back first job) (last_with Back last job)
           limit is_node is_pack has_left;
-      at_front = kept-children list cap width shop number Back first last names job c.args.parent.now.node old left
+      at_front = kept-children list cap width shop threshold Back first last names job c.args.parent.now.node old left
           c.args.parent.now.front c.keep_children-in-Back.new.children is.is_node range fresh is.has_left has_left
           (cleared-was old.words left.words place c.clear.ensures.same c.clear.ensures.others)
           is_pack.room.jobs is.at_front
@@ -385,14 +397,42 @@ returns-in-Back-clause-child g c number first last is is_pack has_room limit mar
           let apart = cleared-apart kept.words begin.words place c.clear-in-Back.ensures.same
           c.clear-in-Back.ensures.others at cleared in
           (c.clear.ensures.others at apart ∙ is.at_front.within at low was, was))
-          (λ at low was also. c.keep_children-in-Back.ensures.exact shop number Front (first_with Back first job)
+          (λ at low was also. c.keep_children-in-Back.ensures.exact shop threshold Front (first_with Back first job)
           (last_with Back last job) (slice_index names at) node at limit room
           is_node rests (is_pack.room.jobs at low)
           (marked-left shop.jobs (first_with Back first job ++ last_with Back last job) left.words names has_left at
           low was) (under at low)
           (c.clear-in-Back.ensures.others at
           (cleared-apart old.words left.words place c.clear.ensures.same c.clear.ensures.others at was) ∙ also)
-          (λ machine none zero on. is.at_front.starts at machine none zero low also on))
-          (λ at none low one. c.keep_children-in-Back.ensures.copied at none (under at low) one)
+          (λ none.
+          let was_known = is.at_front.known at low also in
+          kept-starts list cap width shop Back first last names job old c.args.parent.now.front is.at_front at none
+          was_known.0 low (is.at_front.within at low also) was_known.1))
+          (λ at before low one was. c.keep_children-in-Back.ensures.known at before (under at low) one was)
+          (λ at none bounds low was same starts. c.keep_children-in-Back.ensures.whole shop Front (first_with Back first job)
+          (last_with Back last job) (slice_index names at) node at none bounds room is_node rests
+          (is_pack.room.jobs at low)
+          (marked-left shop.jobs (first_with Back first job ++ last_with Back last job) left.words names has_left at
+          low was) (under at low) same starts)
           (c.keep_children-in-Back.ensures.count names count);
     })
+
+pub open_at-requires-clause-bounds : goal.open_at-requires-clause-bounds
+open_at-requires-clause-bounds g c = c.requires.at.11.front_bounds
+
+pub keep_children-requires-clause-bounds : goal.keep_children-requires-clause-bounds
+keep_children-requires-clause-bounds g c =
+    let long = c.args.pack.now.groups.ok.0 in (
+      omega (arith, c.requires.at.10.back_bounds, c.len-groups.ensures, long),
+      omega (arith, c.requires.at.11.back_bounds, c.len-groups.ensures, long),
+    )
+
+pub open_at-requires-in-Back-clause-bounds : goal.open_at-requires-in-Back-clause-bounds
+open_at-requires-in-Back-clause-bounds g c = c.requires.at.11.back_bounds
+
+pub keep_children-requires-in-Back-clause-bounds : goal.keep_children-requires-in-Back-clause-bounds
+keep_children-requires-in-Back-clause-bounds g c =
+    let long = c.args.pack.now.groups.ok.0 in (
+      omega (arith, c.requires.at.10.front_bounds, c.len-groups.ensures, long),
+      omega (arith, c.requires.at.11.front_bounds, c.len-groups.ensures, long),
+    )

@@ -36,10 +36,10 @@ loop-group-preserved g c =
       names = c.loop-group.invariant.names;
       bytes = c.loop-group.invariant.bytes;
       count = length-set groups group vector ∙ c.loop-group.invariant.count;
-      done = groups-more c.args.instance.now groups group vector long g.V.Lanes.list g.V.Lanes.CAP g.V.Lanes.WIDTH names
+      done = groups-more c.args.instance.now groups group vector long g.V.Vector.list g.V.Vector.CAP g.V.Vector.WIDTH names
           c.loop-group.invariant.done
-          (subst (IsGroup g.V.Lanes.list g.V.Lanes.CAP g.V.Lanes.WIDTH c.args.instance.now
+          (subst (IsGroup g.V.Vector.list g.V.Vector.CAP g.V.Vector.WIDTH c.args.instance.now
           (take 16 (drop (group * 16) names))) (sym is)
-          (subst (λ l. IsGroup g.V.Lanes.list g.V.Lanes.CAP g.V.Lanes.WIDTH c.args.instance.now l
+          (subst (λ l. IsGroup g.V.Vector.list g.V.Vector.CAP g.V.Vector.WIDTH c.args.instance.now l
           c.turn_group.new.group) part c.turn_group.ensures));
     }

@@ -12,6 +12,6 @@ invariant-loop-group g l = record {
   count : length l.self.groups.items ≡ length l.fn.self.groups.items;
   bytes : l.self.bytes ≡ l.fn.self.bytes;
   done : (group : ℕ) (none : Vec g.row.V.Denot) → group < l.group →
-      IsGroup g.V.Lanes.list g.V.Lanes.CAP g.V.Lanes.WIDTH l.instance
+      IsGroup g.V.Vector.list g.V.Vector.CAP g.V.Vector.WIDTH l.instance
       (take 16 (drop (group * 16) l.self.names.items)) (slice_index_or l.self.groups.items group none).items;
 }

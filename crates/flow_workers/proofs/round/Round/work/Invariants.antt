@@ -6,4 +6,4 @@ use Rattle.flow_workers.proofs.round.Round.work.Given as goal
 abbrev pub invariant-taken : goal.invariant-taken
 invariant-taken l =
     All (HasPlace l.self.dealt.now) l.replies.items
-    × All (StandsFor l.self.sought.now.instance.now l.self.sought.now.number l.self.dealt.now) l.replies.items
+    × All (StandsFor l.self.sought.now.instance.now l.self.sought.now.threshold l.self.dealt.now) l.replies.items

@@ -44,9 +44,9 @@ pack-requires-clause-count g c =
 pub returns-then-fits_fewer-clause-packs : goal.returns-then-fits_fewer-clause-packs
 returns-then-fits_fewer-clause-packs g c =
     let shop = c.args.instance.now in
-    let list = g.V.Lanes.list in
-    let cap = g.V.Lanes.CAP in
-    let width = g.V.Lanes.WIDTH in
+    let list = g.V.Vector.list in
+    let cap = g.V.Vector.CAP in
+    let width = g.V.Vector.WIDTH in
     let put : ArePacks list cap width shop (c.args.left + 1) c.put.new.self.packs.items =
     subst (λ ps. ArePacks list cap width shop (c.args.left + 1) ps.items) (sym c.put.ensures.packs) c.requires.packs in
     packs-packed list cap width shop c.args.left c.put.new.self.packs.items c.pack.new.self.packs.items
@@ -55,9 +55,9 @@ returns-then-fits_fewer-clause-packs g c =
 pub returns-else-fits_fewer-clause-packs : goal.returns-else-fits_fewer-clause-packs
 returns-else-fits_fewer-clause-packs g c =
     let shop = c.args.instance.now in
-    let list = g.V.Lanes.list in
-    let cap = g.V.Lanes.CAP in
-    let width = g.V.Lanes.WIDTH in
+    let list = g.V.Vector.list in
+    let cap = g.V.Vector.CAP in
+    let width = g.V.Vector.WIDTH in
     let put : ArePacks list cap width shop (c.args.left + 1) c.put.new.self.packs.items =
     subst (λ ps. ArePacks list cap width shop (c.args.left + 1) ps.items) (sym c.put.ensures.packs) c.requires.packs in
     packs-below list cap width shop c.args.left c.put.new.self.packs.items

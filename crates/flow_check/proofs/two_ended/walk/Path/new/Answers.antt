@@ -57,9 +57,9 @@ returns-clause-packs g c =
             (λ apart. here_is.byte_rooms place none (omega (arith, low, length-set old at new)));
       };
       packed = λ more none high low.
-          subst (λ n. IsPack g.V.Lanes.list g.V.Lanes.CAP g.V.Lanes.WIDTH shop (slice_index_or (set old at new) n none))
+          subst (λ n. IsPack g.V.Vector.list g.V.Vector.CAP g.V.Vector.WIDTH shop (slice_index_or (set old at new) n none))
           (last_of more high low)
-          (subst (IsPack g.V.Lanes.list g.V.Lanes.CAP g.V.Lanes.WIDTH shop) (sym (pack none)) c.fill_all.ensures.pack);
+          (subst (IsPack g.V.Vector.list g.V.Vector.CAP g.V.Vector.WIDTH shop) (sym (pack none)) c.fill_all.ensures.pack);
       bytes = λ more none high low.
           subst (λ n. AreBytes shop (slice_index_or (set old at new) n none)) (last_of more high low)
           (subst (AreBytes shop) (sym (pack none)) bytes);

@@ -1,4 +1,4 @@
-use Rattle.std.proofs.Common.{◌≡◌, ◌-◌, ◌<◌, length, slice_index_or, ap, sym, ◌∙◌, subst, inl, inr, arith}
+use Rattle.std.proofs.Common.{◌≡◌, ◌-◌, ◌<◌, length, slice_index_or, ap, sym, ◌∙◌, subst, arith}
 use Rattle.std.proofs.lemmas.List.{get_or-set_same, get_or_default}
 use Rattle.flow_nodes.specs.Nodes.{IsNode}
 use Rattle.flow_nodes.specs.Marks.{chosen}
@@ -7,22 +7,8 @@ use Rattle.flow_check.specs.internal.Frames.{here, names_at}
 use Rattle.flow_check.proofs.PackNames.{names-is}
 use Rattle.flow_check.proofs.two_ended.walk.Path.open.Goals as goal
 
-pub mark_below-requires-clause-constant : goal.mark_below-requires-clause-constant
-mark_below-requires-clause-constant g c =
-    let packs = c.args.self.now.packs.items in
-    let pack = c.index.result.now in
-    let pack_is : pack ≡ slice_index_or packs (c.args.groups - 1) pack = c.index.ensures in
-    elim c.requires.constant [
-      | inl none ↦ inl none
-      | inr all ↦
-          inr (λ group other low.
-          all.each pack group other
-          (omega (arith, low, ap (λ p. length p.groups.items) pack_is))
-          ∙ ap (λ p. length (slice_index_or p.groups.items group other).items) (sym pack_is))
-    ]
-
 pub returns-clause-below : goal.returns-clause-below
-returns-clause-below g c shop number first last ready =
+returns-clause-below g c shop threshold first last ready =
     let path = c.args.self.now in
     let packs = path.packs.items in
     let at = c.args.groups - 1 in
@@ -44,9 +30,9 @@ returns-clause-below g c shop number first last ready =
       job = frame.job;
     }) _ c.requires.within)
     ∙ ap (chosen below.words) names
-    ∙ c.mark_below.ensures.below shop number first last ready.limit
+    ∙ c.mark_below.ensures.below shop threshold first last ready.limit
     (subst (λ f. IsNode shop first last f.node) frame_is ready.is_node)
-    (subst (IsPack g.V.Lanes.list g.V.Lanes.CAP g.V.Lanes.WIDTH shop) (sym pack_is) (ready.is_pack pack))
+    (subst (IsPack g.V.Vector.list g.V.Vector.CAP g.V.Vector.WIDTH shop) (sym pack_is) (ready.is_pack pack))
     (subst (AreBytes shop) (sym pack_is) (ready.bytes pack))
     (subst (λ f. HasLeft shop first last pack.names.items f.left) frame_is
     (subst (λ ns. HasLeft shop first last ns (here path).left) names ready.has_left))

@@ -1,7 +1,7 @@
 use Rattle.std.proofs.Common.{◌≡◌, ◌-◌, false, ◌++◌, slice_index, ap, sym, ◌∙◌, arith}
 use Rattle.std.proofs.lemmas.List.{get_or_read}
 use Rattle.flow_shop.specs.Sequences.{has}
-use Rattle.flow_nodes.specs.Lanes.{capped}
+use Rattle.flow_nodes.specs.Vectors.{capped}
 use Rattle.flow_nodes.specs.Groups.{child_bound}
 use Rattle.flow_improve.specs.internal.Beams.{first_of, job_at, last_of}
 use Rattle.flow_improve.proofs.EntrySteps.{is-left}

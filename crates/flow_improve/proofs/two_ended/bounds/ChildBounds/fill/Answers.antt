@@ -3,7 +3,7 @@ use Rattle.std.proofs.Common.{ap, sym, ◌∙◌, subst, inl, inr, arith}
 use Rattle.std.proofs.lemmas.Bool.{cases_lt, false≢true}
 use Rattle.std.proofs.lemmas.List.{length-take, length-drop}
 use Rattle.flow_shop.specs.declared.end.End.TheVariants.{Front, Back}
-use Rattle.flow_nodes.specs.Lanes.{capped}
+use Rattle.flow_nodes.specs.Vectors.{capped}
 use Rattle.flow_nodes.specs.Groups.{IsGroup, child_bound}
 use Rattle.flow_improve.specs.internal.Beams.{job_at}
 use Rattle.flow_improve.proofs.BoundSteps.{lane-written, left-at}
@@ -66,21 +66,21 @@ loop-group-preserved g c =
                       let there : (job - 1) / 16 ≡ group = omega (arith, above, under) in
                       let named = c.requires.groups.each group w.index-groups-group.result c.loop-group-test.true in
                       let vectors = w.as_slice-times.ensures.value ∙ ap (λ v. v.items) w.index-groups-group.is in
-                      let of_group : IsGroup g.V.Lanes.list g.V.Lanes.CAP g.V.Lanes.WIDTH shop named.0
+                      let of_group : IsGroup g.V.Vector.list g.V.Vector.CAP g.V.Vector.WIDTH shop named.0
                       w.as_slice-times.result.now =
-                      subst (IsGroup g.V.Lanes.list g.V.Lanes.CAP g.V.Lanes.WIDTH shop named.0) (sym vectors) named.2 in
-                      let full : g.V.Lanes.CAP ≡ c.if-used-group.self.cap =
+                      subst (IsGroup g.V.Vector.list g.V.Vector.CAP g.V.Vector.WIDTH shop named.0) (sym vectors) named.2 in
+                      let full : g.V.Vector.CAP ≡ c.if-used-group.self.cap =
                       sym c.requires.cap ∙ sym c.loop-group.invariant.cap ∙ cap in (
                         λ first last node fresh.
                             ap (λ b. slice_index b.front (job - 1)) w.self-is
-                            ∙ lane-written g.V.Lanes.list g.V.Lanes.CAP g.V.Lanes.WIDTH shop entry Front group named.0
+                            ∙ lane-written g.V.Vector.list g.V.Vector.CAP g.V.Vector.WIDTH shop entry Front group named.0
                             w.as_slice-times.result.now w.child_bounds-fronts.result w.write_lanes.new.numbers place
                             c.requires.wide c.requires.entry from low there named.1 of_group
                             w.child_bounds-fronts.ensures w.write_lanes.ensures.here first last node fresh
                             ∙ ap (λ n. capped n (child_bound shop Front first last job)) full,
                         λ first last node fresh.
                             ap (λ b. slice_index b.back (job - 1)) w.self-is
-                            ∙ lane-written g.V.Lanes.list g.V.Lanes.CAP g.V.Lanes.WIDTH shop entry Back group named.0
+                            ∙ lane-written g.V.Vector.list g.V.Vector.CAP g.V.Vector.WIDTH shop entry Back group named.0
                             w.as_slice-times.result.now w.child_bounds-backs.result
                             w.write_lanes-then-used-group.new.numbers place c.requires.wide c.requires.entry from low
                             there named.1 of_group w.child_bounds-backs.ensures

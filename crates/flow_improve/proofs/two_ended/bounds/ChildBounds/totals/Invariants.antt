@@ -8,7 +8,7 @@ abbrev pub invariant-loop-place : goal.invariant-loop-place
 invariant-loop-place l = record {
   few : l.below + l.entry.first ≤ l.place;
   counted : l.below
-      ≡ count_by (λ job. nat_lt (bound_at_end l.instance l.entry l.end job) l.number)
+      ≡ count_by (λ job. nat_lt (bound_at_end l.instance l.entry l.end job) l.threshold)
       (take (l.place - l.entry.first) (left_of l.entry));
   small : l.sum + l.entry.first * 4294967295 ≤ l.place * 4294967295;
   summed : l.sum

@@ -1,5 +1,0 @@
-use Rattle.flow_nodes.proofs.PairLanes.{from-pair}
-use Rattle.flow_nodes.proofs.lanes.U16x16Lanes.from_pair.Goals as goal
-
-pub returns : goal.returns
-returns c number lane fits is within = from-pair number c.args.pair lane fits is within
