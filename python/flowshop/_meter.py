@@ -56,10 +56,9 @@ class Meter:
             return self._done + sum(max(0.0, _read(clock) - begun) for clock, begun in self._begun.items())
 
 
-def timed(words: Tuple[Callable[[Any], _T], Any]) -> Tuple[_T, float]:
+def timed(call: Callable[[Any], _T], word: Any) -> Tuple[_T, float]:
     """What a call gives of a word, and how many seconds of the processor it took. It is what a worker is given to
     call."""
-    call, word = words
 
     def measured() -> Tuple[_T, float]:
         begun = time.thread_time()

@@ -46,7 +46,7 @@ a { color: inherit; }
 @page { size: A4; margin: 14mm; }
 @page across { size: A4 landscape; }
 @media print {
-  body { font-size: 10pt; max-width: none; margin: 0; padding: 0; }
+  body { font: 10pt/1.4 "Liberation Sans", Arial, sans-serif; max-width: none; margin: 0; padding: 0; }
   figure { overflow: visible; }
   svg { width: 100%; min-width: 0; }
   a { text-decoration: none; }

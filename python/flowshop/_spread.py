@@ -344,7 +344,7 @@ class Spread:
             self._map = self._threads.map
         if self._workers.meter is None:
             return iter(self._map(call, words))
-        return Metered(self._map(timed, [(call, word) for word in words]), self._workers.meter)
+        return Metered(self._map(functools.partial(timed, call), words), self._workers.meter)
 
     def prove(self, number: int, budget: int) -> Found:
         """What a search below a number comes to, with a budget of directions. Where beams are not given to workers, a
