@@ -10,8 +10,8 @@
 //! - `titles.rt`: the titles of certificates, and the last line of each.
 //! - `number.rt`: decimal numbers of a text.
 //! - `two_ended.rt`: the checker of two-ended certificates.
-//! - `two_ended/heading.rt`: their lines before the directions.
-//! - `two_ended/walk.rt`: the walk through the nodes that directions open.
+//! - `two_ended/heading.rt`: their lines 1 to 4, before the directions.
+//! - `two_ended/walk.rt`: their line 5, the walk through the nodes that directions open.
 //! - `checker.rt`: the checker of certificates with trees.
 //! - `heading.rt`: their lines before the trees.
 //! - `trees.rt`: the trees.

@@ -1,4 +1,5 @@
-//! The checker of two-ended certificates.
+//! The checker of two-ended certificates. Lines 1 to 4 are read in `heading.rt`, line 5 in `walk.rt`, and the last line
+//! here.
 
 ghost use Rattle.std.specs.Prelude.{◌≡◌, ◌⊎◌, ◌∷◌, ℕ, List, IfOk, IfErr, IsOkAnd, OnOk, Err};
 ghost use Rattle.flow_shop.specs.Characters.{line_feed};
@@ -12,7 +13,6 @@ ghost use Rattle.flow_check.specs.declared.bounds.Bounds.{Bounds};
 ghost use Rattle.flow_check.specs.declared.fault.CheckFault.TheVariants.{Memory};
 
 pub(crate) mod heading;
-mod marked;
 mod walk;
 
 use crate::checker::is_ending;

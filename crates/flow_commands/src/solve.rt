@@ -90,8 +90,8 @@ fn asked_plan<'a>(
     Ok(plan_of(alloc, instance, given, options)?)
 }
 
-/// How a block is solved: by which threads, past which gate, and as a request says. This is no `Command`: the kit proves
-/// no method of a trait yet that hands a gate to threads.
+/// How a block is solved: by which threads, past which gate, and as a request says. This is no `Command`: the kit
+/// proves no method of a trait yet that hands a gate to threads.
 #[derive(Drop)]
 pub(crate) struct Solve<'a, R, G> {
     pub(crate) rt: &'a R,

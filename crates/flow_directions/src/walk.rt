@@ -23,7 +23,7 @@ use std::alloc::{AllocError, Global};
 /// What a search is to prove, and with how much.
 #[derive(Clone, Copy)]
 pub(crate) struct Terms {
-    /// The number.
+    /// The threshold.
     pub(crate) threshold: u64,
     /// The most directions.
     pub(crate) budget: u64,

@@ -1,8 +1,8 @@
 //! The children of a node that are below a threshold, where few groups have the jobs left: from the numbers of the
 //! node, four machines at a time, with no vectors that the groups share.
 
-ghost use Rattle.std.specs.Prelude.{◌≡◌, ◌⊎◌, ℕ, ◌+◌, ◌/◌, ◌%◌, ◌<◌, ◌≤◌, ◌↔◌, false, max, List, ◌++◌, length, slice_index};
-ghost use Rattle.std.specs.Prelude.{slice_index_or, IsBitSet};
+ghost use Rattle.std.specs.Prelude.{◌≡◌, ◌⊎◌, ℕ, ◌+◌, ◌/◌, ◌%◌, ◌<◌, ◌≤◌, ◌↔◌, false, max, List, ◌++◌, length};
+ghost use Rattle.std.specs.Prelude.{slice_index, slice_index_or, IsBitSet};
 ghost use Rattle.std.specs.Global.{Vec};
 ghost use Rattle.flow_limits.specs.Limits.{most_machines};
 ghost use Rattle.flow_shop.specs.Shop.{Shop};

@@ -8,15 +8,17 @@
 //! - `marks.rt`: marks of places, sixteen to a word.
 //! - `limit.rt`: the threshold, in the bits that lanes have.
 //! - `pairs.rt`: what the groups of a node share at an end.
-//! - `passes.rt`: when the jobs of a group start at an end of a node.
+//! - `passes.rt`: when the jobs of a group start at an end of a node, and which of the children are below a threshold.
 //! - `starts.rt`: the bounds of children, from when their jobs start.
 //! - `bounds.rt`: the bounds of the children that put the jobs of a group at an end.
 //! - `few_groups.rt`: the children below a threshold, where few groups have the jobs left.
-//! - `bytes.rt`: the children at or above a threshold, as far as numbers of one byte tell.
-//! - `opener.rt`: opens nodes for the checker: the children below a threshold.
+//! - `bytes.rt`: the children at or above a threshold, as far as numbers of one byte tell: these are pruned.
+//! - `opener.rt`: `Opener::mark_below` opens a node at one end, for the checker, and prunes children by `bytes.rt` and
+//!   `few_groups.rt`.
 //! - `scan.rt`: the numbers of a child.
 //! - `open.rt`: nodes that are opened at both ends, and the memory for them.
-//! - `opening.rt`: how nodes are opened at both ends, and their children made.
+//! - `opening.rt`: `Opener::open` and `Opener::open_child` open nodes at both ends, for the search, and prune children
+//!   by `passes.rt`, or by `starts.rt` where the list at an end stays the same.
 //! - `plain_end.rt`: the plain rule for the end at which a node is opened.
 #![tactic(auto)]
 

@@ -101,6 +101,24 @@ impl Marks {
         None
     }
 
+    /// The first marked place of so many words.
+    #[inline(always)]
+    fn first_marked(&self, words: usize) -> Option<usize>
+        requires { words ≤ most_groups }
+        ensures within { IfSome result (λ place. place < words * 16) }
+        ensures marked { IfSome result (λ place. mark self.now.words place ≡ 1) }
+        ensures least { IfSome result (λ place. (other : ℕ) → other < place → mark self.now.words other ≡ 0) }
+        ensures none { IfNone result ((other : ℕ) → other < words * 16 → mark self.now.words other ≡ 0) }
+    {
+        for group in 0..words {
+            let word = self.words[group];
+            if word != 0 {
+                return Some(group * LANES + word.trailing_zeros() as usize);
+            }
+        }
+        None
+    }
+
     /// Takes the mark of the first marked place of so many words away. Returns the place.
     #[inline(always)]
     pub fn pop(&mut self, words: usize) -> Option<usize>
@@ -118,7 +136,11 @@ impl Marks {
         ensures none { IfNone result ((names : List ℕ) → length names ≡ words * 16 →
             chosen self.old.words names ≡ []) }
     {
-        self.pop_from(0, words)
+        let Some(first) = self.first_marked(words) else {
+            return None;
+        };
+        self.clear(first);
+        Some(first)
     }
 
     /// The same, where no place before one is marked.

@@ -1,8 +1,9 @@
-//! The children of a node that are below a threshold: where there are many groups, those of which bytes do not tell
-//! that they are not, and of these the ones that are.
+//! Opens nodes at one end for the checker: `Opener::mark_below` marks the children there that are below a threshold,
+//! and the others are pruned. Where there are many groups, `bytes.rt` first tells of most children that they are not
+//! below it; of those that remain `few_groups.rt` tells which are. `opening.rt` opens nodes at both ends.
 
-ghost use Rattle.std.specs.Prelude.{◌≡◌, ◌⊎◌, ℕ, ◌+◌, ◌/◌, ◌%◌, ◌<◌, ◌≤◌, ◌↔◌, true, false, List, ◌++◌, length, slice_index};
-ghost use Rattle.std.specs.Prelude.{slice_index_or, IsBitSet, IfOk};
+ghost use Rattle.std.specs.Prelude.{◌≡◌, ◌⊎◌, ℕ, ◌+◌, ◌/◌, ◌%◌, ◌<◌, ◌≤◌, ◌↔◌, true, false, List, ◌++◌, length};
+ghost use Rattle.std.specs.Prelude.{slice_index, slice_index_or, IsBitSet, IfOk};
 ghost use Rattle.std.specs.Global.{Vec};
 ghost use Rattle.flow_nodes.specs.declared.node.Node.{Node};
 ghost use Rattle.flow_shop.specs.Shop.{Shop};

@@ -1,4 +1,5 @@
-//! Opens nodes at both ends, and makes children that are opened at both ends.
+//! Opens nodes at both ends for the search: `Opener::open` opens a node, and `Opener::open_child` makes and opens a
+//! child. Both mark the children at each end that are below a threshold, and the others are pruned.
 
 ghost use Rattle.std.specs.Prelude.{◌≡◌, ◌⊎◌, ℕ, ◌-◌, ◌*◌, ◌/◌, ◌%◌, ◌<◌, ◌≤◌, ◌↔◌, false, List, ◌++◌, length};
 ghost use Rattle.std.specs.Prelude.{slice_index, slice_index_or, Some, None};
@@ -57,8 +58,8 @@ fn where_known<V: Vector>(parent: Option<V>, bounds: V) -> Option<V>
 }
 
 impl<V: Vector> Opener<V> {
-    /// Finds the children of a node at an end that are below the threshold, and when their jobs start there, among the
-    /// jobs left that stand in the groups, from what the groups share there.
+    /// Finds the children of a node at an end that are below the threshold (the others are pruned), and when their jobs
+    /// start there, among the jobs left that stand in the groups, from what the groups share there.
     #[inline(always)]
     fn find_children<const M: usize, const ONE: bool>(
         &self,

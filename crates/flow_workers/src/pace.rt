@@ -103,8 +103,8 @@ impl Pace {
     }
 }
 
-/// The most directions of a round for each worker, where there are so many jobs: about those of a quarter of a second, or
-/// of half a second where bounds need 32 bits, since a run asks between two rounds whether its time is over.
+/// The most directions of a round for each worker, where there are so many jobs: about those of a quarter of a second,
+/// or of half a second where bounds need 32 bits, since a run asks between two rounds whether its time is over.
 fn most_of_worker(jobs: u16) -> u64
     ensures { 1 ≤ result }
 {

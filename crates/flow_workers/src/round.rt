@@ -57,7 +57,8 @@ impl<'a> Round<'a> {
     fn work(&self) -> Result<Vec<Reply>, AllocError>
         ensures places { IfOk result (λ replies. All (HasPlace self.now.dealt.now) replies.items) }
         ensures stand { IfOk result (λ replies. All
-            (StandsFor self.now.sought.now.instance.now self.now.sought.now.threshold self.now.dealt.now) replies.items) }
+            (StandsFor self.now.sought.now.instance.now self.now.sought.now.threshold self.now.dealt.now)
+            replies.items) }
     {
         let mut replies = Vec::new(self.sought.alloc);
         'taken: for _ in 0..self.dealt.len() {

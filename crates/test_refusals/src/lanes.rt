@@ -1,4 +1,4 @@
-//! Vector.
+//! Lanes between threads.
 
 use flow_commands::CommandFault;
 use flow_lanes::{lane, settle};

@@ -4,7 +4,7 @@ use crate::searches::{ANY, effort_of, start_of};
 use flow_certify::{Certified, MostDirections, certify};
 use flow_core::{Instance, generate};
 use flow_directions::{Alone, Found, News, Prover};
-use flow_improve::{Deadline, improve_until};
+use flow_improve::{BeamLimits, Deadline, beam_until, improve, improve_until};
 use std::alloc::{AllocError, Global};
 use std::cell::Cell;
 use std::test::Fail;
@@ -214,5 +214,42 @@ fn improve_gives_its_best_at_any_moment(rt: HostRuntime) -> Result<(), Fail> {
         value = reached.value;
     }
     assert_eq!(rt; value, last.value);
+    Ok(())
+}
+
+/// A beam of width 1 makes two passes. It asks before each, and in each before each of the 20 jobs.
+#[test]
+fn a_beam_asks_before_each_job(rt: HostRuntime) -> Result<(), Fail> {
+    let (jobs, machines, seed) = SHOP;
+    let instance = generate(rt.alloc(), jobs, machines, seed)?;
+    let start = start_of(rt.alloc(), &instance, ANY).ok_or("no start")?;
+    let limits = BeamLimits {
+        below: None,
+        width: 1,
+        work: u64::MAX,
+    };
+    let time = Time::new(u64::MAX);
+    beam_until(rt.alloc(), &instance, &start, limits, &time)?;
+    assert!(rt; time.asked.get() >= 2 * (1 + 20), "{}", time.asked.get());
+    Ok(())
+}
+
+/// Without a beam the time is asked for once, and then before each round: where it is over once it was asked for more
+/// often than 1 and so many rounds, these rounds are made.
+#[test]
+fn rounds_end_where_the_time_is_over(rt: HostRuntime) -> Result<(), Fail> {
+    let (jobs, machines, seed) = SHOP;
+    let instance = generate(rt.alloc(), jobs, machines, seed)?;
+    let start = start_of(rt.alloc(), &instance, ANY).ok_or("no start")?;
+    let effort = effort_of([0, 100, 1, 100]).ok_or("no effort")?;
+    for rounds in 0..12_u32 {
+        let time = Time::new(u64::from(rounds) + 1);
+        let reached = improve_until(rt.alloc(), &instance, &start, &effort, &time)?;
+        assert_eq!(rt; time.asked.get(), u64::from(rounds) + 2, "{rounds}");
+        let few = effort_of([0, rounds, 1, 100]).ok_or("no effort")?;
+        let made = improve(rt.alloc(), &instance, &start, &few)?;
+        assert_eq!(rt; reached.value, made.value, "{rounds}");
+        assert!(rt; reached.sequence == made.sequence, "{rounds}");
+    }
     Ok(())
 }

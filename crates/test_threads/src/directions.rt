@@ -1,6 +1,6 @@
 //! The search for directions on several threads.
 
-use flow_directions::{Found, prove};
+use flow_directions::{Found, Prover, prove};
 use flow_generator::generate;
 use flow_shop::Instance;
 use flow_workers::{News, Watch, Workers, prove_by};
@@ -25,11 +25,13 @@ static PUBLISHED: [Published; 5] = rows! {
 /// How many workers there are.
 const WORKERS: [usize; 6] = [0, 1, 2, 3, 4, 64];
 
-/// Keeps how many directions it was told of last, whether they ever became fewer, and how often it was told.
+/// Keeps how many directions it was told of last, whether they ever became fewer, the most by which they grew at once,
+/// and how often it was told. Where its time is limited, it need not be told.
 #[derive(Drop)]
 struct Told {
     last: Cell<u64>,
     fell: Cell<bool>,
+    longest: Cell<u64>,
     times: Cell<u64>,
     /// How often it was asked whether the time is over, and after how often it is.
     asked: Cell<u64>,
@@ -47,6 +49,7 @@ impl Told {
         Told {
             last: Cell::new(0),
             fell: Cell::new(false),
+            longest: Cell::new(0),
             times: Cell::new(0),
             asked: Cell::new(0),
             most,
@@ -58,7 +61,7 @@ impl Watch for Told {
     fn begin(&self, _asked: bool, _seconds: Option<u32>) {}
 
     fn is_on(&self) -> bool {
-        true
+        !self.is_limited()
     }
 
     fn tell(&self, _instance: &Instance, news: News) {
@@ -66,6 +69,8 @@ impl Watch for Told {
             if directions < self.last.get() {
                 self.fell.set(true);
             }
+            let more = directions.saturating_sub(self.last.get());
+            self.longest.set(self.longest.get().max(more));
             self.last.set(directions);
             self.times.set(self.times.get().saturating_add(1));
         }
@@ -94,7 +99,7 @@ fn is_published<R: Threads + Sync>(rt: &R, alloc: Global, row: &Published, worke
         count: workers,
         watch: &told,
     };
-    let Ok(Some(Found::Proved(text))) = prove_by(&workers, alloc, &instance, number, length) else {
+    let Ok(Some(Found::Proved(text))) = workers.prove(alloc, &instance, number, length) else {
         return false;
     };
     let begins = Sha256::digest(text.as_slice()).starts_with(&digest);
@@ -170,7 +175,7 @@ fn rounds_grow_with_the_directions(rt: HostRuntime) {
 /// Workers, and how often a watch is asked whether the time is over before it is: after 0 rounds, 1 and 5.
 static ENDS: [(usize, u64); 6] = [(1, 0), (1, 1), (1, 5), (4, 0), (4, 1), (4, 5)];
 
-/// A search ends with nothing where its time is over, and is asked no more then.
+/// A search ends with nothing where its time is over, and asks no more then; also by one worker.
 #[test]
 fn a_search_ends_where_its_time_is_over(rt: HostRuntime) -> Result<(), Fail> {
     let (jobs, machines, seed, number, length, _) = PUBLISHED[1];
@@ -182,10 +187,31 @@ fn a_search_ends_where_its_time_is_over(rt: HostRuntime) -> Result<(), Fail> {
             count: *count,
             watch: &told,
         };
-        let found = prove_by(&workers, rt.alloc(), &instance, number, length)?;
+        let found = workers.prove(rt.alloc(), &instance, number, length)?;
         assert_eq!(rt; found, None, "{count} workers, {most}");
         assert_eq!(rt; told.asked.get(), most.saturating_add(1), "{count} workers");
         assert!(rt; told.last.get() < length, "{count} workers, {most}");
     }
+    Ok(())
+}
+
+/// Jobs, machines and seed of a published instance, a threshold, and directions that do not prove it.
+const MANY_JOBS: (u32, u32, u32, u64, u64) = (200, 20, 2_013_025_619, 11_564, 700_000);
+
+/// A round of one worker has here at most 375,000,000 / (26 * 200 + 450) directions, which are 66,371, and up to 499
+/// more. An eighth of those so far would be more than 70,000 behind 560,000.
+#[test]
+fn rounds_of_many_jobs_are_short(rt: HostRuntime) -> Result<(), Fail> {
+    let (jobs, machines, seed, number, budget) = MANY_JOBS;
+    let instance = generate(rt.alloc(), jobs, machines, seed)?;
+    let told = Told::nothing();
+    let workers = Workers {
+        rt: &rt,
+        count: 1,
+        watch: &told,
+    };
+    let found = workers.prove(rt.alloc(), &instance, number, budget)?;
+    assert_eq!(rt; found, Some(Found::Over));
+    assert!(rt; told.longest.get() <= 70_000, "{}", told.longest.get());
     Ok(())
 }

@@ -1,4 +1,4 @@
-//! The lines of a two-ended certificate before its directions.
+//! Lines 1 to 4 of a two-ended certificate, before its directions.
 
 ghost use Rattle.std.specs.Prelude.{◌≡◌, ℕ, ◌++◌, List, IfOk, IfSome, IfErr};
 ghost use Rattle.std.specs.Option.{IsSomeAnd};

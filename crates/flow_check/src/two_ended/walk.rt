@@ -1,4 +1,5 @@
-//! The walk through the nodes that directions open: where the directions end that prove a threshold.
+//! Line 5 of a two-ended certificate: the walk through the nodes that directions open, which finds where the directions
+//! end that prove a threshold.
 
 ghost use Rattle.std.specs.Prelude.{◌≡◌, ◌≢◌, ◌⊎◌, ℕ, ◌+◌, ◌-◌, ◌*◌, ◌%◌, ◌≤◌, ◌<◌, true, false, List, [], ◌∷◌, ◌++◌};
 ghost use Rattle.std.specs.Prelude.{length, drop, take, slice_index, slice_index_or, Err, IfOk, IfErr, IfSome, IfNone};
@@ -20,7 +21,6 @@ ghost use Rattle.flow_check.specs.declared.fault.CheckFault.TheVariants.{Memory}
 
 use crate::fault::CheckFault;
 use crate::two_ended::DIRECTIONS;
-use crate::two_ended::marked::pop_marked;
 use flow_nodes::{LANES, Marks, Node, Opener, Pack, Vector, fits_narrow_lanes, limit_of};
 use flow_shop::{End, Instance, Row, rows};
 use std::alloc::{AllocError, Global};
@@ -340,7 +340,7 @@ impl<V: Vector> Path<V> {
             (chosen (here self.old).below.words (names_at self.old.packs.items (groups - 1)) ≡ []) }
     {
         let frame = &mut self.frames[self.depth];
-        let place = pop_marked(&mut frame.below, groups)?;
+        let place = frame.below.pop(groups)?;
         frame.job = self.packs[groups - 1].names[place];
         Some(place)
     }

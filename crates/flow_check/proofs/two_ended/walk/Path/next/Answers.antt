@@ -33,7 +33,7 @@ returns-clause-job g c =
       node = frame.node;
       left = frame.left;
       end = frame.end;
-      below = c.pop_marked.new.marks;
+      below = c.pop.new.self;
       job = job;
     }) _ c.requires.within)
     ∙ get_or_read pack.names.items place job inside c.index-2.ensures 0
@@ -62,11 +62,11 @@ returns-clause-first g c =
     ∙ sym (get_or_read pack.names.items place job inside c.index-2.ensures 0) in
     ap (λ f. chosen f.below.words all) frame_is
     ∙ c.in_ok-place.ensures.first all c.requires.names
-    ∙ ap (λ j. j ∷ chosen c.pop_marked.new.marks.words all) named
+    ∙ ap (λ j. j ∷ chosen c.pop.new.self.words all) named
     ∙ ap (λ f. f.job ∷ chosen f.below.words all) (sym (get_or-set_same path.frames.items path.depth (record {
       node = frame.node;
       left = frame.left;
       end = frame.end;
-      below = c.pop_marked.new.marks;
+      below = c.pop.new.self;
       job = job;
     }) _ c.requires.within))

@@ -1,11 +1,11 @@
 use Rattle.std.proofs.Common.{rules, ◌≡◌, ℕ, ◌*◌, ◌/◌, ◌%◌, ◌^◌, ◌<◌, slice_index, ap, sym, ◌∙◌, inl, inr, arith}
 use Rattle.std.proofs.lemmas.Bool.{cases_lt}
 use Rattle.flow_nodes.proofs.MarkSteps.{found, none-under}
-use Rattle.flow_check.proofs.two_ended.marked.first_marked.Goals as goal
+use Rattle.flow_nodes.proofs.marks.Marks.first_marked.Goals as goal
 
 pub returns-then-word-ne0-clause-marked : goal.returns-then-word-ne0-clause-marked
 returns-then-word-ne0-clause-marked c =
-    let words = c.args.marks.now.words in
+    let words = c.args.self.now.words in
     let group : ℕ = c.loop-group.group in
     let fits : slice_index words group < 2 ^ 16 = search rules in
     let there : group * 16 / 16 ≡ group = omega arith in
@@ -19,7 +19,7 @@ returns-then-word-ne0-clause-marked c =
 
 pub returns-then-word-ne0-clause-least : goal.returns-then-word-ne0-clause-least
 returns-then-word-ne0-clause-least c other low =
-    let words = c.args.marks.now.words in
+    let words = c.args.self.now.words in
     let group : ℕ = c.loop-group.group in
     let fits : slice_index words group < 2 ^ 16 = search rules in
     let there : group * 16 / 16 ≡ group = omega arith in
