@@ -475,7 +475,7 @@ class Shop(metaclass=Brief):
         10
         """
         if self._bound is None:
-            bound = Instance(*self._parts[:3]).root_bound(self._makespan(self._in_order()))
+            bound = Instance(*self._parts[:3]).run(self._in_order(), 1, False).lower
             object.__setattr__(self, "_bound", bound)
             return bound
         return self._bound
@@ -705,16 +705,16 @@ class Shop(metaclass=Brief):
     ) -> Certificate:
         """What certify comes to, by workers that share its searches, as long as the watch allows."""
         begun = self._begun(None) if start is None else start
-        run = Run(self._parts[:3], begun, self._makespan(begun), effort, directions)
+        run = Run(self._parts[:3], begun, effort, directions, watch.is_limited)
         try:
             run.search_until(watch, workers)
         except KeyboardInterrupt:
-            raise Interrupted(self._certificate(run.found())) from None
+            raise Interrupted(self._certificate(run.known)) from None
         except Exception as error:  # of the map, or of who is told how far it has come
             with suppress(Exception):  # there is no memory, or the error takes nothing
-                setattr(error, "result", self._certificate(run.found()))
+                setattr(error, "result", self._certificate(run.known))
             raise
-        return self._certificate(run.found())
+        return self._certificate(run.known)
 
     def _certificate(self, known: Known) -> Certificate:
         """The certificate of what is known."""

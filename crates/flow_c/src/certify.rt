@@ -43,7 +43,7 @@ struct Written {
 }
 
 /// The most directions, where they are within their limits.
-fn most_of(directions: u32) -> Result<MostDirections, Fault>
+pub(crate) fn most_of(directions: u32) -> Result<MostDirections, Fault>
     ensures same { IfOk result (λ most. most ≡ directions) }
     ensures accepted { OnOk result (directions_fault directions ≡ None) }
     ensures refused { IfErr result (λ fault. directions_fault directions ≡ Some fault) }
