@@ -673,11 +673,12 @@ class Shop(metaclass=Brief):
         threads; or by those of a `map`, such as that of a pool of processes, where `workers` says how many there are,
         if it is known. The certificate is the same for any number of workers and any map. After `time_limit` seconds it
         is one of the best bounds so far; with few seconds, less `work` and fewer `directions` may give better ones. A
-        run that ends before gives the same as one without a limit. `progress` is called with a Progress, a few times a
-        second; where it is True, a line on standard error tells the same. An interrupt ends the call within a second,
-        as Interrupted, whose `result` is a certificate of the best bounds so far; an error of `progress` or of the map
-        has such a `result` too. Without a map and a time limit the certificate was read by `check`. `by` is that of
-        `makespan`. Errors are those of `improve`, and those of the map.
+        run with a time limit raises the lower bound early, and may give another certificate also where it ends before.
+        `progress` is called with a Progress, a few times a second; where it is True, a line on standard error tells the
+        same. An interrupt ends the call within a second, as Interrupted, whose `result` is a certificate of the best
+        bounds so far; an error of `progress` or of the map has such a `result` too. Without a map and a time limit the
+        certificate was read by `check`. `by` is that of `makespan`. Errors are those of `improve`, and those of the
+        map.
 
         >>> certificate = shop.certify(workers=4, time_limit=60)
         >>> certificate.lower, certificate.upper

@@ -1,7 +1,10 @@
 -- Runs of `certify`, task by task: what is asked for, and what an answer changes.
-use Rattle.std.specs.Prelude.{ℕ, ◌≡◌, Bool, false, true, cond, nat_eq, Option, Some, None, ◌∷◌, [], List, not}
+use Rattle.std.specs.Prelude.{ℕ, ◌≡◌, Bool, false, true, cond, nat_eq, Option, Some, None, ◌∷◌, [], List, length, not}
 use Rattle.std.specs.Option.{option_map}
+use Rattle.flow_shop.specs.Shop.{Shop}
+use Rattle.flow_shop.specs.Paths.{span}
 use Rattle.flow_shop.specs.Refusals.{first_fault}
+use Rattle.flow_check.specs.TwoEnded.{two_ended_text}
 use Rattle.flow_certify.specs.Tasks.{HasSameBounds, IsAsked, lower_after, makespan_of, may_become}
 use Rattle.flow_certify.specs.declared.run.Run.{Run}
 use Rattle.flow_certify.specs.declared.task.Task.{Task}
@@ -11,7 +14,7 @@ use Rattle.flow_certify.specs.declared.task.Origin.TheVariants.{Start, Best, Bef
 use Rattle.flow_certify.specs.declared.task.Answer.{Answer}
 use Rattle.flow_certify.specs.declared.task.Answer.TheVariants.{Proved, Below, Over, Reached}
 use Rattle.flow_c.specs.Certify.{directions_fault}
-use Rattle.flow_c.specs.Faults.{makespan_fault}
+use Rattle.flow_c.specs.Faults.{makespan_fault, room_fault, shop_of}
 use Rattle.flow_improve.specs.declared.effort.EffortFault.{EffortFault}
 use Rattle.flow_c.specs.declared.fault.Fault.{Fault}
 use Rattle.flow_c.specs.declared.fault.Fault.TheVariants.{Effort, NoAnswer}
@@ -25,6 +28,18 @@ abbrev pub run_fault : ShopNumbers → List ℕ → ℕ → Option Fault
 run_fault numbers start directions = first_fault (
     makespan_fault numbers start
     ∷ directions_fault directions
+    ∷ [])
+
+-- the two-ended certificate of a sequence, with its makespan, and of a lower bound and directions
+abbrev pub kept_text : Shop → ℕ → List ℕ → List ℕ → List ℕ
+kept_text shop lower sequence directions =
+    two_ended_text shop (record { lower = lower; upper = span shop sequence }) sequence directions
+
+-- why there is no such text: the numbers are no instance, the jobs no sequence of it, or the text has no room
+abbrev pub text_fault : ShopNumbers → List ℕ → ℕ → List ℕ → ℕ → Option Fault
+text_fault numbers sequence lower directions bytes = first_fault (
+    makespan_fault numbers sequence
+    ∷ room_fault (length (kept_text (shop_of numbers) lower sequence directions)) bytes
     ∷ [])
 
 -- the number of the sequence from which a beam or rounds begin

@@ -24,7 +24,7 @@
 //! - `rounds.rt`: `flowshop_rounds`.
 //! - `solve.rt`: `flowshop_solve`.
 //! - `certify.rt`: `flowshop_certify`.
-//! - `run.rt`: `flowshop_run`, `flowshop_run_next` and `flowshop_run_put`.
+//! - `run.rt`: `flowshop_run`, `flowshop_run_next`, `flowshop_run_put` and `flowshop_run_text`.
 //! - `prove.rt`: `flowshop_prove`.
 //! - `check.rt`: `flowshop_check`.
 #![tactic(auto)]

@@ -1,28 +1,36 @@
 //! A run of `certify`, task by task.
 
-ghost use Rattle.std.specs.Prelude.{◌≡◌, ◌⊎◌, Bool, cond, None, IfOk, OnOk, IfErr, OnErr, []};
+ghost use Rattle.std.specs.Prelude.{◌≡◌, ◌⊎◌, ◌+◌, ◌≤◌, Bool, cond, None, IfOk, OnOk, IfErr, OnErr, [], length, drop};
 ghost use Rattle.std.specs.Option.{option_map};
 ghost use Rattle.flow_shop.specs.Paths.{span};
 ghost use Rattle.flow_shop.specs.Ends.{end_bound};
 ghost use Rattle.flow_c.specs.Statuses.{number, done, memory};
 ghost use Rattle.flow_c.specs.Faults.{shop_of, numbers_fault, fault_of_effort, IsFaultOf, IsDone, HasFault, Reports};
-ghost use Rattle.flow_c.specs.Runs.{IsNext, IsPut, IsPutFault, answer_of, origin_number, run_fault, task_numbers};
+ghost use Rattle.flow_c.specs.Rooms.{IsSameRoom, text_in};
+ghost use Rattle.flow_c.specs.Runs.{IsNext, IsPut, IsPutFault, answer_of, kept_text, origin_number, run_fault};
+ghost use Rattle.flow_c.specs.Runs.{task_numbers, text_fault};
+ghost use Rattle.flow_c.specs.internal.Around.{behind};
 ghost use Rattle.flow_c.specs.declared.fault.Fault.{Fault};
 ghost use Rattle.flow_c.specs.declared.fault.Fault.TheVariants.{Effort};
 
 use crate::beam::BeamOptions;
-use crate::certify::most_of;
+use crate::certify::{around, most_of, put};
 use crate::effort::EffortNumbers;
 use crate::fault::Fault;
 use crate::outcome::Outcome;
+use crate::room::need;
 use crate::rounds::RoundsOptions;
 use crate::shop::ShopNumbers;
+use crate::text::TextRoom;
 use flow_certify::{Answer, Origin, Run, Task};
-use flow_shop::Sequence;
+use flow_check::Bounds;
+use flow_shop::{Sequence, makespan};
+use flow_text::MemorySink;
 use std::alloc::Global;
 
 /// What a run asks for.
 #[repr(C)]
+#[derive(Drop)]
 pub struct TaskNumbers {
     /// 0 where nothing more is asked for; 1 for a search, 2 for a beam, and 3 for rounds.
     pub kind: u32,
@@ -143,8 +151,16 @@ fn numbers_of(task: Task) -> TaskNumbers
         from: 0,
         number: 0,
         budget: 0,
-        beam: BeamOptions { number: 0, width: 0, steps: 0 },
-        rounds: RoundsOptions { rounds: 0, seed: 0, steps: 0 },
+        beam: BeamOptions {
+            number: 0,
+            width: 0,
+            steps: 0,
+        },
+        rounds: RoundsOptions {
+            rounds: 0,
+            seed: 0,
+            steps: 0,
+        },
     };
     match task {
         Task::End => {}
@@ -192,7 +208,7 @@ pub extern "C" fn flowshop_run_next(
 }
 
 /// Takes what became of the task that is next. Returns whether its sequence becomes the best one.
-fn put(run: &mut Run, effort: &EffortNumbers, answer: &AnswerNumbers) -> Result<bool, Fault>
+fn take(run: &mut Run, effort: &EffortNumbers, answer: &AnswerNumbers) -> Result<bool, Fault>
     ensures put { IfOk result (IsPut run.old run.new answer.now) }
     ensures accepted { OnOk result (fault_of_effort effort.now ≡ None) }
     ensures refused { IfErr result (IsPutFault (fault_of_effort effort.now)) }
@@ -221,9 +237,69 @@ pub extern "C" fn flowshop_run_put(
     ensures status { IsDone result ⊎ ((fault : Fault) × IsPutFault (fault_of_effort effort.now) fault × HasFault fault result) }
     ensures kept { (result.status ≡ done) ⊎ ((run.new ≡ run.old) × (better.new ≡ better.old)) }
 {
-    match put(run, effort, answer) {
+    match take(run, effort, answer) {
         Ok(is_better) => {
             *better = if is_better { 1 } else { 0 };
+            Outcome::done()
+        }
+        Err(fault) => Outcome::refused(fault),
+    }
+}
+
+/// The text of a sequence with its makespan and of a lower bound, with no directions, where there is room for it with so
+/// many.
+fn text_of(
+    alloc: Global,
+    shop: &ShopNumbers,
+    sequence: &[u16],
+    lower: u64,
+    directions: &[u8],
+    room: usize,
+) -> Result<MemorySink, Fault>
+    ensures text { IfOk result (λ text. text.bytes ≡ kept_text (shop_of shop.now) lower sequence.now []) }
+    ensures long_enough { IfOk result (λ text. behind ≤ length text.bytes) }
+    ensures enough { IfOk result (λ text. length text.bytes + length directions.now ≤ room) }
+    ensures accepted { OnOk result (text_fault shop.now sequence.now lower directions.now room ≡ None) }
+    ensures refused { IfErr result (IsFaultOf (text_fault shop.now sequence.now lower directions.now room)) }
+    ensures memory { IfErr result (λ fault. number fault ≡ memory → numbers_fault shop.now ≡ None) }
+{
+    let instance = shop.instance(alloc)?;
+    let sequence = Sequence::new(alloc, &instance, sequence)?;
+    let bounds = Bounds {
+        lower,
+        upper: makespan(&instance, &sequence),
+    };
+    let text = around(alloc, &instance, bounds, &sequence)?;
+    need(text.bytes().len() + directions.len(), room)?;
+    Ok(text)
+}
+
+/// The two-ended certificate of a lower bound and of a sequence with its makespan, with these directions. Nothing tests
+/// that they prove the bound.
+#[unsafe(no_mangle)]
+pub extern "C" fn flowshop_run_text(
+    alloc: Global,
+    shop: &ShopNumbers,
+    sequence: &[u16],
+    lower: u64,
+    directions: &[u8],
+    text: &mut TextRoom,
+) -> Outcome
+    ensures status { Reports
+        (text_fault shop.now sequence.now lower directions.now (length text.old.bytes.now)) result }
+    ensures memory { result.status ≡ memory → numbers_fault shop.now ≡ None }
+    ensures text { result.status ≡ done →
+        text_in text.new ≡ kept_text (shop_of shop.now) lower sequence.now directions.now }
+    ensures within { result.status ≡ done → text.new.length ≤ length text.old.bytes.now }
+    ensures beyond { result.status ≡ done →
+        drop text.new.length text.new.bytes.now ≡ drop text.new.length text.old.bytes.now }
+    ensures room { IsSameRoom text.new.bytes text.old.bytes }
+    ensures stays { result.status ≡ done → result.place ≡ 0 }
+    ensures kept { (result.status ≡ done) ⊎ (text.new ≡ text.old) }
+{
+    match text_of(alloc, shop, sequence, lower, directions, text.bytes.len()) {
+        Ok(lines) => {
+            text.length = put(lines.bytes(), directions, text.bytes);
             Outcome::done()
         }
         Err(fault) => Outcome::refused(fault),

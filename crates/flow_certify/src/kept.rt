@@ -128,16 +128,31 @@ impl Kept {
         ensures later { IsLater shared.now.instance.now self.old self.new }
         ensures tasks { IfOk result (λ goes_on. goes_on ≡ true → self.new.run.tasks ≡ self.old.run.tasks - 1) }
     {
-        let found = shared.prover.prove(shared.alloc, shared.instance, threshold, budget)?;
+        let found = shared
+            .prover
+            .prove(shared.alloc, shared.instance, threshold, budget)?;
         match found {
             None => return Ok(false),
             Some(Found::Proved(directions)) => {
                 let count = directions.len() as u64;
-                self.run.answered(task, &Answer::Proved { directions: count });
+                self.run
+                    .answered(task, &Answer::Proved { directions: count });
                 self.directions = directions;
             }
-            Some(Found::Below { sequence, makespan, directions }) => {
-                self.run.answered(task, &Answer::Below { makespan, directions });
+            Some(
+                Found::Below {
+                    sequence,
+                    makespan,
+                    directions,
+                },
+            ) => {
+                self.run.answered(
+                    task,
+                    &Answer::Below {
+                        makespan,
+                        directions,
+                    },
+                );
                 self.become_better(sequence);
             }
             Some(Found::Over) => {

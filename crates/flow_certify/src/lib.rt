@@ -13,15 +13,14 @@
 mod acts;
 mod bounds;
 mod budgets;
-
 mod kept;
 mod most;
 mod run;
 mod shared;
 mod task;
 
-pub use budgets::Fund;
 pub use bounds::{Certified, certify};
+pub use budgets::Fund;
 pub use most::MostDirections;
 pub use run::Run;
 pub use task::{Answer, Origin, Task};

@@ -178,7 +178,11 @@ impl Run {
         requires { self.now.lower < self.now.upper }
         ensures { IfSome result (λ threshold. (self.now.lower < threshold) × (threshold ≤ self.now.upper)) }
     {
-        let between = self.top.min(self.upper.saturating_add(1)).saturating_sub(self.lower) / 2;
+        let between = self
+            .top
+            .min(self.upper.saturating_add(1))
+            .saturating_sub(self.lower)
+            / 2;
         if between == 0 {
             return None;
         }
@@ -243,7 +247,13 @@ impl Run {
                 self.go_on(*directions);
                 false
             }
-            (Task::Search { .. }, Answer::Below { makespan, directions }) => {
+            (
+                Task::Search { .. },
+                Answer::Below {
+                    makespan,
+                    directions,
+                },
+            ) => {
                 self.go_on(*directions);
                 self.take(*makespan, true)
             }
