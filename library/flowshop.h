@@ -271,23 +271,23 @@ typedef struct flowshop_run_state {
 
 /* What a run asks for. */
 enum flowshop_kind {
-    FLOWSHOP_END = 0, /* nothing more */
-    FLOWSHOP_SEARCH = 1, /* flowshop_prove from the root, or the same in parts */
-    FLOWSHOP_BEAM = 2, /* flowshop_beam */
-    FLOWSHOP_ROUNDS = 3 /* flowshop_rounds */
+    FLOWSHOP_TASK_END = 0, /* nothing more */
+    FLOWSHOP_TASK_SEARCH = 1, /* flowshop_prove from the root, or the same in parts */
+    FLOWSHOP_TASK_BEAM = 2, /* flowshop_beam */
+    FLOWSHOP_TASK_ROUNDS = 3 /* flowshop_rounds */
 };
 
 /* The sequence from which a beam or rounds begin. */
 enum flowshop_origin {
-    FLOWSHOP_START = 0, /* the start of the run */
-    FLOWSHOP_BEST = 1, /* the best sequence */
-    FLOWSHOP_BEFORE = 2 /* the sequence that was the best before this one */
+    FLOWSHOP_FROM_START = 0, /* the start of the run */
+    FLOWSHOP_FROM_BEST = 1, /* the best sequence */
+    FLOWSHOP_FROM_BEFORE = 2 /* the sequence that was the best before this one */
 };
 
 /* A task of a run. */
 typedef struct flowshop_task {
-    uint32_t kind; /* FLOWSHOP_END, FLOWSHOP_SEARCH, FLOWSHOP_BEAM or FLOWSHOP_ROUNDS */
-    uint32_t origin; /* FLOWSHOP_START, FLOWSHOP_BEST or FLOWSHOP_BEFORE */
+    uint32_t kind; /* FLOWSHOP_TASK_END, FLOWSHOP_TASK_SEARCH, FLOWSHOP_TASK_BEAM or FLOWSHOP_TASK_ROUNDS */
+    uint32_t origin; /* FLOWSHOP_FROM_START, FLOWSHOP_FROM_BEST or FLOWSHOP_FROM_BEFORE */
     uint64_t number; /* of a search: the number that it is to prove */
     uint64_t budget; /* of a search: the most directions */
     flowshop_beam_options beam;
