@@ -123,7 +123,8 @@ def prove(shop, number, first=(), last=(), budget=MANY, room=None, rest_room=Non
 def run_of(shop, start, directions=1_000, limited=0):
     """A run, or why there is none."""
     run = results(Run)
-    return call("run", shop_of(shop), *given(U16, start), U32(directions), U32(limited), run) or run
+    refused = call("run", shop_of(shop), *given(U16, start), U32(directions), U32(limited), run)
+    return refused or Run.from_buffer_copy(run)
 
 
 def next_of(run, numbers):
@@ -348,8 +349,9 @@ def refuse_answers():
                 equal(f"a run with the numbers {values}", make(), (wanted.upper(), 0))
     numbers, run = (16, 9, 1, 1), run_of(SHOP, START)
     task = next_of(run, numbers)
-    equal("the first task", (task.kind, task.number, task.budget), (1, 13, 800))
-    for answer in [(0, 0, 0, 0), (5, 0, 12, 1), (4, 0, 12, 0), (4, 1, 0, 0), (1, 0, 0, 801), (1, 0, 0, 2**64 - 1),
+    # All searches may write 850 of 459 parts of a thousand directions, 1851, and half of them before step 5.
+    equal("the first task", (task.kind, task.number, task.budget), (1, 13, 926))
+    for answer in [(0, 0, 0, 0), (5, 0, 12, 1), (4, 0, 12, 0), (4, 1, 0, 0), (1, 0, 0, 927), (1, 0, 0, 2**64 - 1),
                    (2, 0, 13, 1), (2, 0, 2**64 - 1, 1)]:
         equal(f"the answer {answer}", put_to(run, numbers, *answer), ("ANSWER", 0))
     equal("a better sequence", (put_to(run, numbers, 2, 0, 12, 1), run.lower, run.upper), (1, 10, 12))
