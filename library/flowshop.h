@@ -110,6 +110,8 @@ enum flowshop_status {
     /* The number of a certificate is not within its limits. */
     FLOWSHOP_DIRECTIONS = 37, /* the directions are not 1 to 1000000000 */
 
+    FLOWSHOP_ANSWER = 38, /* what is said of the task of a run is no answer to it */
+
     /* The shop and the options have no plan. */
     FLOWSHOP_PLAN_DEPTH = 40, /* the depth is above the number of jobs */
     FLOWSHOP_PLAN_PREFIXES = 41, /* there are more than 100000 lists of so many jobs */
@@ -237,7 +239,8 @@ typedef struct flowshop_node {
 enum flowshop_found {
     FLOWSHOP_PROVED = 1, /* the directions prove the number */
     FLOWSHOP_BELOW = 2, /* a sequence is below the number */
-    FLOWSHOP_OVER = 3 /* there are more directions than there is room for */
+    FLOWSHOP_OVER = 3, /* there are more directions than there is room for */
+    FLOWSHOP_REACHED = 4 /* of the task of a run: a beam or rounds came to a sequence */
 };
 
 /* Room for what a search for directions comes to, and what is said of it. */
@@ -253,6 +256,51 @@ typedef struct flowshop_part {
     size_t directions_length;
     size_t rest_length;
 } flowshop_part;
+
+/* Where a run of certify stands. It is numbers alone, which the caller only reads: it can be copied, kept in a file, and
+ * gone on with. The bounds are those that are proved by what the caller keeps. */
+typedef struct flowshop_run_state {
+    uint64_t lower; /* no sequence has a smaller makespan */
+    uint64_t upper; /* the makespan of the best sequence */
+    uint64_t least; /* Taillard's lower bound */
+    uint64_t inner[11];
+    uint32_t tasks; /* how many tasks may follow */
+    uint32_t step; /* the step, of 8 (docs/manual.md) */
+    uint32_t inner_place[2];
+} flowshop_run_state;
+
+/* What a run asks for. */
+enum flowshop_kind {
+    FLOWSHOP_TASK_END = 0, /* nothing more */
+    FLOWSHOP_TASK_SEARCH = 1, /* flowshop_prove from the root, or the same in parts */
+    FLOWSHOP_TASK_BEAM = 2, /* flowshop_beam */
+    FLOWSHOP_TASK_ROUNDS = 3 /* flowshop_rounds */
+};
+
+/* The sequence from which a beam or rounds begin. */
+enum flowshop_origin {
+    FLOWSHOP_FROM_START = 0, /* the start of the run */
+    FLOWSHOP_FROM_BEST = 1, /* the best sequence */
+    FLOWSHOP_FROM_BEFORE = 2 /* the sequence that was the best before this one */
+};
+
+/* A task of a run. */
+typedef struct flowshop_task {
+    uint32_t kind; /* FLOWSHOP_TASK_END, FLOWSHOP_TASK_SEARCH, FLOWSHOP_TASK_BEAM or FLOWSHOP_TASK_ROUNDS */
+    uint32_t origin; /* FLOWSHOP_FROM_START, FLOWSHOP_FROM_BEST or FLOWSHOP_FROM_BEFORE */
+    uint64_t number; /* of a search: the number that it is to prove */
+    uint64_t budget; /* of a search: the most directions */
+    flowshop_beam_options beam;
+    flowshop_rounds_options rounds;
+} flowshop_task;
+
+/* What became of a task. */
+typedef struct flowshop_answer {
+    uint32_t found; /* of a search FLOWSHOP_PROVED, FLOWSHOP_BELOW or FLOWSHOP_OVER; else FLOWSHOP_REACHED */
+    uint32_t whole; /* that of flowshop_reached */
+    uint64_t makespan; /* that of the sequence, where there is one */
+    uint64_t directions; /* how many a search wrote */
+} flowshop_answer;
 
 /* The node of two empty lists: its sequences are all of the shop. */
 static inline flowshop_node flowshop_root(void) {
@@ -285,6 +333,7 @@ static inline const char *flowshop_status_name(uint32_t status) {
     case FLOWSHOP_ROUNDS: return "ROUNDS";
     case FLOWSHOP_WORK: return "WORK";
     case FLOWSHOP_DIRECTIONS: return "DIRECTIONS";
+    case FLOWSHOP_ANSWER: return "ANSWER";
     case FLOWSHOP_PLAN_DEPTH: return "PLAN_DEPTH";
     case FLOWSHOP_PLAN_PREFIXES: return "PLAN_PREFIXES";
     case FLOWSHOP_OVER_BUDGET: return "OVER_BUDGET";
@@ -429,6 +478,38 @@ FLOWSHOP_CALL flowshop_outcome flowshop_beam(const flowshop_shop *shop, const ui
 FLOWSHOP_CALL flowshop_outcome flowshop_rounds(const flowshop_shop *shop, const uint16_t *start, size_t start_count,
                                                const flowshop_rounds_options *options, flowshop_reached *reached)
     FLOWSHOP_NOEXCEPT;
+
+/* A run of certify from the sequence `start`, whose searches write at most so many directions each. Where `limited` is
+ * not 0, the run may be stopped before its end, and raises the lower bound early. flowshop_run_next says what is to be
+ * done, and flowshop_run_put is told what became of it; flowshop_certify does the same on one thread. The caller keeps
+ * the start, the best sequence and the one that was the best before it, and the directions of the last search that
+ * proved its number. At any time these are a certificate of the bounds of the run, which flowshop_run_text writes: a run
+ * may be stopped between two tasks, shown, kept, and gone on with. Its tasks do not depend on who does them.
+ * Faults in order: JOBS, MACHINES, COUNT, TIME; LENGTH, JOB, TWICE (of start); DIRECTIONS. */
+FLOWSHOP_CALL flowshop_outcome flowshop_run(const flowshop_shop *shop, const uint16_t *start, size_t start_count,
+                                            uint32_t directions, uint32_t limited, flowshop_run_state *run)
+    FLOWSHOP_NOEXCEPT;
+
+/* What a run asks for next: a search for a number above its lower bound and at most its upper one, a beam or rounds, or
+ * nothing more. What a task does not need is 0. Asked again, it is the same.
+ * Faults in order: WIDTH, ROUNDS, SEED, WORK. */
+FLOWSHOP_CALL flowshop_outcome flowshop_run_next(flowshop_run_state *run, const flowshop_effort *effort,
+                                                 flowshop_task *task) FLOWSHOP_NOEXCEPT;
+
+/* Tells a run what became of the task that is next. `better` becomes 1 where the sequence of the answer is to be kept
+ * as the best one, else 0. Nothing tests that the answer is true: the bounds of the run are proved where it is what
+ * flowshop_prove, flowshop_beam or flowshop_rounds gave. No answer to a search is directions above its budget, or a
+ * sequence that is not below its number.
+ * Faults in order: WIDTH, ROUNDS, SEED, WORK; ANSWER. */
+FLOWSHOP_CALL flowshop_outcome flowshop_run_put(flowshop_run_state *run, const flowshop_effort *effort,
+                                                const flowshop_answer *answer, uint32_t *better) FLOWSHOP_NOEXCEPT;
+
+/* The two-ended certificate of a sequence, with its makespan, and of a lower bound and directions. Nothing tests that
+ * these prove it; flowshop_check does. Where the text has no room, `place` has its length.
+ * Faults in order: JOBS, MACHINES, COUNT, TIME; LENGTH, JOB, TWICE (of the sequence); ROOM. */
+FLOWSHOP_CALL flowshop_outcome flowshop_run_text(const flowshop_shop *shop, const uint16_t *sequence,
+                                                 size_t sequence_count, uint64_t lower, const uint8_t *directions,
+                                                 size_t directions_count, flowshop_text *text) FLOWSHOP_NOEXCEPT;
 
 #ifdef __cplusplus
 }

@@ -14,8 +14,8 @@ import refusals
 from counts import EXAMPLES, PROGRAM, TOP, end, new_folder
 from plain_pictures import plain_picture
 from plain_texts import Refused, bounds_line, check_two_ended, plain_blocks
-from records import LIBRARY, U8, U16, U32, U64, BeamOptions, Bounds, Effort, Node, Part, Plan, Reached, Room
-from records import RoundsOptions, Spans, Text, block, call, equal, given, lent, results, shop_of
+from records import LIBRARY, U8, U16, U32, U64, Answer, BeamOptions, Bounds, Effort, Node, Part, Plan, Reached, Room
+from records import RoundsOptions, Run, Spans, Task, Text, block, call, equal, given, lent, results, shop_of
 from reference import Search, of_rows, rows_of
 
 SHOPS = int(sys.argv[1]) if len(sys.argv) > 1 else 2_000
@@ -120,6 +120,66 @@ def prove(shop, number, first=(), last=(), budget=MANY, room=None, rest_room=Non
     return [("PROVED", text), ("BELOW", text, jobs, part.makespan), ("OVER", text, parts_of(left))][part.found - 1]
 
 
+def run_of(shop, start, directions=1_000, limited=0):
+    """A run, or why there is none."""
+    run = results(Run)
+    refused = call("run", shop_of(shop), *given(U16, start), U32(directions), U32(limited), run)
+    return refused or Run.from_buffer_copy(run)
+
+
+def next_of(run, numbers):
+    """The task that is next, or why there is none; that it is the same when it is asked for again."""
+    tasks = Task(), Task()
+    refused = [call("run_next", run, Effort(*numbers[:4]), task) for task in tasks]
+    equal("a task", (refused[1], bytes(tasks[1])), (refused[0], bytes(tasks[0])))
+    return refused[0] or tasks[0]
+
+
+def put_to(run, numbers, *answer):
+    """Whether a sequence becomes the best one, or why an answer is refused; then nothing changes."""
+    better, before = Room(U32, 1, is_slice=False), bytes(run)
+    refused = call("run_put", run, Effort(*numbers[:4]), Answer(*answer), better)
+    equal("a run after an answer", bytes(run) == before, bool(refused))
+    return refused or better.taken(1)[0]
+
+
+def text_of(shop, sequence, lower, directions, room=4_300):
+    """The text of what a run keeps."""
+    data = Room(U8, room)
+    text = results(Text, data)
+    refused = call("run_text", shop_of(shop), *given(U16, sequence), U64(lower), *given(U8, directions), text)
+    return refused or bytes(data.taken(text.length))
+
+
+def done(shop, task, start):
+    """What becomes of a task: the numbers of an answer, a sequence, and directions."""
+    if task.kind == 1:
+        kind, text, *found = prove(shop, task.number, budget=task.budget)
+        sequence, makespan_ = found if kind == "BELOW" else ([], 0)
+        return (["PROVED", "BELOW", "OVER"].index(kind) + 1, 0, makespan_, len(text)), sequence, text.encode()
+    if task.kind == 2:
+        sequence, value, whole = beam(shop, start, task.beam.number, task.beam.width, task.beam.steps)
+    else:
+        sequence, value, whole = rounds(shop, start, task.rounds.rounds, task.rounds.seed, task.rounds.steps)
+    return (4, whole, value, 0), sequence, b""
+
+
+def certify_by_tasks(shop, start, numbers, limited=0):
+    """What the tasks of a run come to, each done by its own call; and that each of them leaves bounds that are proved,
+    and asks for no more than these leave open."""
+    run, kept, directions = run_of(shop, start, numbers[4], limited), [start] * 3, b""
+    while (task := next_of(run, numbers)).kind:
+        equal("a threshold between the bounds", task.kind != 1 or run.lower < task.number <= run.upper, True)
+        equal("a budget", task.budget <= numbers[4], True)
+        answer, sequence, text = done(shop, task, kept[task.origin])
+        if put_to(run, numbers, *answer):
+            kept = [start, sequence, kept[1]]
+        elif answer[0] == 1:
+            directions = text
+        equal("what is kept", check(shop, text_of(shop, kept[1], run.lower, directions)), (kept[1], run.lower, run.upper))
+    return kept[1], run.lower, run.upper, text_of(shop, kept[1], run.lower, directions)
+
+
 def parts_of(numbers):
     """The parts that stand in a list of numbers: two lists, an end, and jobs."""
     parts = []
@@ -192,6 +252,7 @@ CALLS = {
     "improve": lambda shop, jobs: improve(shop, jobs, 65_537, 100_000_001, 0, 1_000_001, 0),
     "solve": lambda shop, jobs: solve(shop, jobs, 9, 0, 0, 0, 0),
     "certify": lambda shop, jobs: certify(shop, jobs, (65_537, 100_000_001, 0, 1_000_001, 0), 0, 0),
+    "run": lambda shop, jobs: run_of(shop, jobs, 0), "run_text": lambda shop, jobs: text_of(shop, jobs, 0, b"", 0),
     "beam": lambda shop, jobs: beam(shop, jobs, 0, 65_537, room=0),
     "rounds": lambda shop, jobs: rounds(shop, jobs, 100_000_001, 0, room=0),
 }
@@ -250,8 +311,9 @@ def refuse_rooms():
         ("solve", lambda room: solve(SHOP, START, text_room=room), (sequence, value, text)),
         ("certify", lambda room: certify(SHOP, START, text_room=room), (*found, certified)),
         ("picture", lambda room: picture(SHOP, START, room), drawing),
+        ("run_text", lambda room: text_of(SHOP, [3, 1, 2], 12, b"++", room), refusals.LEAST),
     ]:
-        needed = len(drawing if name == "picture" else wanted[-1])
+        needed = len(wanted[-1] if isinstance(wanted, tuple) else wanted)
         for room in range(needed + 2):
             equal(f"{name} with room for {room} bytes", make(room), wanted if room >= needed else ("ROOM", needed))
     table = plain_timetable(SHOP, START)
@@ -275,6 +337,29 @@ def refuse_rooms():
     equal("a part of a search", (kind, len(text), len(parts) > 0), ("OVER", 1, True))
     equal("no room for it", prove(SHOP, 12, budget=1, rest_room=entries - 1), ("ROOM", entries))
     equal("just room for it", prove(SHOP, 12, budget=1, rest_room=entries), (kind, text, parts))
+
+
+def refuse_answers():
+    """What no run takes: numbers that are not within their limits, and answers to other tasks than the one at hand."""
+    for names in (("width", "rounds", "seed", "work"), ("directions",)):
+        for wanted, numbers in refusals.wrong_numbers(names):
+            values, run = [*numbers.values()], run_of(SHOP, START)
+            makes = [lambda: next_of(run, values), lambda: put_to(run, values, 9, 0, 0, 0)]
+            for make in makes if len(values) > 1 else [lambda: run_of(SHOP, START, *values)]:
+                equal(f"a run with the numbers {values}", make(), (wanted.upper(), 0))
+    numbers, run = (16, 9, 1, 1), run_of(SHOP, START)
+    task = next_of(run, numbers)
+    # All searches may write 850 of 459 parts of a thousand directions, 1851, and half of them before step 5.
+    equal("the first task", (task.kind, task.number, task.budget), (1, 13, 926))
+    for answer in [(0, 0, 0, 0), (5, 0, 12, 1), (4, 0, 12, 0), (4, 1, 0, 0), (1, 0, 0, 927), (1, 0, 0, 2**64 - 1),
+                   (2, 0, 13, 1), (2, 0, 2**64 - 1, 1)]:
+        equal(f"the answer {answer}", put_to(run, numbers, *answer), ("ANSWER", 0))
+    equal("a better sequence", (put_to(run, numbers, 2, 0, 12, 1), run.lower, run.upper), (1, 10, 12))
+    equal("the next task", next_of(run, numbers).number, 12)
+    equal("a proof", (put_to(run, numbers, 1, 0, 0, 2), run.lower, run.upper), (0, 12, 12))
+    equal("no task more", next_of(run, numbers).kind, 0)
+    for answer in [(1, 0, 0, 0), (2, 0, 0, 0), (3, 0, 0, 0), (4, 0, 0, 0)]:
+        equal(f"the answer {answer} to no task", put_to(run, numbers, *answer), ("ANSWER", 0))
 
 
 def refuse_texts():
@@ -381,6 +466,9 @@ def compare_shop(draw):
     equal("a check of its text", check(shop, text), (sequence, least, least))
     equal("a plain check of it", plain_check(shop, text, 1_000), (sequence, least, least))
     most = draw.randint(1, 9)
+    for numbers in ((*effort, 1_000), (*effort, most)):
+        equal("what a run comes to by its tasks", certify_by_tasks(shop, start, numbers), certify(shop, start, numbers))
+    equal("one that is limited", check(shop, certify_by_tasks(shop, start, numbers, 1)[3])[1] <= least, True)
     sequence, lower, upper, text = certify(shop, start, (*effort, most))
     equal("whether they are bounds", lower <= least <= upper <= reference.makespan(shop, start), True)
     equal("a check of few directions", check(shop, text), (sequence, lower, upper))
@@ -463,7 +551,7 @@ def main():
     """Runs all, and says how many were as they should be."""
     major, minor, patch = map(int, (TOP / "VERSION").read_text().split("."))
     equal("the version", LIBRARY.flowshop_version(), major * 1_000_000 + minor * 1_000 + patch)
-    for part in (refuse_arguments, refuse_rooms, refuse_texts, compare_calls):
+    for part in (refuse_arguments, refuse_rooms, refuse_answers, refuse_texts, compare_calls):
         part()
     draw = random.Random(20_261_125)
     for _ in range(200):

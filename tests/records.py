@@ -65,6 +65,12 @@ Effort = record("Effort", ("width", U32), ("rounds", U32), ("seed", U32), ("work
 Plan = record("Plan", ("depth", U32), ("budget", U32), ("version", U32))
 BeamOptions = record("BeamOptions", ("number", U64), ("width", U32), ("steps", U64))
 RoundsOptions = record("RoundsOptions", ("rounds", U32), ("seed", U32), ("steps", U64))
+INNER = [(f"inner_{number}", U64) for number in range(11)]
+Run = record("Run", ("lower", U64), ("upper", U64), ("least", U64), *INNER, *[(name, U32) for name in (
+    "tasks", "step", "act", "limited")])
+Task = record("Task", ("kind", U32), ("origin", U32), ("number", U64), ("budget", U64), ("beam", BeamOptions),
+              ("rounds", RoundsOptions))
+Answer = record("Answer", ("found", U32), ("whole", U32), ("makespan", U64), ("directions", U64))
 Node = record("Node", ("first", [U16]), ("last", [U16]))
 ROOMS = ("sequence", [U16]), ("directions", [U8]), ("rest", [U16])
 LENGTHS = ("directions_length", SIZE), ("rest_length", SIZE)

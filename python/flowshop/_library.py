@@ -24,6 +24,7 @@ STATUSES: Dict[int, str] = {
     35: "ROUNDS",
     36: "WORK",
     37: "DIRECTIONS",
+    38: "ANSWER",
     40: "PLAN_DEPTH",
     41: "PLAN_PREFIXES",
     50: "OVER_BUDGET",
@@ -131,6 +132,31 @@ class RoundsOptions(ctypes.Structure):
     _fields_ = [("rounds", u32), ("seed", u32), ("steps", u64)]
 
 
+class RunNumbers(ctypes.Structure):
+    """Where a run of certify stands."""
+
+    _fields_ = [
+        *((name, u64) for name in ("lower", "upper", "least", "start", "most", "left", "kept", "entry", "over")),
+        *((name, u64) for name in ("step_lower", "step_upper", "stride", "top", "missed")),
+        *((name, u32) for name in ("tasks", "step", "act", "limited")),
+    ]
+
+
+class TaskNumbers(ctypes.Structure):
+    """What a run asks for."""
+
+    _fields_ = [("kind", u32), ("origin", u32), ("number", u64), ("budget", u64)] + [
+        ("beam", BeamOptions),
+        ("rounds", RoundsOptions),
+    ]
+
+
+class AnswerNumbers(ctypes.Structure):
+    """What became of a task."""
+
+    _fields_ = [("found", u32), ("whole", u32), ("makespan", u64), ("directions", u64)]
+
+
 class NodeLists(ctypes.Structure):
     """The lists of a node."""
 
@@ -162,6 +188,9 @@ CALLS: Dict[str, List[Any]] = {
     "check": [*_ON_SHOP, out(BoundsRoom)],
     "solve": [*_ON_SHOP, out(Plan), out(BoundsRoom), out(TextRoom)],
     "certify": [*_ON_SHOP, out(EffortNumbers), u32, out(BoundsRoom), out(TextRoom)],
+    "run": [*_ON_SHOP, u32, u32, out(RunNumbers)],
+    "run_next": [out(RunNumbers), out(EffortNumbers), out(TaskNumbers)],
+    "run_put": [out(RunNumbers), out(EffortNumbers), out(AnswerNumbers), out(u32)],
     "prove": [out(ShopNumbers), out(NodeLists), u64, out(PartRooms)],
     "beam": [*_ON_SHOP, out(BeamOptions), out(ReachedRoom)],
     "rounds": [*_ON_SHOP, out(RoundsOptions), out(ReachedRoom)],

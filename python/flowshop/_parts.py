@@ -4,11 +4,11 @@ import ctypes
 import struct
 from typing import Any, Callable, Iterable, List, NamedTuple, Tuple
 
-from ._library import BeamOptions, NodeLists, PartRooms, ReachedRoom, RoundsOptions, ShopNumbers
+from ._library import BeamOptions, NodeLists, PartRooms, ReachedRoom, RoundsOptions, RunNumbers, ShopNumbers
 from ._library import call, out, u8, u16
 
-# What a search comes to, as the library numbers it.
-PROVED, BELOW, OVER = 1, 2, 3
+# What becomes of a task, as the library numbers it: of a search, and of a beam or rounds.
+PROVED, BELOW, OVER, REACHED = 1, 2, 3, 4
 # The ends at which the children of a node put a job; 0 is the node itself.
 FRONT, BACK = 1, 2
 _HEAD = struct.Struct("=4H")
@@ -86,17 +86,11 @@ class Instance:
         self.jobs, self.machines, self._times = jobs, machines, times
         self.words = ShopNumbers(jobs, machines, times, len(times) // 4)
 
-    def root_bound(self, most: int) -> int:
-        """The bound of the node of two empty lists: the greatest number that a search proves without a direction. It is
-        at most `most`, the makespan of a sequence."""
-        rooms, least = Rooms(self, 0), 0
-        while least < most:
-            middle = (least + most + 1) // 2
-            if rooms.search(b"", b"", middle) == PROVED:
-                least = middle
-            else:
-                most = middle - 1
-        return least
+    def run(self, start: bytes, directions: int, is_limited: bool) -> RunNumbers:
+        """A run of certify from a start, each of whose searches writes at most so many directions."""
+        run = RunNumbers()
+        call("run", self.words, start, len(start) // 2, directions, int(is_limited), run)
+        return run
 
     def beam(self, start: bytes, number: int, width: int, steps: int) -> Reached:
         """What a beam comes to from a start; one that looks for a sequence below a number, where it is not 0."""

@@ -475,7 +475,7 @@ class Shop(metaclass=Brief):
         10
         """
         if self._bound is None:
-            bound = Instance(*self._parts[:3]).root_bound(self._makespan(self._in_order()))
+            bound = Instance(*self._parts[:3]).run(self._in_order(), 1, False).lower
             object.__setattr__(self, "_bound", bound)
             return bound
         return self._bound
@@ -673,11 +673,12 @@ class Shop(metaclass=Brief):
         threads; or by those of a `map`, such as that of a pool of processes, where `workers` says how many there are,
         if it is known. The certificate is the same for any number of workers and any map. After `time_limit` seconds it
         is one of the best bounds so far; with few seconds, less `work` and fewer `directions` may give better ones. A
-        run that ends before gives the same as one without a limit. `progress` is called with a Progress, a few times a
-        second; where it is True, a line on standard error tells the same. An interrupt ends the call within a second,
-        as Interrupted, whose `result` is a certificate of the best bounds so far; an error of `progress` or of the map
-        has such a `result` too. Without a map and a time limit the certificate was read by `check`. `by` is that of
-        `makespan`. Errors are those of `improve`, and those of the map.
+        run with a time limit raises the lower bound early, and may give another certificate also where it ends before.
+        `progress` is called with a Progress, a few times a second; where it is True, a line on standard error tells the
+        same. An interrupt ends the call within a second, as Interrupted, whose `result` is a certificate of the best
+        bounds so far; an error of `progress` or of the map has such a `result` too. Without a map and a time limit the
+        certificate was read by `check`. `by` is that of `makespan`. Errors are those of `improve`, and those of the
+        map.
 
         >>> certificate = shop.certify(workers=4, time_limit=60)
         >>> certificate.lower, certificate.upper
@@ -705,16 +706,16 @@ class Shop(metaclass=Brief):
     ) -> Certificate:
         """What certify comes to, by workers that share its searches, as long as the watch allows."""
         begun = self._begun(None) if start is None else start
-        run = Run(self._parts[:3], begun, self._makespan(begun), effort, directions)
+        run = Run(self._parts[:3], begun, effort, directions, watch.is_limited)
         try:
             run.search_until(watch, workers)
         except KeyboardInterrupt:
-            raise Interrupted(self._certificate(run.found())) from None
+            raise Interrupted(self._certificate(run.known)) from None
         except Exception as error:  # of the map, or of who is told how far it has come
             with suppress(Exception):  # there is no memory, or the error takes nothing
-                setattr(error, "result", self._certificate(run.found()))
+                setattr(error, "result", self._certificate(run.known))
             raise
-        return self._certificate(run.found())
+        return self._certificate(run.known)
 
     def _certificate(self, known: Known) -> Certificate:
         """The certificate of what is known."""

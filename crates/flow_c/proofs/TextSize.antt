@@ -121,7 +121,7 @@ put-in lines directions =
     ∙ ap (λ t. t ++ line ending) (append_assoc lines directions (10 ∷ []))
 
 -- the text once directions are put in
-text-with : (shop : Shop) (bounds : Bounds) (sequence directions : List ℕ) →
+pub text-with : (shop : Shop) (bounds : Bounds) (sequence directions : List ℕ) →
     with_directions (two_ended_text shop bounds sequence []) directions
     ≡ two_ended_text shop bounds sequence directions
 text-with shop bounds sequence directions =

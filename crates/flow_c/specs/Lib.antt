@@ -6,6 +6,7 @@ pub mod Blocks
 pub mod Certify
 pub mod Pictures
 pub mod Rooms
+pub mod Runs
 pub mod Reached
 pub mod Searches
 pub mod Versions

@@ -12,7 +12,7 @@ use Rattle.flow_text.specs.declared.text.fault.TextFault.{TextFault}
 use Rattle.flow_text.specs.declared.text.fault.TextFault.TheVariants as text
 use Rattle.flow_c.specs.declared.fault.Fault.{Fault}
 use Rattle.flow_c.specs.declared.fault.Fault.TheVariants.{Memory, Room, Instance, Sequence, Choice, Effort, Plan, Run}
-use Rattle.flow_c.specs.declared.fault.Fault.TheVariants.{Certificate, Text, Index, Directions}
+use Rattle.flow_c.specs.declared.fault.Fault.TheVariants.{Certificate, Text, Index, Directions, NoAnswer}
 
 -- the place of a fault of an instance; 0 where it has none
 abbrev pub place_of_instance : InstanceFault → ℕ
@@ -57,6 +57,7 @@ place_of (Sequence fault) = place_of_sequence fault
 place_of (Choice fault) = 0
 place_of (Effort fault) = 0
 place_of Directions = 0
+place_of NoAnswer = 0
 place_of (Plan fault) = 0
 place_of (Run fault) = place_of_run fault
 place_of (Certificate fault) = place_of_check fault

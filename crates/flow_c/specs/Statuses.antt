@@ -18,7 +18,7 @@ use Rattle.flow_improve.specs.declared.effort.EffortFault.{EffortFault}
 use Rattle.flow_improve.specs.declared.effort.EffortFault.TheVariants as effort
 use Rattle.flow_c.specs.declared.fault.Fault.{Fault}
 use Rattle.flow_c.specs.declared.fault.Fault.TheVariants.{Memory, Room, Instance, Sequence, Choice, Effort, Plan, Run}
-use Rattle.flow_c.specs.declared.fault.Fault.TheVariants.{Certificate, Text, Index, Directions}
+use Rattle.flow_c.specs.declared.fault.Fault.TheVariants.{Certificate, Text, Index, Directions, NoAnswer}
 
 -- the call was done
 abbrev pub done : ℕ
@@ -114,6 +114,7 @@ number (Sequence fault) = of_sequence fault
 number (Choice fault) = of_choice fault
 number (Effort fault) = of_effort fault
 number Directions = directions
+number NoAnswer = 38
 number (Plan fault) = of_plan fault
 number (Run fault) = of_run fault
 number (Certificate fault) = of_check fault

@@ -16,6 +16,7 @@ use std::alloc::Global;
 
 /// What the caller chooses of a beam search.
 #[repr(C)]
+#[derive(Drop)]
 pub struct BeamOptions {
     /// The number that it is aimed at: a sequence below it ends the search. It is aimed at none where this is 0.
     pub number: u64,

@@ -43,7 +43,7 @@ struct Written {
 }
 
 /// The most directions, where they are within their limits.
-fn most_of(directions: u32) -> Result<MostDirections, Fault>
+pub(crate) fn most_of(directions: u32) -> Result<MostDirections, Fault>
     ensures same { IfOk result (λ most. most ≡ directions) }
     ensures accepted { OnOk result (directions_fault directions ≡ None) }
     ensures refused { IfErr result (λ fault. directions_fault directions ≡ Some fault) }
@@ -52,7 +52,7 @@ fn most_of(directions: u32) -> Result<MostDirections, Fault>
 }
 
 /// The text of bounds and a sequence, with no directions.
-fn around(
+pub(crate) fn around(
     alloc: Global,
     instance: &Instance,
     bounds: Bounds,
@@ -134,7 +134,7 @@ fn certify_numbers(
 }
 
 /// Puts a text with these directions at the front of a slice that has room for it, and returns its length.
-fn put(around: &[u8], directions: &[u8], room: &mut [u8]) -> usize
+pub(crate) fn put(around: &[u8], directions: &[u8], room: &mut [u8]) -> usize
     requires long_enough { behind ≤ length around.now }
     requires enough { length around.now + length directions.now ≤ length room.old }
     ensures count { result ≡ length around.now + length directions.now }

@@ -32,6 +32,8 @@ pub enum Fault {
     Effort(EffortFault),
     /// The directions are not in `1..=MAX_DIRECTIONS`.
     Directions,
+    /// What is said of a task is no answer to it.
+    NoAnswer,
     /// The instance and the options have no plan.
     Plan(PlanFault),
     /// A tree is longer than the budget.
@@ -247,6 +249,7 @@ impl Fault {
             Fault::Choice(fault) => (of_choice(fault), 0),
             Fault::Effort(fault) => (of_effort(fault), 0),
             Fault::Directions => (37, 0),
+            Fault::NoAnswer => (38, 0),
             Fault::Plan(fault) => (of_plan(fault), 0),
             Fault::Run(fault) => of_run(fault),
             Fault::Certificate(fault) => of_check(fault),

@@ -24,6 +24,7 @@
 //! - `rounds.rt`: `flowshop_rounds`.
 //! - `solve.rt`: `flowshop_solve`.
 //! - `certify.rt`: `flowshop_certify`.
+//! - `run.rt`: `flowshop_run`, `flowshop_run_next`, `flowshop_run_put` and `flowshop_run_text`.
 //! - `prove.rt`: `flowshop_prove`.
 //! - `check.rt`: `flowshop_check`.
 #![tactic(auto)]
@@ -47,6 +48,7 @@ mod prove;
 mod reached;
 mod room;
 mod rounds;
+mod run;
 mod shop;
 mod solve;
 mod text;

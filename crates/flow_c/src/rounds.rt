@@ -17,6 +17,7 @@ use std::alloc::Global;
 
 /// What the caller chooses of a run of rounds.
 #[repr(C)]
+#[derive(Drop)]
 pub struct RoundsOptions {
     /// The most rounds.
     pub rounds: u32,

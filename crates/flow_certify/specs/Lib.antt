@@ -1,2 +1,3 @@
 pub mod Signs
+pub mod Tasks
 pub mod internal

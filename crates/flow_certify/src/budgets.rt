@@ -6,11 +6,20 @@ ghost use Rattle.flow_certify.specs.Signs.{most_signs};
 use flow_nodes::fits_narrow_lanes;
 use flow_shop::Instance;
 
-/// The budgets of the searches from the start, and from the best of a narrow beam.
-pub(crate) const SMALL: [u64; 2] = [10_000, 100_000];
-
-/// The budgets of the searches from the best of the whole beam, and from the best of rounds.
-pub(crate) const MIDDLE: [u64; 3] = [10_000, 100_000, 1_000_000];
+/// The budget of a search.
+#[derive(Clone, Copy)]
+pub(crate) enum Budget {
+    /// So many directions.
+    Of(u64),
+    /// The greatest budget.
+    Most,
+    /// A tenth of it.
+    Tenth,
+    /// A thirtieth of it.
+    Thirtieth,
+    /// The first one with which the proved number is raised: a tenth of the greatest, and no more than 10,000.
+    First,
+}
 
 /// The most directions that fit, with the other lines of a two-ended certificate, into the text that `check` reads.
 const MOST_SIGNS: u64 = 999_990_000;
@@ -23,17 +32,18 @@ const SHARE: u64 = 850;
 const FIXED: u64 = 450;
 
 /// How many directions the searches may write. There are fewer where each of them costs more.
-#[derive(Clone, Copy)]
-pub(crate) struct Fund {
+#[repr(C)]
+#[derive(Clone, Copy, Debug)]
+pub struct Fund {
     /// The greatest budget of one search.
-    pub(crate) most: u64,
+    pub most: u64,
     /// How many directions the next searches may write.
-    left: u64,
+    pub left: u64,
     /// How many are kept for the last searches.
-    kept: u64,
+    pub kept: u64,
     /// What a search costs beside its directions, as so many of them. On the first way down, where most children are
     /// below the threshold, looking ahead takes longer the more jobs are left.
-    entry: u64,
+    pub entry: u64,
 }
 
 impl Fund {
@@ -58,26 +68,19 @@ impl Fund {
         }
     }
 
-    /// A large budget: a tenth of the greatest one.
-    pub(crate) fn large(self) -> u64 {
-        self.most / 10
-    }
-
-    /// The first budget with which the proved number is raised.
-    pub(crate) fn first_raise(self) -> u64 {
-        SMALL[0].min(self.large())
-    }
-
-    /// The second one: a thirtieth of the greatest.
-    pub(crate) fn second_raise(self) -> u64 {
-        self.most / 30
-    }
-
     /// How many directions a search with a budget may write: no more than the greatest budget, and than are left.
-    pub(crate) fn granted(self, budget: u64) -> u64
-        ensures { result ≡ min (min budget self.most) self.left }
+    pub(crate) fn granted(self, budget: Budget) -> u64
+        ensures most { result ≤ self.most }
+        ensures left { result ≤ self.left }
     {
-        budget.min(self.most).min(self.left)
+        let wanted = match budget {
+            Budget::Of(directions) => directions,
+            Budget::Most => self.most,
+            Budget::Tenth => self.most / 10,
+            Budget::Thirtieth => self.most / 30,
+            Budget::First => (self.most / 10).min(10_000),
+        };
+        wanted.min(self.most).min(self.left)
     }
 
     /// Takes off what a search cost that wrote so many directions.

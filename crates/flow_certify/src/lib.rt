@@ -1,20 +1,26 @@
 //! Bounds of the least makespan: a sequence that has the upper one, and directions that prove the lower one.
 //!
-//! - `steps.rt`: the steps of `certify`, from a start to bounds.
-//! - `certified.rt`: bounds of the least makespan, with what shows them.
-//! - `most.rt`: the limit that a caller sets on the directions of a certificate.
-//! - `shared.rt`: what all steps share.
-//! - `searches.rt`: searches one after the other, and what they found so far.
+//! - `bounds.rt`: bounds of the least makespan, from a start.
+//! - `run.rt`: a run, as numbers: which task is next, and what an answer changes.
+//! - `acts.rt`: what a run does, one after the other.
+//! - `task.rt`: what a run does next, and what may become of it.
+//! - `kept.rt`: what a run keeps, and how it does its tasks.
 //! - `budgets.rt`: the budgets of the searches.
+//! - `most.rt`: the limit that a caller sets on the directions of a certificate.
+//! - `shared.rt`: what all tasks share.
 #![tactic(auto)]
 
+mod acts;
+mod bounds;
 mod budgets;
-mod certified;
+mod kept;
 mod most;
-mod searches;
+mod run;
 mod shared;
-mod steps;
+mod task;
 
-pub use certified::Certified;
+pub use bounds::{Certified, certify};
+pub use budgets::Fund;
 pub use most::MostDirections;
-pub use steps::certify;
+pub use run::Run;
+pub use task::{Answer, Origin, Task};

@@ -44,11 +44,10 @@ fn test_run(rounds: u32, seed: u32) -> Result<(), EffortFault>
 /// When a run of rounds ends, and the seed of its random numbers.
 #[derive(Clone, Copy)]
 pub struct RunLimits {
-    /// The most rounds.
-    pub(crate) rounds: u32,
+    rounds: u32,
     seed: u32,
-    /// How many steps end the rounds: the round that reaches them is the last.
-    pub(crate) work: u64,
+    /// The round that reaches so many steps is the last.
+    work: u64,
 }
 
 impl Model for RunLimits {
@@ -74,6 +73,27 @@ impl RunLimits {
     {
         test_run(rounds, seed)?;
         Ok(RunLimits { rounds, seed, work })
+    }
+
+    /// The most rounds.
+    pub fn rounds(&self) -> u32
+        ensures { result ≡ self.now.rounds }
+    {
+        self.rounds
+    }
+
+    /// The seed of the random numbers.
+    pub fn seed(&self) -> u32
+        ensures { result ≡ self.now.seed }
+    {
+        self.seed
+    }
+
+    /// How many steps end the rounds.
+    pub fn work(&self) -> u64
+        ensures { result ≡ self.now.work }
+    {
+        self.work
     }
 
     /// The random numbers of the run.
@@ -175,14 +195,14 @@ impl Effort {
     }
 
     /// The limits of the rounds from the start.
-    pub(crate) fn from_start(&self) -> RunLimits
+    pub fn from_start(&self) -> RunLimits
         ensures { result ≡ run_from_start self.now }
     {
         self.run(self.steps() / 17)
     }
 
     /// The limits of the rounds from the best of the beam.
-    pub(crate) fn from_beam(&self) -> RunLimits
+    pub fn from_beam(&self) -> RunLimits
         ensures { result ≡ run_from_beam self.now }
     {
         self.run(self.steps() * 4 / 17)

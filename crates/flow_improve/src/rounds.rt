@@ -113,8 +113,8 @@ pub fn rounds_from<D: Deadline>(
 {
     let least = taillard_bound(instance);
     let mut run = RoundsRun::new(alloc, instance, start, limits.draws())?;
-    for _ in 0..limits.rounds {
-        if run.best.makespan <= least || run.search.steps() >= limits.work || deadline.is_over() {
+    for _ in 0..limits.rounds() {
+        if run.best.makespan <= least || run.search.steps() >= limits.work() || deadline.is_over() {
             break;
         }
         run.go_on(instance);

@@ -46,6 +46,26 @@ pub const FLOWSHOP_PROVED: u32 = 1;
 pub const FLOWSHOP_BELOW: u32 = 2;
 /// There are more directions than there is room for.
 pub const FLOWSHOP_OVER: u32 = 3;
+/// Of the task of a run: a beam or rounds came to a sequence.
+pub const FLOWSHOP_REACHED: u32 = 4;
+
+// What a run asks for.
+/// Nothing more.
+pub const FLOWSHOP_TASK_END: u32 = 0;
+/// `flowshop_prove` from the root, or the same in parts.
+pub const FLOWSHOP_TASK_SEARCH: u32 = 1;
+/// `flowshop_beam`.
+pub const FLOWSHOP_TASK_BEAM: u32 = 2;
+/// `flowshop_rounds`.
+pub const FLOWSHOP_TASK_ROUNDS: u32 = 3;
+
+// The sequence from which a beam or rounds begin.
+/// The start of the run.
+pub const FLOWSHOP_FROM_START: u32 = 0;
+/// The best sequence.
+pub const FLOWSHOP_FROM_BEST: u32 = 1;
+/// The sequence that was the best before this one.
+pub const FLOWSHOP_FROM_BEFORE: u32 = 2;
 
 /// Declares the statuses, and the call that names them.
 macro_rules! statuses {
@@ -102,6 +122,8 @@ statuses! {
     FLOWSHOP_WORK = 36;
     /// The directions are not 1 to 1000000000.
     FLOWSHOP_DIRECTIONS = 37;
+    /// What is said of the task of a run is no answer to it.
+    FLOWSHOP_ANSWER = 38;
     /// The depth is above the number of jobs.
     FLOWSHOP_PLAN_DEPTH = 40;
     /// There are more than 100000 lists of so many jobs.
@@ -252,6 +274,41 @@ pub struct flowshop_rounds_options {
     pub steps: u64,
 }
 
+/// Where a run of `certify` stands.
+#[repr(C)]
+#[derive(Clone, Copy, Debug)]
+pub struct flowshop_run_state {
+    pub lower: u64,
+    pub upper: u64,
+    pub least: u64,
+    pub inner: [u64; 11],
+    pub tasks: u32,
+    pub step: u32,
+    pub inner_place: [u32; 2],
+}
+
+/// A task of a run.
+#[repr(C)]
+#[derive(Clone, Copy, Debug)]
+pub struct flowshop_task {
+    pub kind: u32,
+    pub origin: u32,
+    pub number: u64,
+    pub budget: u64,
+    pub beam: flowshop_beam_options,
+    pub rounds: flowshop_rounds_options,
+}
+
+/// What became of a task.
+#[repr(C)]
+#[derive(Clone, Copy, Debug)]
+pub struct flowshop_answer {
+    pub found: u32,
+    pub whole: u32,
+    pub makespan: u64,
+    pub directions: u64,
+}
+
 /// A node of the two-ended tree.
 #[repr(C)]
 #[derive(Clone, Copy, Debug)]
@@ -382,5 +439,37 @@ extern "C" {
         start_count: usize,
         options: *const flowshop_rounds_options,
         reached: *mut flowshop_reached,
+    ) -> flowshop_outcome;
+    /// A run of `certify` from a sequence.
+    pub fn flowshop_run(
+        shop: *const flowshop_shop,
+        start: *const u16,
+        start_count: usize,
+        directions: u32,
+        limited: u32,
+        run: *mut flowshop_run_state,
+    ) -> flowshop_outcome;
+    /// What a run asks for next.
+    pub fn flowshop_run_next(
+        run: *mut flowshop_run_state,
+        effort: *const flowshop_effort,
+        task: *mut flowshop_task,
+    ) -> flowshop_outcome;
+    /// Tells a run what became of the task that is next.
+    pub fn flowshop_run_put(
+        run: *mut flowshop_run_state,
+        effort: *const flowshop_effort,
+        answer: *const flowshop_answer,
+        better: *mut u32,
+    ) -> flowshop_outcome;
+    /// The two-ended certificate of a sequence, a lower bound and directions.
+    pub fn flowshop_run_text(
+        shop: *const flowshop_shop,
+        sequence: *const u16,
+        sequence_count: usize,
+        lower: u64,
+        directions: *const u8,
+        directions_count: usize,
+        text: *mut flowshop_text,
     ) -> flowshop_outcome;
 }

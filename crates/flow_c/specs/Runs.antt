@@ -1,0 +1,117 @@
+-- Runs of `certify`, task by task: what is asked for, and what an answer changes.
+use Rattle.std.specs.Prelude.{ℕ, ◌≡◌, Bool, false, true, cond, nat_eq, Option, Some, None, ◌∷◌, [], List, length, not}
+use Rattle.std.specs.Option.{option_map}
+use Rattle.flow_shop.specs.Shop.{Shop}
+use Rattle.flow_shop.specs.Paths.{span}
+use Rattle.flow_shop.specs.Refusals.{first_fault}
+use Rattle.flow_check.specs.TwoEnded.{two_ended_text}
+use Rattle.flow_certify.specs.Tasks.{HasSameBounds, IsAsked, lower_after, makespan_of, may_become}
+use Rattle.flow_certify.specs.declared.run.Run.{Run}
+use Rattle.flow_certify.specs.declared.task.Task.{Task}
+use Rattle.flow_certify.specs.declared.task.Task.TheVariants as task
+use Rattle.flow_certify.specs.declared.task.Origin.{Origin}
+use Rattle.flow_certify.specs.declared.task.Origin.TheVariants.{Start, Best, Before}
+use Rattle.flow_certify.specs.declared.task.Answer.{Answer}
+use Rattle.flow_certify.specs.declared.task.Answer.TheVariants.{Proved, Below, Over, Reached}
+use Rattle.flow_c.specs.Certify.{directions_fault}
+use Rattle.flow_c.specs.Faults.{makespan_fault, room_fault, shop_of}
+use Rattle.flow_improve.specs.declared.effort.EffortFault.{EffortFault}
+use Rattle.flow_c.specs.declared.fault.Fault.{Fault}
+use Rattle.flow_c.specs.declared.fault.Fault.TheVariants.{Effort, NoAnswer}
+use Rattle.flow_c.specs.declared.run.TaskNumbers.{TaskNumbers}
+use Rattle.flow_c.specs.declared.run.AnswerNumbers.{AnswerNumbers}
+use Rattle.flow_c.specs.declared.shop.ShopNumbers.{ShopNumbers}
+
+-- why there is no run: the numbers are no instance, the jobs no sequence of it, or the directions not within their
+-- limits
+abbrev pub run_fault : ShopNumbers → List ℕ → ℕ → Option Fault
+run_fault numbers start directions = first_fault (
+    makespan_fault numbers start
+    ∷ directions_fault directions
+    ∷ [])
+
+-- the two-ended certificate of a sequence, with its makespan, and of a lower bound and directions
+abbrev pub kept_text : Shop → ℕ → List ℕ → List ℕ → List ℕ
+kept_text shop lower sequence directions =
+    two_ended_text shop (record { lower = lower; upper = span shop sequence }) sequence directions
+
+-- why there is no such text: the numbers are no instance, the jobs no sequence of it, or the text has no room
+abbrev pub text_fault : ShopNumbers → List ℕ → ℕ → List ℕ → ℕ → Option Fault
+text_fault numbers sequence lower directions bytes = first_fault (
+    makespan_fault numbers sequence
+    ∷ room_fault (length (kept_text (shop_of numbers) lower sequence directions)) bytes
+    ∷ [])
+
+-- the number of the sequence from which a beam or rounds begin
+abbrev pub origin_number : Origin → ℕ
+origin_number Start = 0
+origin_number Best = 1
+origin_number Before = 2
+
+-- the number at which a beam is aimed, which is 0 where there is none
+abbrev pub aim_number : Option ℕ → ℕ
+aim_number None = 0
+aim_number (Some number) = number
+
+-- a task as numbers; those that it has not are 0
+abbrev pub task_numbers : Task → TaskNumbers
+task_numbers task.End = record {
+  kind = 0;
+  from = 0;
+  number = 0;
+  budget = 0;
+  beam = record { number = 0; width = 0; steps = 0 };
+  rounds = record { rounds = 0; seed = 0; steps = 0 };
+}
+task_numbers (task.Search threshold budget) = record {
+  kind = 1;
+  from = 0;
+  number = threshold;
+  budget = budget;
+  beam = record { number = 0; width = 0; steps = 0 };
+  rounds = record { rounds = 0; seed = 0; steps = 0 };
+}
+task_numbers (task.Beam from limits) = record {
+  kind = 2;
+  from = origin_number from;
+  number = 0;
+  budget = 0;
+  beam = record { number = aim_number limits.below; width = limits.width; steps = limits.work };
+  rounds = record { rounds = 0; seed = 0; steps = 0 };
+}
+task_numbers (task.Rounds from limits) = record {
+  kind = 3;
+  from = origin_number from;
+  number = 0;
+  budget = 0;
+  beam = record { number = 0; width = 0; steps = 0 };
+  rounds = record { rounds = limits.rounds; seed = limits.seed; steps = limits.work };
+}
+
+-- what became of a task, as numbers say it
+abbrev pub answer_of : AnswerNumbers → Option Answer
+answer_of answer =
+    cond (nat_eq answer.found 1) (Some (Proved answer.directions))
+    (cond (nat_eq answer.found 2) (Some (Below answer.makespan answer.directions))
+    (cond (nat_eq answer.found 3) (Some Over)
+    (cond (nat_eq answer.found 4) (Some (Reached answer.makespan (not (nat_eq answer.whole 0)))) None)))
+
+-- what a run asks for next: a task that it may ask for, as numbers
+pub record IsNext (old new : Run) (numbers : TaskNumbers) : Type 0 where
+  pub asked : (task : Task) × IsAsked new task × (numbers ≡ task_numbers task)
+  pub bounds : HasSameBounds old new
+
+-- after an answer to a task that the run may ask for, its bounds are those that the answer shows
+pub record IsPut (old new : Run) (numbers : AnswerNumbers) (better : Bool) : Type 0 where
+  pub answer : Answer
+  pub said : answer_of numbers ≡ Some answer
+  pub task : Task
+  pub asked : IsAsked old task
+  pub becomes : may_become task answer ≡ true
+  pub lower : new.lower ≡ lower_after old.lower task answer
+  pub upper : new.upper ≡ cond better (makespan_of answer) old.upper
+
+-- why no answer is taken: the numbers of the effort are refused; or it is none to the task that is next
+abbrev pub IsPutFault : Option EffortFault → Fault → Type 0
+IsPutFault (Some of_effort) fault = fault ≡ Effort of_effort
+IsPutFault None fault = fault ≡ NoAnswer

@@ -1,0 +1,307 @@
+//! A run of `certify`, task by task.
+
+ghost use Rattle.std.specs.Prelude.{◌≡◌, ◌⊎◌, ◌+◌, ◌≤◌, Bool, cond, None, IfOk, OnOk, IfErr, OnErr, [], length, drop};
+ghost use Rattle.std.specs.Option.{option_map};
+ghost use Rattle.flow_shop.specs.Paths.{span};
+ghost use Rattle.flow_shop.specs.Ends.{end_bound};
+ghost use Rattle.flow_c.specs.Statuses.{number, done, memory};
+ghost use Rattle.flow_c.specs.Faults.{shop_of, numbers_fault, fault_of_effort, IsFaultOf, IsDone, HasFault, Reports};
+ghost use Rattle.flow_c.specs.Rooms.{IsSameRoom, text_in};
+ghost use Rattle.flow_c.specs.Runs.{IsNext, IsPut, IsPutFault, answer_of, kept_text, origin_number, run_fault};
+ghost use Rattle.flow_c.specs.Runs.{task_numbers, text_fault};
+ghost use Rattle.flow_c.specs.internal.Around.{behind};
+ghost use Rattle.flow_c.specs.declared.fault.Fault.{Fault};
+ghost use Rattle.flow_c.specs.declared.fault.Fault.TheVariants.{Effort};
+
+use crate::beam::BeamOptions;
+use crate::certify::{around, most_of, put};
+use crate::effort::EffortNumbers;
+use crate::fault::Fault;
+use crate::outcome::Outcome;
+use crate::room::need;
+use crate::rounds::RoundsOptions;
+use crate::shop::ShopNumbers;
+use crate::text::TextRoom;
+use flow_certify::{Answer, Origin, Run, Task};
+use flow_check::Bounds;
+use flow_shop::{Sequence, makespan};
+use flow_text::MemorySink;
+use std::alloc::Global;
+
+/// What a run asks for.
+#[repr(C)]
+#[derive(Drop)]
+pub struct TaskNumbers {
+    /// 0 where nothing more is asked for; 1 for a search, 2 for a beam, and 3 for rounds.
+    pub kind: u32,
+    /// The sequence from which a beam or rounds begin: 0 for the start, 1 for the best one, and 2 for the one that was
+    /// the best before it.
+    pub from: u32,
+    /// The number that a search is to prove.
+    pub number: u64,
+    /// The most directions of a search.
+    pub budget: u64,
+    /// How far a beam goes.
+    pub beam: BeamOptions,
+    /// When rounds end.
+    pub rounds: RoundsOptions,
+}
+
+/// What became of a task.
+#[repr(C)]
+pub struct AnswerNumbers {
+    /// Of a search: 1 where the number is proved, 2 where a sequence is below it, and 3 where it was over its budget. 4
+    /// for a beam or rounds.
+    pub found: u32,
+    /// Whether a beam or rounds were whole: 1, or else 0.
+    pub whole: u32,
+    /// The makespan of the sequence, where there is one.
+    pub makespan: u64,
+    /// How many directions a search wrote.
+    pub directions: u64,
+}
+
+impl AnswerNumbers {
+    /// What became of a task, where the numbers say something.
+    fn answer(&self) -> Option<Answer>
+        ensures { result ≡ answer_of self.now }
+    {
+        match self.found {
+            1 => Some(Answer::Proved {
+                directions: self.directions,
+            }),
+            2 => Some(Answer::Below {
+                makespan: self.makespan,
+                directions: self.directions,
+            }),
+            3 => Some(Answer::Over),
+            4 => Some(Answer::Reached {
+                makespan: self.makespan,
+                whole: self.whole != 0,
+            }),
+            _ => None,
+        }
+    }
+}
+
+/// A run of the instance of these numbers, from a sequence of it.
+fn run_of(
+    alloc: Global,
+    shop: &ShopNumbers,
+    start: &[u16],
+    directions: u32,
+    limited: u32,
+) -> Result<Run, Fault>
+    ensures lower { IfOk result (λ run. run.lower ≡ end_bound (shop_of shop.now) [] []) }
+    ensures upper { IfOk result (λ run. run.upper ≡ span (shop_of shop.now) start.now) }
+    ensures accepted { OnOk result (run_fault shop.now start.now directions ≡ None) }
+    ensures refused { IfErr result (IsFaultOf (run_fault shop.now start.now directions)) }
+    ensures memory { IfErr result (λ fault. number fault ≡ memory → numbers_fault shop.now ≡ None) }
+{
+    let instance = shop.instance(alloc)?;
+    let start = Sequence::new(alloc, &instance, start)?;
+    let most = most_of(directions)?;
+    Ok(Run::new(&instance, &start, most, limited != 0))
+}
+
+/// A run from a sequence of an instance, whose searches write at most so many directions each. Its time is limited
+/// where `limited` is not 0: then it raises the lower bound early.
+#[unsafe(no_mangle)]
+pub extern "C" fn flowshop_run(
+    alloc: Global,
+    shop: &ShopNumbers,
+    start: &[u16],
+    directions: u32,
+    limited: u32,
+    run: &mut Run,
+) -> Outcome
+    ensures status { Reports (run_fault shop.now start.now directions) result }
+    ensures memory { result.status ≡ memory → numbers_fault shop.now ≡ None }
+    ensures lower { result.status ≡ done → run.new.lower ≡ end_bound (shop_of shop.now) [] [] }
+    ensures upper { result.status ≡ done → run.new.upper ≡ span (shop_of shop.now) start.now }
+    ensures stays { result.status ≡ done → result.place ≡ 0 }
+    ensures kept { (result.status ≡ done) ⊎ (run.new ≡ run.old) }
+{
+    match run_of(alloc, shop, start, directions, limited) {
+        Ok(found) => {
+            *run = found;
+            Outcome::done()
+        }
+        Err(fault) => Outcome::refused(fault),
+    }
+}
+
+/// The number of the sequence from which a beam or rounds begin.
+fn origin(from: Origin) -> u32
+    ensures { result ≡ origin_number from }
+{
+    match from {
+        Origin::Start => 0,
+        Origin::Best => 1,
+        Origin::Before => 2,
+    }
+}
+
+/// A task as numbers; those that it has not are 0.
+fn numbers_of(task: Task) -> TaskNumbers
+    ensures { result ≡ task_numbers task }
+{
+    let mut numbers = TaskNumbers {
+        kind: 0,
+        from: 0,
+        number: 0,
+        budget: 0,
+        beam: BeamOptions {
+            number: 0,
+            width: 0,
+            steps: 0,
+        },
+        rounds: RoundsOptions {
+            rounds: 0,
+            seed: 0,
+            steps: 0,
+        },
+    };
+    match task {
+        Task::End => {}
+        Task::Search { threshold, budget } => {
+            numbers.kind = 1;
+            numbers.number = threshold;
+            numbers.budget = budget;
+        }
+        Task::Beam { from, limits } => {
+            numbers.kind = 2;
+            numbers.from = origin(from);
+            numbers.beam.number = limits.below.unwrap_or(0);
+            numbers.beam.width = limits.width;
+            numbers.beam.steps = limits.work;
+        }
+        Task::Rounds { from, limits } => {
+            numbers.kind = 3;
+            numbers.from = origin(from);
+            numbers.rounds.rounds = limits.rounds();
+            numbers.rounds.seed = limits.seed();
+            numbers.rounds.steps = limits.work();
+        }
+    }
+    numbers
+}
+
+/// What a run asks for next. Asked again, it is the same.
+#[unsafe(no_mangle)]
+pub extern "C" fn flowshop_run_next(
+    run: &mut Run,
+    effort: &EffortNumbers,
+    task: &mut TaskNumbers,
+) -> Outcome
+    ensures status { Reports (option_map Effort (fault_of_effort effort.now)) result }
+    ensures next { result.status ≡ done → IsNext run.old run.new task.new }
+    ensures kept { (result.status ≡ done) ⊎ ((run.new ≡ run.old) × (task.new ≡ task.old)) }
+{
+    match effort.effort() {
+        Ok(effort) => {
+            *task = numbers_of(run.next(&effort));
+            Outcome::done()
+        }
+        Err(fault) => Outcome::refused(Fault::Effort(fault)),
+    }
+}
+
+/// Takes what became of the task that is next. Returns whether its sequence becomes the best one.
+fn take(run: &mut Run, effort: &EffortNumbers, answer: &AnswerNumbers) -> Result<bool, Fault>
+    ensures put { IfOk result (IsPut run.old run.new answer.now) }
+    ensures accepted { OnOk result (fault_of_effort effort.now ≡ None) }
+    ensures refused { IfErr result (IsPutFault (fault_of_effort effort.now)) }
+    ensures kept { OnErr result (run.new ≡ run.old) }
+{
+    let effort = effort.effort()?;
+    let answer = answer.answer().ok_or(Fault::NoAnswer)?;
+    let mut next = *run;
+    let task = next.next(&effort);
+    let better = next.put(&task, &answer).ok_or(Fault::NoAnswer)?;
+    *run = next;
+    Ok(better)
+}
+
+/// Takes what became of the task that is next. `better` becomes 1 where its sequence becomes the best one, or else 0.
+#[unsafe(no_mangle)]
+pub extern "C" fn flowshop_run_put(
+    run: &mut Run,
+    effort: &EffortNumbers,
+    answer: &AnswerNumbers,
+    better: &mut u32,
+) -> Outcome
+    ensures put { result.status ≡ done →
+        (is_better : Bool) × IsPut run.old run.new answer.now is_better × (better.new ≡ cond is_better 1 0) }
+    ensures accepted { result.status ≡ done → fault_of_effort effort.now ≡ None }
+    ensures status { IsDone result ⊎ ((fault : Fault) × IsPutFault (fault_of_effort effort.now) fault × HasFault fault result) }
+    ensures kept { (result.status ≡ done) ⊎ ((run.new ≡ run.old) × (better.new ≡ better.old)) }
+{
+    match take(run, effort, answer) {
+        Ok(is_better) => {
+            *better = if is_better { 1 } else { 0 };
+            Outcome::done()
+        }
+        Err(fault) => Outcome::refused(fault),
+    }
+}
+
+/// The text of a sequence with its makespan and of a lower bound, with no directions, where there is room for it with so
+/// many.
+fn text_of(
+    alloc: Global,
+    shop: &ShopNumbers,
+    sequence: &[u16],
+    lower: u64,
+    directions: &[u8],
+    room: usize,
+) -> Result<MemorySink, Fault>
+    ensures text { IfOk result (λ text. text.bytes ≡ kept_text (shop_of shop.now) lower sequence.now []) }
+    ensures long_enough { IfOk result (λ text. behind ≤ length text.bytes) }
+    ensures enough { IfOk result (λ text. length text.bytes + length directions.now ≤ room) }
+    ensures accepted { OnOk result (text_fault shop.now sequence.now lower directions.now room ≡ None) }
+    ensures refused { IfErr result (IsFaultOf (text_fault shop.now sequence.now lower directions.now room)) }
+    ensures memory { IfErr result (λ fault. number fault ≡ memory → numbers_fault shop.now ≡ None) }
+{
+    let instance = shop.instance(alloc)?;
+    let sequence = Sequence::new(alloc, &instance, sequence)?;
+    let bounds = Bounds {
+        lower,
+        upper: makespan(&instance, &sequence),
+    };
+    let text = around(alloc, &instance, bounds, &sequence)?;
+    need(text.bytes().len() + directions.len(), room)?;
+    Ok(text)
+}
+
+/// The two-ended certificate of a lower bound and of a sequence with its makespan, with these directions. Nothing tests
+/// that they prove the bound.
+#[unsafe(no_mangle)]
+pub extern "C" fn flowshop_run_text(
+    alloc: Global,
+    shop: &ShopNumbers,
+    sequence: &[u16],
+    lower: u64,
+    directions: &[u8],
+    text: &mut TextRoom,
+) -> Outcome
+    ensures status { Reports
+        (text_fault shop.now sequence.now lower directions.now (length text.old.bytes.now)) result }
+    ensures memory { result.status ≡ memory → numbers_fault shop.now ≡ None }
+    ensures text { result.status ≡ done →
+        text_in text.new ≡ kept_text (shop_of shop.now) lower sequence.now directions.now }
+    ensures within { result.status ≡ done → text.new.length ≤ length text.old.bytes.now }
+    ensures beyond { result.status ≡ done →
+        drop text.new.length text.new.bytes.now ≡ drop text.new.length text.old.bytes.now }
+    ensures room { IsSameRoom text.new.bytes text.old.bytes }
+    ensures stays { result.status ≡ done → result.place ≡ 0 }
+    ensures kept { (result.status ≡ done) ⊎ (text.new ≡ text.old) }
+{
+    match text_of(alloc, shop, sequence, lower, directions, text.bytes.len()) {
+        Ok(lines) => {
+            text.length = put(lines.bytes(), directions, text.bytes);
+            Outcome::done()
+        }
+        Err(fault) => Outcome::refused(fault),
+    }
+}

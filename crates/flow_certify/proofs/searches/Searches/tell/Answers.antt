@@ -1,9 +1,0 @@
-use Rattle.flow_shop.proofs.DirectionsSound.{proved_is_lower_bound}
-use Rattle.flow_certify.proofs.searches.Searches.tell.Goals as goal
-
-pub tell-requires : goal.tell-requires
-tell-requires g c = (
-  proved_is_lower_bound c.args.shared.now.instance.now c.args.self.now.known.lower
-      c.args.self.now.known.directions.items c.requires.proved,
-  (c.args.self.now.known.sequence, c.requires.each, c.requires.attained),
-)

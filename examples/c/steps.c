@@ -1,0 +1,78 @@
+/* Finds bounds of the least makespan of a published shop task by task, and says after each what is known: steps [TASKS]
+ * After so many tasks, or an interrupt (Ctrl-C), it stops. It writes the text that proves the bounds to
+ * steps.certificate. */
+#include "flowshop.h"
+#include <inttypes.h>
+#include <signal.h>
+#include <stdio.h>
+#include <stdlib.h>
+#include <string.h>
+
+enum { JOBS = 20, MACHINES = 5, MOST = 1000000 };
+
+static volatile sig_atomic_t stopped;
+
+static void stop(int number) {
+    (void)number;
+    stopped = 1;
+}
+
+static void done(flowshop_outcome outcome) {
+    if (outcome.status == FLOWSHOP_DONE) return;
+    fprintf(stderr, "refused: %s at %zu\n", flowshop_status_name(outcome.status), outcome.place);
+    exit(1);
+}
+
+int main(int count, char **words) {
+    static uint32_t times[JOBS * MACHINES];
+    static uint8_t found[MOST], directions[MOST], bytes[MOST + 3300];
+    static uint16_t rest[JOBS * (JOBS + 4)], kept[3][JOBS], sequence[JOBS]; /* the start, the best, the one before it */
+    const long most = count > 1 ? strtol(words[1], NULL, 10) : 1000000;
+    const flowshop_shop shop = {JOBS, MACHINES, times, JOBS * MACHINES};
+    const flowshop_effort effort = {4096, 10000, 1, 8500};
+    size_t length = 0;
+    flowshop_reached reached = {kept[0], JOBS, 0, 0};
+    flowshop_run_state run;
+    flowshop_task task;
+    signal(SIGINT, stop);
+    done(flowshop_generate(JOBS, MACHINES, 873654221, times, JOBS * MACHINES));
+    done(flowshop_neh(&shop, &reached));
+    memcpy(kept[1], kept[0], sizeof kept[0]);
+    memcpy(kept[2], kept[0], sizeof kept[0]);
+    done(flowshop_run(&shop, kept[0], JOBS, MOST, 1, &run));
+    reached.sequence = sequence;
+    for (long tasks = 0; tasks < most && !stopped; tasks++) {
+        flowshop_answer answer = {FLOWSHOP_REACHED, 0, 0, 0};
+        const flowshop_node root = flowshop_root();
+        uint32_t better;
+        done(flowshop_run_next(&run, &effort, &task));
+        if (task.kind == FLOWSHOP_TASK_END) break;
+        if (task.kind == FLOWSHOP_TASK_SEARCH) {
+            flowshop_part part = {sequence, JOBS, found, task.budget, rest, sizeof rest / sizeof *rest, 0, 0, 0, 0};
+            done(flowshop_prove(&shop, &root, task.number, &part));
+            answer.found = part.found;
+            answer.makespan = part.makespan;
+            answer.directions = part.directions_length;
+        } else {
+            if (task.kind == FLOWSHOP_TASK_BEAM) {
+                done(flowshop_beam(&shop, kept[task.origin], JOBS, &task.beam, &reached));
+            } else {
+                done(flowshop_rounds(&shop, kept[task.origin], JOBS, &task.rounds, &reached));
+            }
+            answer.whole = reached.whole;
+            answer.makespan = reached.makespan;
+        }
+        done(flowshop_run_put(&run, &effort, &answer, &better));
+        if (better) {
+            memcpy(kept[2], kept[1], sizeof kept[1]);
+            memcpy(kept[1], sequence, sizeof kept[1]);
+        } else if (answer.found == FLOWSHOP_PROVED) {
+            memcpy(directions, found, length = answer.directions);
+        }
+        printf("step %" PRIu32 ": least makespan %" PRIu64 " to %" PRIu64 "\n", run.step, run.lower, run.upper);
+    }
+    flowshop_text text = {bytes, sizeof bytes, 0};
+    done(flowshop_run_text(&shop, kept[1], JOBS, run.lower, directions, length, &text));
+    FILE *file = fopen("steps.certificate", "wb");
+    return file && fwrite(bytes, 1, text.length, file) == text.length && fclose(file) == 0 ? 0 : 1;
+}
