@@ -381,6 +381,15 @@ FLOWSHOP_CALL flowshop_outcome flowshop_block(const uint8_t *text, size_t text_c
 FLOWSHOP_CALL flowshop_outcome flowshop_makespan(const flowshop_shop *shop, const uint16_t *sequence,
                                                  size_t sequence_count, uint64_t *makespan) FLOWSHOP_NOEXCEPT;
 
+/* The makespans of many sequences. `sequences` has their jobs, one sequence behind the other, and the first entries of
+ * `makespans` become their makespans, in the same order. The place of a fault is that among all these jobs: place
+ * (place - 1) % jobs + 1 of sequence (place - 1) / jobs + 1.
+ * Faults in order: JOBS, MACHINES, COUNT, TIME; LENGTH (no whole number of sequences); ROOM; JOB, TWICE (the first in
+ * `sequences`). */
+FLOWSHOP_CALL flowshop_outcome flowshop_makespans(const flowshop_shop *shop, const uint16_t *sequences,
+                                                  size_t sequences_count, uint64_t *makespans, size_t makespans_count)
+    FLOWSHOP_NOEXCEPT;
+
 /* When each job of a sequence starts and ends on each machine, where each starts as early as it can: when it has left
  * the machine before, and the job before it has left this one. Entry (p - 1) * machines + (k - 1) of `starts` and of
  * `ends` becomes that of the job at place p of the sequence on machine k. A job whose time there is 0 ends as it

@@ -47,6 +47,7 @@ static void *many(void *from) {
         uint64_t value = 0;
         wrong += flowshop_neh(&shop, &first).status;
         wrong += flowshop_makespan(&shop, start, 4, &value).status + (value != first.makespan);
+        wrong += flowshop_makespans(&shop, start, 4, begins, 12).status + (begins[0] != value);
         wrong += flowshop_beam(&shop, start, 4, &beam, &better).status + (better.makespan > value);
         wrong += flowshop_rounds(&shop, start, 4, &rounds, &better).status + (better.makespan > value);
         wrong += flowshop_solve(&shop, start, 4, &plan, &least, &text).status;

@@ -35,6 +35,13 @@ def makespan(shop, sequence):
     return call("makespan", shop_of(shop), *given(U16, sequence), value) or value.taken(1)[0]
 
 
+def makespans(shop, jobs, room=None):
+    """The makespans of sequences that stand one behind the other."""
+    count = len(jobs) // max(1, shop[0])
+    values = Room(U64, count if room is None else room)
+    return call("makespans", shop_of(shop), *given(U16, jobs), values) or values.taken(count)
+
+
 def timetable(shop, sequence, rooms=None):
     count = shop[0] * shop[1]
     starts, ends = [Room(U64, room) for room in rooms or (count, count)]
@@ -259,6 +266,7 @@ CALLS = {
 # Those on a shop alone, or with lists that are none.
 OTHER_CALLS = {
     "neh": lambda shop: neh(shop, 0), "check": lambda shop: check(shop, b"", 0),
+    "makespans": lambda shop: makespans(shop, [4], 0),
     "prove": lambda shop: prove(shop, 12, [4], [4], room=0),
     **{name: lambda shop, make=make: make(shop, [4]) for name, make in CALLS.items()},
 }
@@ -288,6 +296,7 @@ def refuse_arguments():
     for jobs, *wanted, _ in refusals.SEQUENCES:
         for name, make in CALLS.items():
             equal(f"{name} of {jobs}", make(SHOP, jobs), tuple(wanted))
+    refuse_makespans()
     for names, make in NUMBERS:
         for wanted, numbers in refusals.wrong_numbers(names):
             equal(f"the numbers {numbers}", make(*numbers.values()), (wanted.upper(), 0))
@@ -300,6 +309,20 @@ def refuse_arguments():
         ((3, 3, SHOP[2]), 0, ("OVER_BUDGET", 0)),
     ]:
         equal(f"a plan of the depth {depth}, {wanted}", solve(shop, list(range(1, shop[0] + 1)), depth, 1), wanted)
+
+
+def refuse_makespans():
+    """Many sequences, of which one is none: its place is counted from the first job of all. The first one decides."""
+    several = [([*START, *jobs], name, place and 3 + place) for jobs, name, place, _ in refusals.SEQUENCES if jobs]
+    for jobs, *wanted in [
+        *several, ([1, 1, 4, 4, 4, 4], "TWICE", 2), ([*START * 9, 1, 2, 0, 1, 1, 1], "JOB", 30), ([4] * 4, "LENGTH", 0),
+    ]:
+        equal(f"makespans of {jobs}", makespans(SHOP, jobs), tuple(wanted))
+    equal("no room, also where a job is at fault", makespans(SHOP, [4] * 6, 1), ("ROOM", 2))
+    equal("no room, also where the length is at fault", makespans(SHOP, START + [1], 0), ("LENGTH", 0))
+    for room in range(5):
+        wanted = [13, 12] if room >= 2 else ("ROOM", 2)
+        equal(f"room for {room} makespans", makespans(SHOP, [*START, 3, 1, 2], room), wanted)
 
 
 def refuse_rooms():
@@ -403,6 +426,9 @@ def compare_calls():
     long = 14, 2, [1] * 13 + [10] + [1] * 13 + [11]
     for make, wanted in [
         (lambda: makespan((2, 1, [999_999, 999_999]), [2, 1]), 1_999_998),
+        (lambda: makespans(SHOP, [1, 2, 3, *START, 3, 1, 2]), [15, 13, 12]), (lambda: makespans(SHOP, []), []),
+        (lambda: makespans((1, 1, [999_999]), [1] * 9), [999_999] * 9),
+        (lambda: makespans(great, [*range(1, 801), *range(800, 0, -1)] * 50), [824_999_175] * 100),
         # The timetable that docs/formats.md reads by hand.
         (lambda: timetable(SHOP, START), ([0, 0, 8, 0, 8, 8, 4, 8, 12], [0, 8, 8, 4, 8, 12, 4, 10, 13])),
         (lambda: timetable((1, 1, [999_999]), [1]), ([0], [999_999])),
@@ -449,6 +475,9 @@ def compare_shop(draw):
     equal("a start", (start, start_value), (first, reference.makespan(shop, first)))
     draw.shuffle(start)
     equal("a makespan", makespan(shop, start), reference.makespan(shop, start))
+    several = [draw.sample(start, len(start)) for _ in range(draw.randint(0, 4))]
+    got, wanted = makespans(shop, sum(several, [])), [reference.makespan(shop, each) for each in several]
+    equal("makespans", got, wanted)
     equal("a timetable", timetable(shop, start), plain_timetable(shop, start))
     least = reference.least(shop)
     lower = max(0, draw.choice((0, least, least - 1, least + 1)))

@@ -263,6 +263,7 @@ static int is_untouched(void) { return written() == untouched; }
 CALL(generate, flowshop_generate(of.shop.jobs, of.shop.machines, 5, lent.slices[TIMES], lent.lengths[TIMES]))
 CALL(block, flowshop_block(lent.benchmark, of.benchmark_count, 1, lent.block))
 CALL(makespan, flowshop_makespan(ON_SHOP, lent.makespan))
+CALL(makespans, flowshop_makespans(ON_SHOP, lent.slices[STARTS], lent.lengths[STARTS]))
 CALL(timetable, flowshop_timetable(ON_SHOP, lent.spans))
 CALL(picture, flowshop_picture(ON_SHOP, of.upper, lent.text))
 CALL(neh, flowshop_neh(lent.shop, lent.reached))
@@ -284,6 +285,7 @@ static const struct call {
     unsigned lengths;
 } CALLS[] = {
     {"generate", generate, BIT(TIMES)}, {"block", block, BIT(TIMES)}, {"makespan", makespan, READ},
+    {"makespans", makespans, BIT(SHOP_TIMES) | BIT(STARTS)},
     {"timetable", timetable, READ | BIT(STARTS) | BIT(ENDS)}, {"picture", picture, READ | BIT(TEXT)},
     {"neh", neh, BIT(SHOP_TIMES) | BIT(SEQUENCE)}, {"improve", improve, READ | BIT(SEQUENCE)},
     {"check", check, BIT(SHOP_TIMES) | BIT(SEQUENCE)}, {"solve", solve, READ | BIT(SEQUENCE) | BIT(TEXT)},
@@ -311,6 +313,7 @@ static void lengths_of(const struct call *call, size_t *lengths) {
     const size_t jobs = of.shop.jobs, count = jobs * of.shop.machines;
     const size_t exact[LENGTHS] = {count, jobs, count, count, count, jobs, 0, 2, 0};
     memcpy(lengths, exact, sizeof exact);
+    if (call->make == makespans) lengths[STARTS] = 1;
     how = "asked for its room";
     const flowshop_outcome outcome = made(call, lengths);
     if (outcome.status == FLOWSHOP_ROOM) lengths[call->lengths & BIT(TEXT) ? TEXT : REST] = outcome.place;

@@ -223,6 +223,12 @@ def use_arrays():
         equal(f"a sequence of {kind}", SHOP.makespan(numpy.array([3, 1, 2], dtype=kind)), 12)
     many = numpy.array([[1, 2, 3], [2, 1, 3], [3, 1, 2]])
     equal("the makespans of an array", numpy.asarray(SHOP.makespans(many)).tolist(), [15, 13, 12])
+    several = numpy.tile(many, (3_000, 1))
+    for kind in ("int64", "uint8", ">u2"):
+        equal(f"those of many of {kind}", list(SHOP.makespans(several.astype(kind))), [15, 13, 12] * 3_000)
+    several[8_500] = [3, 3, 0]
+    equal("one of many", refused(SHOP.makespans, several)[:3], ("NotASequence", "TWICE", (8_501, 2)))
+    equal("rows of two jobs", refused(SHOP.makespans, many[:, :2])[:3], ("NotASequence", "LENGTH", (1, 0)))
     equal("the array of a timetable", numpy.asarray(SHOP.schedule(many[1]).ends).max(axis=1).tolist(), [8, 12, 13])
     for table, place, wrong in [
         ([[1, 2], [-3, 4]], (2, 1), "is -3, and has to be from 0 to 999,999"),
@@ -573,6 +579,15 @@ def refuse_sequences():
         got = refused(SHOP.makespans, [[1, 2, 3], jobs])
         wanted = "NotASequence", name, (2, place), f"sequence 2: {sentence}"
         equal(f"many with {jobs!r}", (*got[:3], got[3][: len(sentence) + 12]), wanted)
+    # The first fault is told, whatever a later sequence has.
+    for what, many, name, place in [
+        ("one behind many", [[1, 2, 3]] * 5_000 + [[1, 2, 1], [4]], "TWICE", (5_001, 3)),
+        ("a job twice before a name", [[1, 1, 2], ["Door"]], "TWICE", (1, 2)),
+        ("a job twice before an error", [[1, 1, 2], (1 // 0 for _ in [0])], "TWICE", (1, 2)),
+        ("few jobs before a wrong one", [(1, 2, 3), [1, 2], [4, 4, 4]], "LENGTH", (2, 0)),
+        ("a wrong job before no list", [[1, 2, 3], [1, 2, 4], 5], "JOB", (2, 3)),
+    ]:
+        equal(f"many with {what}", refused(SHOP.makespans, many)[:3], ("NotASequence", name, place))
     for many in (5, {(1, 2, 3)}, {"a": [1, 2, 3]}):
         wanted = "NotASequence", "JOB", 0, f"many sequences are a list of lists of job numbers, and this is {many!r}"
         equal(f"many that are {many!r}", refused(SHOP.makespans, many), wanted)

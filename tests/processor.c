@@ -62,6 +62,7 @@ int main(void) {
     MAKE(generate, 3, 3, 1, rooms.times, 9);
     MAKE(block, block, sizeof BLOCK - 1, 1, &rooms.block);
     MAKE(makespan, &SHOP, START, 3, &rooms.makespan);
+    MAKE(makespans, &SHOP, START, 3, rooms.starts, 9);
     MAKE(timetable, &SHOP, START, 3, &rooms.spans);
     MAKE(picture, &SHOP, START, 3, 0, &rooms.text);
     MAKE(neh, &SHOP, &rooms.reached);

@@ -181,6 +181,7 @@ CALLS: Dict[str, List[Any]] = {
     "generate": [u32, u32, u32, out(u32), size],
     "block": [data, size, u32, out(BlockRoom)],
     "makespan": [*_ON_SHOP, out(u64)],
+    "makespans": [*_ON_SHOP, out(u64), size],
     "timetable": [*_ON_SHOP, out(SpansRoom)],
     "picture": [*_ON_SHOP, u64, out(TextRoom)],
     "neh": [out(ShopNumbers), out(ReachedRoom)],

@@ -1,10 +1,11 @@
 """Sequences as they are given: lists, arrays, and what the calls on a shop give."""
 
 import os
+import struct
 from array import array
 from operator import index
 from typing import (
-    Any, Dict, Hashable, Iterable, Iterator, List, Literal, Optional, Sequence, SupportsIndex, Tuple, Union
+    Any, Callable, Dict, Hashable, Iterable, Iterator, List, Literal, Optional, Sequence, SupportsIndex, Tuple, Union
 )
 
 from ._errors import NotASequence, OptionError, counted, shown
@@ -18,6 +19,8 @@ Many = Union[Iterable[Jobs], Array]
 By = Optional[Literal["name", "number"]]
 _RESULTS = (Start, Certificate, Timetable)
 _MOST_NAMED = 3
+# How many sequences a call of the library takes at most, so that an interrupt is seen between two calls.
+_AT_ONCE = 4096
 
 
 class Naming:
@@ -117,23 +120,51 @@ def packed_node(front: Any, back: Any, naming: Naming, by: By) -> Tuple[bytes, b
 
 
 def packed_many(given: Any, naming: Naming, by: By) -> Iterator[bytes]:
-    """Many sequences, each as 16-bit numbers. NotASequence, of which the place is (number, place), where one has
-    something else."""
+    """Many sequences, some thousands at a time, one behind the other as 16-bit numbers. NotASequence, of which the
+    place is (number, place), where one has something else or another length. Those before it are given first."""
     given = given.to_numpy() if hasattr(given, "to_numpy") else given
+    is_plain = naming.are_numbers(by) and by in (None, "number")
     kind = str(getattr(getattr(given, "dtype", None), "kind", ""))
     is_whole = kind in ("i", "u") and given.ndim == 2 and given.size > 0 and not hasattr(given, "filled")
-    if is_whole and naming.are_numbers(by) and by in (None, "number") and 0 <= given.min() <= given.max() <= 65_535:
-        rows, width = given.astype("uint16", order="C").tobytes(), 2 * given.shape[1]
+    if is_whole and is_plain and given.shape[1] == naming.count and 0 <= given.min() <= given.max() <= 65_535:
+        rows, width = given.astype("uint16", order="C").tobytes(), 2 * naming.count * _AT_ONCE
         yield from (rows[at : at + width] for at in range(0, len(rows), width))
         return
+    pack, held = _packer(naming, by, is_plain), []
     for number, sequence in enumerate(items_of(given, "many sequences are a list of lists of job numbers"), 1):
         try:
-            yield packed(sequence, naming, by)
-        except NotASequence as error:
-            raise of_many(number, error) from None
+            held.append(pack(sequence))
+        except Exception as error:  # of any kind: a fault of a sequence before it is told in its place
+            yield b"".join(held)
+            if isinstance(error, NotASequence):
+                raise _of_many(number, error) from None
+            raise
+        if len(held) == _AT_ONCE:
+            yield b"".join(held)
+            held.clear()
+    yield b"".join(held)
 
 
-def of_many(number: int, error: NotASequence) -> NotASequence:
+def _packer(naming: Naming, by: By, is_plain: bool) -> Callable[[Any], bytes]:
+    """What packs a sequence of all jobs. NotASequence where it has something else or another length. Where whole
+    numbers are those of jobs, a list of as many of them is packed at once."""
+    at_once = struct.Struct(f"{naming.count}H").pack
+
+    def pack(sequence: Any) -> bytes:
+        if is_plain and type(sequence) in (list, tuple):
+            try:
+                return at_once(*sequence)
+            except struct.error:
+                pass
+        jobs = packed(sequence, naming, by)
+        if len(jobs) != 2 * naming.count:
+            raise not_a_sequence(Refused("LENGTH", 0), jobs, naming.count)
+        return jobs
+
+    return pack
+
+
+def _of_many(number: int, error: NotASequence) -> NotASequence:
     """The refusal of one of many sequences."""
     place = error.place if isinstance(error.place, int) else 0
     return NotASequence(error.name, (number, place), f"sequence {number}: {error}")
@@ -174,6 +205,13 @@ def not_a_sequence(refused: Refused, sequence: bytes, count: int) -> NotASequenc
     else:
         sentence = f"the sequence has {counted(len(jobs), 'job')}, and the shop has {count:,}"
     return NotASequence(refused.name, place, f"{sentence}; each job stands in it once")
+
+
+def not_many(refused: Refused, jobs: bytes, count: int, before: int) -> NotASequence:
+    """The refusal of one of many sequences of so many jobs, which stand behind so many others."""
+    at, place = divmod(refused.place - 1, count)
+    sequence = jobs[2 * at * count : 2 * (at + 1) * count]
+    return _of_many(before + at + 1, not_a_sequence(Refused(refused.name, place + 1), sequence, count))
 
 
 def not_a_node(refused: Refused, front: bytes, back: bytes, count: int) -> NotASequence:

@@ -28,7 +28,7 @@ from ._page import MOST_BARS, Facts, page
 from ._parts import BELOW, OVER, PROVED, Instance, PackedPart, Pieces, Rooms, parts_of
 from ._results import Certificate, Names, Path, Picture, Report, Start, Timetable, listed, with_names
 from ._saving import save
-from ._sequences import By, Jobs, Many, Naming, not_a_node, not_a_sequence, of_many, packed
+from ._sequences import By, Jobs, Many, Naming, not_a_node, not_a_sequence, not_many, packed
 from ._sequences import packed_many, packed_node
 from ._spread import Map, Workers
 from ._tables import Table, read_kept, read_table
@@ -367,12 +367,21 @@ class Shop(metaclass=Brief):
         array('q', [15, 13, 12])
         """
         values = array("q")
-        for number, sequence in enumerate(packed_many(sequences, self._naming, by), 1):
-            try:
-                values.append(self._makespan(sequence))
-            except NotASequence as error:
-                raise of_many(number, error) from None
+        for jobs in packed_many(sequences, self._naming, by):
+            values.frombytes(self._makespans(jobs, len(values)))
         return values
+
+    def _makespans(self, jobs: bytes, before: int) -> bytes:
+        """The makespans of packed sequences that stand behind so many others, as 64-bit numbers."""
+        count = len(jobs) // (2 * self.jobs)
+        room = (u64 * count)()
+        try:
+            call("makespans", self._lent, jobs, len(jobs) // 2, room, count)
+        except Refused as refused:
+            if refused.name in ("JOB", "TWICE"):
+                raise not_many(refused, jobs, self.jobs, before) from None
+            raise
+        return bytes(room)
 
     def schedule(self, sequence: Jobs, *, by: By = None) -> Timetable:
         """The timetable of a sequence, where each job starts as early as it can. A Certificate is checked; NotLawful

@@ -1,4 +1,6 @@
 mod Tested
+mod FirstFault
+mod Pushed
 mod Found
 mod TextSize
 mod Puts

@@ -1,6 +1,7 @@
 pub mod Statuses
 pub mod Places
 pub mod Faults
+pub mod Makespans
 pub mod Checks
 pub mod Blocks
 pub mod Certify

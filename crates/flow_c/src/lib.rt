@@ -15,7 +15,9 @@
 //! - `version.rt`: `flowshop_version`.
 //! - `generate.rt`: `flowshop_generate`.
 //! - `block.rt`: `flowshop_block`.
+//! - `span.rt`: the makespan of a sequence, two jobs at a time.
 //! - `makespan.rt`: `flowshop_makespan`.
+//! - `makespans.rt`: `flowshop_makespans`.
 //! - `timetable.rt`: `flowshop_timetable`.
 //! - `picture.rt`: `flowshop_picture`.
 //! - `neh.rt`: `flowshop_neh`.
@@ -39,6 +41,7 @@ mod fault;
 mod generate;
 mod improve;
 mod makespan;
+mod makespans;
 mod neh;
 mod node;
 mod outcome;
@@ -51,6 +54,7 @@ mod rounds;
 mod run;
 mod shop;
 mod solve;
+mod span;
 mod text;
 mod timetable;
 mod version;

@@ -366,6 +366,14 @@ extern "C" {
         sequence_count: usize,
         makespan: *mut u64,
     ) -> flowshop_outcome;
+    /// The makespans of many sequences, which stand one behind the other.
+    pub fn flowshop_makespans(
+        shop: *const flowshop_shop,
+        sequences: *const u16,
+        sequences_count: usize,
+        makespans: *mut u64,
+        makespans_count: usize,
+    ) -> flowshop_outcome;
     /// When each job of a sequence starts and ends on each machine.
     pub fn flowshop_timetable(
         shop: *const flowshop_shop,

@@ -162,6 +162,18 @@ pub(crate) fn makespan(shop: Numbers, sequence: &[u16]) -> Result<u64, Refused> 
     Ok(value)
 }
 
+/// The makespans of many sequences of the shop, which stand one behind the other.
+pub(crate) fn makespans(shop: Numbers, sequences: &[u16]) -> Result<Vec<u64>, Refused> {
+    let count = sequences.len() / (shop.jobs as usize).max(1);
+    let mut values = Room::new(count)?;
+    let (shop, jobs) = (shop.record(), sequences.as_ptr());
+    // SAFETY: each pointer goes with its count. A call that is done wrote an entry for each sequence.
+    unsafe {
+        done(|| sys::flowshop_makespans(&shop, jobs, sequences.len(), values.pointer(), count))?;
+        Ok(values.taken(count))
+    }
+}
+
 /// When each operation of a sequence of the shop starts and ends.
 pub(crate) fn timetable(shop: Numbers, sequence: &[u16]) -> Result<(Vec<u64>, Vec<u64>), Refused> {
     let count = shop.times.len();

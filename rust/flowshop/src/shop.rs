@@ -192,6 +192,20 @@ impl Shop {
         Ok(call::makespan(self.numbers(), sequence.as_ref())?)
     }
 
+    /// The makespans of many sequences, which stand one behind the other. The place of an error is counted over all
+    /// jobs.
+    ///
+    /// ```
+    /// use flowshop::{Error, Shop};
+    /// let shop = Shop::from_jobs(&[[4, 0, 4], [0, 8, 0], [0, 2, 1]])?;
+    /// assert_eq!(shop.makespans([1, 2, 3, 2, 1, 3])?, [15, 13]);
+    /// assert_eq!(shop.makespans([1, 2, 3, 2, 1, 2]), Err(Error::Twice { place: 6 }));
+    /// # Ok::<(), Error>(())
+    /// ```
+    pub fn makespans(&self, sequences: impl AsRef<[u16]>) -> Result<Vec<u64>, Error> {
+        Ok(call::makespans(self.numbers(), sequences.as_ref())?)
+    }
+
     /// When each job of a sequence starts and ends on each machine.
     ///
     /// ```

@@ -110,6 +110,10 @@ fn sequences() {
         assert_eq!(shop.makespan(jobs), Ok(makespan));
         assert_eq!((sequence.jobs(), sequence.makespan()), (&jobs[..], makespan));
     }
+    let several = MAKESPANS.map(|(jobs, _)| jobs).concat();
+    assert_eq!(shop.makespans(several), Ok(MAKESPANS.map(|(_, makespan)| makespan).to_vec()));
+    assert_eq!(shop.makespans([]), Ok(vec![]));
+    assert_eq!(shop.makespans([3, 1, 2, 1, 2, 1]), Err(Error::Twice { place: 6 }));
     assert_eq!(shop.sequence([3, 1, 2]).unwrap().to_string(), "3 1 2");
     for (jobs, wanted) in [
         (&[][..], Error::Length),
