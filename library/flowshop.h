@@ -257,8 +257,8 @@ typedef struct flowshop_part {
     size_t rest_length;
 } flowshop_part;
 
-/* Where a run of certify stands. It is numbers alone, which the caller only reads: it can be copied, kept in a file, and
- * gone on with. The bounds are those that are proved by what the caller keeps. */
+/* Where a run of certify stands. It is numbers alone, which the caller only reads: it can be copied, kept in a file,
+ * and gone on with. Its bounds are those that what the caller keeps proves. */
 typedef struct flowshop_run_state {
     uint64_t lower; /* no sequence has a smaller makespan */
     uint64_t upper; /* the makespan of the best sequence */
@@ -492,8 +492,8 @@ FLOWSHOP_CALL flowshop_outcome flowshop_rounds(const flowshop_shop *shop, const 
  * not 0, the run may be stopped before its end, and raises the lower bound early. flowshop_run_next says what is to be
  * done, and flowshop_run_put is told what became of it; flowshop_certify does the same on one thread. The caller keeps
  * the start, the best sequence and the one that was the best before it, and the directions of the last search that
- * proved its number. At any time these are a certificate of the bounds of the run, which flowshop_run_text writes: a run
- * may be stopped between two tasks, shown, kept, and gone on with. Its tasks do not depend on who does them.
+ * proved its number. At any time these are a certificate of the bounds of the run, which flowshop_run_text writes: so a
+ * run may be stopped between two tasks, shown, kept, and gone on with. Its tasks do not depend on who does them.
  * Faults in order: JOBS, MACHINES, COUNT, TIME; LENGTH, JOB, TWICE (of start); DIRECTIONS. */
 FLOWSHOP_CALL flowshop_outcome flowshop_run(const flowshop_shop *shop, const uint16_t *start, size_t start_count,
                                             uint32_t directions, uint32_t limited, flowshop_run_state *run)

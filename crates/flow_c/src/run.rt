@@ -143,7 +143,7 @@ fn origin(from: Origin) -> u32
 }
 
 /// A task as numbers; those that it has not are 0.
-fn numbers_of(task: Task) -> TaskNumbers
+fn numbers_of_task(task: Task) -> TaskNumbers
     ensures { result ≡ task_numbers task }
 {
     let mut numbers = TaskNumbers {
@@ -200,7 +200,7 @@ pub extern "C" fn flowshop_run_next(
 {
     match effort.effort() {
         Ok(effort) => {
-            *task = numbers_of(run.next(&effort));
+            *task = numbers_of_task(run.next(&effort));
             Outcome::done()
         }
         Err(fault) => Outcome::refused(Fault::Effort(fault)),

@@ -96,7 +96,7 @@ impl Run {
     }
 
     /// Whether the makespan of the best sequence is proved.
-    pub fn is_proved(&self) -> bool
+    fn is_proved(&self) -> bool
         ensures { IsTrue result ↔ self.now.upper ≤ self.now.lower }
     {
         self.lower >= self.upper
