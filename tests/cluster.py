@@ -293,6 +293,64 @@ class Stream(io.StringIO):
         self.isatty = lambda: is_terminal
 
 
+def stopped_after(tasks, call):
+    """The certificate of a run that is interrupted before it is asked for so many tasks, or that has ended before."""
+    asked = iter(range(tasks))
+    ask = _certify.Run._next
+
+    def next_of(self, run):
+        if next(asked, None) is None:
+            raise KeyboardInterrupt
+        return ask(self, run)
+
+    with mock.patch.object(_certify.Run, "_next", next_of):
+        try:
+            return call()
+        except Interrupted as stopped:
+            return stopped.result
+
+
+def resume_runs():
+    """Runs that are stopped at drawn moments and gone on with, by a certificate, a state and a file of it: what is kept
+    is lawful at each, and the text is that of a run that was not stopped. States that are none."""
+    draw, ended = random.Random(11), 0
+    for shop, choice in drawn_runs():
+        if choice["directions"] > 200_000:
+            continue
+        wanted = shop.certify(**choice)
+        equal("the state of a run that has ended", wanted.state, None)
+        found = stopped_after(draw.randint(0, 9), lambda: shop.certify(**choice, workers=draw.randint(1, 2)))
+        while found.state is not None:
+            equal("what a run keeps that is stopped", lawful(shop, found), True)
+            with tempfile.TemporaryDirectory() as folder:
+                path = pathlib.Path(folder, "state")
+                path.write_bytes(found.state)
+                kept = draw.choice([found, found.state, path])
+                found = stopped_after(draw.randint(1, 9), lambda: shop.certify(resume=kept, workers=draw.randint(1, 2)))
+        ended += 1
+        equal(f"the text of {shop!r} with {choice}, gone on with", found.text == wanted.text, True)
+    equal("that there are such runs", ended > 15, True)
+    token = threading.Event()
+    token.set()
+    begun = time.monotonic()
+    found = HARD.certify(**LONG, token=token)
+    equal("a token ends a run", (time.monotonic() - begun < 1, lawful(HARD, found), found.optimal), (True, True, False))
+    state = found.state
+    # A lower bound that is not proved, other numbers, another shop, a text that is cut off, and no state at all.
+    head, *lines = state.split(b"\n")
+    more = (HARD.bound() + 1).to_bytes(8, "little").hex().encode() + lines[2][16:]
+    for wrong in (
+        b"\n".join([head, *lines[:2], more, *lines[3:]]), state.replace(b"two", b"2").replace(b"run 1", b"run 2"),
+        b"\n".join([head, lines[0], lines[1] + b"0" * 9, *lines[2:]]), state[: len(state) // 2], b"", HARD.neh,
+        HARD.certify(**{**LONG, "directions": 10, "work": 0}), SOME.certify(**FEW, time_limit=0).state,
+    ):
+        try:
+            got = HARD.certify(resume=wrong)
+        except (flowshop.OptionError, TypeError) as error:
+            got = error.name if isinstance(error, flowshop.OptionError) else "RESUME"
+        equal(f"a state that is none: {str(wrong)[:60]}", got, "RESUME")
+
+
 def show_progress():
     """Lines on standard error: one that a terminal writes anew, else at most two in a second; and always a last one."""
     for is_terminal in (True, False):
@@ -1073,6 +1131,7 @@ def use_local():
         follow_manual()
         compare_texts(pool)
         keep_time(pool)
+        resume_runs()
         show_progress()
         interrupt_runs(pool)
         lose_results(pool)

@@ -1,7 +1,7 @@
 """Runs of certify, which the library leads task by task, with searches whose parts workers do; and of improve."""
 
 from functools import partial
-from typing import Callable, Dict, NamedTuple, Tuple
+from typing import Callable, Dict, NamedTuple, Optional, Tuple
 
 from ._library import AnswerNumbers, EffortNumbers, RunNumbers, TaskNumbers, byref, call, u32
 from ._parts import OVER, PROVED, REACHED, Instance, Reached
@@ -76,18 +76,32 @@ class Better:
             self.best = reached
 
 
+class Kept(NamedTuple):
+    """What a run keeps after a task: where it stands, the start, the best sequence, the one that was the best before
+    it, and the directions that prove its lower bound."""
+
+    numbers: bytes
+    start: bytes
+    best: bytes
+    before: bytes
+    directions: bytes
+
+    def known(self) -> Known:
+        """What it proves."""
+        run = RunNumbers.from_buffer_copy(self.numbers)
+        return Known(run.lower, run.upper, self.best, self.directions)
+
+
 class Run:
     """The tasks of a run, one after the other, and what they found so far."""
 
-    def __init__(self, shop: Numbers, start: bytes, effort: Effort, directions: int, is_limited: bool) -> None:
-        self._shop, self._effort = shop, EffortNumbers(*effort)
-        self._run = Instance(*shop).run(start, directions, is_limited)
-        self.known = Known(self._run.lower, self._run.upper, start, b"")
-        # The start, the best sequence, and the one that was the best before it.
-        self._origins = start, start, start
+    def __init__(self, shop: Numbers, effort: Effort, kept: Kept) -> None:
+        self._shop, self._effort, self.kept = shop, EffortNumbers(*effort), kept
+        self._run = RunNumbers.from_buffer_copy(kept.numbers)
         # Beams and rounds that are begun, each with its sequence.
         self._begun: Dict[Tuple[_Words, bytes], Callable[[], Reached]] = {}
         self._written, self._writing = 0, 0
+        self.has_ended = False
         self._spread: Spread
         self._pause: Callable[[], None]
 
@@ -107,7 +121,7 @@ class Run:
 
     def _progress(self, seconds: float) -> Progress:
         """How far the run has come."""
-        known = self.known
+        known = self.kept.known()
         return Progress(self._run.step, known.lower, known.upper, self._written + self._writing, seconds)
 
     def _go_on(self) -> None:
@@ -116,6 +130,7 @@ class Run:
             self._pause()
             task = self._next(self._run)
             if task.kind == _END:
+                self.has_ended = True
                 return
             if task.kind == _SEARCH:
                 self._search(task)
@@ -139,26 +154,28 @@ class Run:
         found = self._spread.prove(task.number, task.budget)
         self._writing, self._written = 0, self._written + found.written
         better = self._put(self._run, AnswerNumbers(found.kind, 0, found.makespan, found.written))
-        if better:
-            self._take(found.sequence)
-        elif found.kind == PROVED:
-            self.known = self.known._replace(lower=self._run.lower, directions=found.directions)
+        self._keep(found.sequence if better else None, found.directions if found.kind == PROVED else None)
 
-    def _take(self, sequence: bytes) -> None:
-        """Keeps a sequence as the best one."""
-        start, best, _ = self._origins
-        self._origins = start, sequence, best
-        self.known = self.known._replace(upper=self._run.upper, sequence=sequence)
+    def _keep(self, sequence: Optional[bytes], directions: Optional[bytes]) -> None:
+        """Keeps where the run stands, a better sequence where there is one, and directions where they prove more."""
+        _, start, best, before, proved = self.kept
+        if sequence is not None:
+            best, before = sequence, best
+        self.kept = Kept(bytes(self._run), start, best, before, proved if directions is None else directions)
+
+    def _origin(self, task: TaskNumbers) -> bytes:
+        """The sequence from which a beam or rounds begin."""
+        return (self.kept.start, self.kept.best, self.kept.before)[task.origin]
 
     def _improve(self, task: TaskNumbers) -> None:
         """Makes a beam or rounds, and keeps the sequence where it is better."""
-        key = _words(task), self._origins[task.origin]
+        key = _words(task), self._origin(task)
         if key not in self._begun:
             self._begun = {}
             self._begin()
         reached = self._begun.pop(key)()
-        if self._put(self._run, AnswerNumbers(REACHED, int(reached.whole), reached.makespan, 0)):
-            self._take(reached.sequence)
+        better = self._put(self._run, AnswerNumbers(REACHED, int(reached.whole), reached.makespan, 0))
+        self._keep(reached.sequence if better else None, None)
 
     def _begin(self) -> None:
         """Begins the beam or the rounds that are next, and, where several may be made at once, those that follow where
@@ -168,10 +185,15 @@ class Run:
             task = self._next(run)
             if task.kind not in (_BEAM, _ROUNDS):
                 return
-            words, start = _words(task), self._origins[task.origin]
+            words, start = _words(task), self._origin(task)
             name, *options = words
             self._begun[words, start] = self._spread.ahead(partial(self._spread.reached, name, start, *options))
             self._put(run, AnswerNumbers(REACHED, 0, run.upper, 0))
+
+
+def begun(shop: Numbers, start: bytes, directions: int, is_limited: bool) -> Kept:
+    """What a run keeps at its beginning."""
+    return Kept(bytes(Instance(*shop).run(start, directions, is_limited)), start, start, start, b"")
 
 
 def _words(task: TaskNumbers) -> _Words:

@@ -130,7 +130,8 @@ def _certified(work: Work, search: _Search) -> Row:
     begun, meter = time.monotonic(), Meter()
     watch = Watch(search.time_limit, lambda progress: search.lines(f"{work.file} {work.block}: {progress}"))
     start, workers = search.starts.get(work.path), search.workers._replace(meter=meter)
-    found = work.shop._certify(start, search.effort, search.directions, workers, watch)
+    state = work.shop._begin(start, search.effort, search.directions, watch.is_limited)
+    found = work.shop._certify(state, workers, watch)
     times = meter.seconds(), time.monotonic() - begun
     save_certificate(work.path, found.text)
     return row_of(work, found, times)

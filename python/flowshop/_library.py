@@ -192,6 +192,7 @@ CALLS: Dict[str, List[Any]] = {
     "run": [*_ON_SHOP, u32, u32, out(RunNumbers)],
     "run_next": [out(RunNumbers), out(EffortNumbers), out(TaskNumbers)],
     "run_put": [out(RunNumbers), out(EffortNumbers), out(AnswerNumbers), out(u32)],
+    "run_text": [*_ON_SHOP, u64, data, size, out(TextRoom)],
     "prove": [out(ShopNumbers), out(NodeLists), u64, out(PartRooms)],
     "beam": [*_ON_SHOP, out(BeamOptions), out(ReachedRoom)],
     "rounds": [*_ON_SHOP, out(RoundsOptions), out(ReachedRoom)],

@@ -82,3 +82,10 @@ def function_of(name: str, value: Any, wanted: str) -> None:
     """Refuses what is neither a function nor None. OptionError, which says what is wanted."""
     if value is not None and not callable(value):
         raise OptionError(name.upper(), 0, f"{name} is {shown(value)}, and has to be {wanted}")
+
+
+def token_of(value: Any) -> None:
+    """Refuses what can not be asked whether it is set. OptionError."""
+    if value is not None and not callable(getattr(value, "is_set", None)):
+        sentence = f"token is {shown(value)}, and has to have is_set, as a threading.Event has, or to be None"
+        raise OptionError("TOKEN", 0, sentence)

@@ -4,7 +4,7 @@ import html
 import os
 import re
 from dataclasses import dataclass, field
-from typing import Any, Dict, Hashable, Iterator, List, NamedTuple, Sequence, Tuple, Union, overload
+from typing import Any, Dict, Hashable, Iterator, List, NamedTuple, Optional, Sequence, Tuple, Union, overload
 
 from . import _json
 from ._bounded import Bounded, needed
@@ -400,6 +400,16 @@ class Certificate(_Ordered):
     text: bytes
     names: Names = field(default=(), compare=False)
     _shop: Any = field(default=None, compare=False)
+    _state: Any = field(default=None, compare=False)
+
+    @property
+    def state(self) -> Optional[bytes]:
+        """Where the run of `certify` stood that was stopped with this, for `certify(resume=..)`. None where no run was.
+
+        >>> shop.certify().state is None
+        True
+        """
+        return None if self._state is None else bytes(self._state())
 
     @property
     def value(self) -> int:

@@ -7,6 +7,7 @@ import re
 from array import array
 from contextlib import suppress
 from dataclasses import asdict, replace
+from functools import partial
 from math import perm
 from typing import (
     Any, Callable, Collection, Dict, Hashable, Iterable, List, NamedTuple, NoReturn, Optional, Tuple, Union
@@ -14,26 +15,27 @@ from typing import (
 
 from . import _json
 from ._brief import Brief, BriefABC
-from ._certify import Better, Effort, Known, Run
+from ._certify import Better, Effort, Known, Run, begun
 from ._clock import Plain, times_of
 from ._drawing import with_times
 from ._errors import Interrupted, NotASequence, NotAShop, NotLawful, OptionError, OverBudget, TextError
 from ._errors import counted, readable
 from ._found import Below, Over, Proved, numbers_of, part_of
 from ._labels import Unit, label_lines, unit_of
-from ._library import BoundsRoom, EffortNumbers, Plan, ReachedRoom, Refused, ShopNumbers, SpansRoom
+from ._library import BoundsRoom, EffortNumbers, Plan, ReachedRoom, Refused, ShopNumbers, SpansRoom, TextRoom
 from ._library import byref, call, size, u16, u32, u64
-from ._options import MOST_TREES, OF_PARTS, STATED, function_of, option, scale_of, time_limit_of, workers_of
+from ._options import MOST_TREES, OF_PARTS, STATED, function_of, option, scale_of, time_limit_of, token_of, workers_of
 from ._page import MOST_BARS, Facts, page
 from ._parts import BELOW, OVER, PROVED, Instance, PackedPart, Pieces, Rooms, parts_of
 from ._results import Certificate, Names, Path, Picture, Report, Start, Timetable, listed, with_names
+from ._resume import State, refused, state_of
 from ._saving import save
 from ._sequences import By, Jobs, Many, Naming, not_a_node, not_a_sequence, not_many, packed
 from ._sequences import packed_many, packed_node
 from ._spread import Map, Workers
 from ._tables import Table, read_kept, read_table
-from ._texts import Text, block_text, blocks_of, not_lawful, order_of, start_of, text_of, two_ended_text, written
-from ._waiting import Progress, Watch, waited, waited_for
+from ._texts import Text, block_text, blocks_of, not_lawful, order_of, start_of, text_of, written
+from ._waiting import Progress, Token, Watch, waited, waited_for
 
 # The most bytes that a text has beside its trees or its directions.
 _BESIDE = 3300
@@ -484,7 +486,7 @@ class Shop(metaclass=Brief):
         10
         """
         if self._bound is None:
-            bound = Instance(*self._parts[:3]).run(self._in_order(), 1, False).lower
+            bound = int(Instance(*self._parts[:3]).run(self._in_order(), 1, False).lower)
             object.__setattr__(self, "_bound", bound)
             return bound
         return self._bound
@@ -670,6 +672,8 @@ class Shop(metaclass=Brief):
         map: Optional[Map] = None,
         time_limit: Optional[float] = None,
         progress: Union[bool, Callable[[Progress], object], None] = None,
+        token: Optional[Token] = None,
+        resume: Union[bytes, os.PathLike[str], Certificate, None] = None,
         by: By = None,
     ) -> Certificate:
         """Bounds of the least makespan with a two-ended certificate of them, by searches from a sequence, or from that
@@ -689,19 +693,46 @@ class Shop(metaclass=Brief):
         certificate was read by `check`. `by` is that of `makespan`. Errors are those of `improve`, and those of the
         map.
 
+        A `token`, such as a threading.Event, ends the call from another thread as a time limit does, once it is set.
+        A certificate of a run that was stopped has a `state`: with `resume` as such a state, a file of it
+        (pathlib.Path), or that certificate a run goes on behind the last task that it had done, with its own numbers,
+        and comes to what it would have come to. OptionError where it is no state of a run of this shop.
+
         >>> certificate = shop.certify(workers=4, time_limit=60)
         >>> certificate.lower, certificate.upper
         (12, 12)
         """
         effort = Effort(option("width", width), option("rounds", rounds), option("seed", seed), option("work", work))
-        most, count = option("directions", directions), workers_of(workers)
-        limit = time_limit_of(time_limit)
+        most, count, limit = option("directions", directions), workers_of(workers), time_limit_of(time_limit)
         function_of("map", map, "that of an executor, or of a pool, such as pool.map, or None")
         if not isinstance(progress, bool):
             function_of("progress", progress, "True, or a function that takes a Progress, or None")
-        begun, at_once = self._begun(start, by), min(4, count) if map is None else 4
-        found = self._certify(begun, effort, most, Workers(map, count, at_once), Watch(limit, progress))
+        token_of(token)
+        if resume is None:
+            state = self._begin(self._begun(start, by), effort, most, limit is not None)
+        else:
+            state = self._resumed(resume)
+        at_once = min(4, count) if map is None else 4
+        found = self._certify(state, Workers(map, count, at_once), Watch(limit, progress, token))
         return self._read(found) if map is None and limit is None else found
+
+    def _begin(self, start: Optional[bytes], effort: Effort, directions: int, is_limited: bool) -> State:
+        """The state of a run at its beginning, from a sequence, or from that of `neh`."""
+        first = self._begun(None) if start is None else start
+        return State(effort, directions, begun(self._parts[:3], first, directions, is_limited))
+
+    def _resumed(self, resume: Union[bytes, os.PathLike[str], Certificate]) -> State:
+        """A state whose bounds the checker has read. OptionError where it is none."""
+        given = resume.state if isinstance(resume, Certificate) else resume
+        state = state_of(self._parts[:3], b"" if given is None else text_of(given))
+        known = state.kept.known()
+        try:
+            found = self.check(self._certificate(known))
+        except NotLawful:
+            raise refused() from None
+        if (found.lower, found.upper) != (known.lower, known.upper):
+            raise refused()
+        return state
 
     def _read(self, found: Certificate) -> Certificate:
         """A certificate that the checker has read. An interrupt leaves it as it is."""
@@ -710,26 +741,33 @@ class Shop(metaclass=Brief):
         except KeyboardInterrupt:
             raise Interrupted(found) from None
 
-    def _certify(
-        self, start: Optional[bytes], effort: Effort, directions: int, workers: Workers, watch: Watch
-    ) -> Certificate:
+    def _certify(self, state: State, workers: Workers, watch: Watch) -> Certificate:
         """What certify comes to, by workers that share its searches, as long as the watch allows."""
-        begun = self._begun(None) if start is None else start
-        run = Run(self._parts[:3], begun, effort, directions, watch.is_limited)
+        run = Run(self._parts[:3], state.effort, state.kept)
+
+        def found() -> Certificate:
+            kept = run.kept
+            goes_on = None if run.has_ended else partial(state._replace(kept=kept).written, self._parts[:3])
+            return replace(self._certificate(kept.known()), _state=goes_on)
+
         try:
             run.search_until(watch, workers)
         except KeyboardInterrupt:
-            raise Interrupted(self._certificate(run.known)) from None
+            raise Interrupted(found()) from None
         except Exception as error:  # of the map, or of who is told how far it has come
             with suppress(Exception):  # there is no memory, or the error takes nothing
-                setattr(error, "result", self._certificate(run.known))
+                setattr(error, "result", found())
             raise
-        return self._certificate(run.known)
+        return found()
 
     def _certificate(self, known: Known) -> Certificate:
         """The certificate of what is known."""
-        jobs = numbers_of(known.sequence)
-        text = two_ended_text(self.jobs, self.machines, known.lower, known.upper, jobs, known.directions)
+        jobs, directions = numbers_of(known.sequence), known.directions
+
+        def write(room: TextRoom) -> None:
+            self._call("run_text", known.sequence, known.lower, directions, len(directions), room)
+
+        text = written(_BESIDE + len(directions), write)
         return Certificate(known.lower, known.upper, jobs, text, self._named(jobs), self)
 
     def check(self, text: Text) -> Certificate:

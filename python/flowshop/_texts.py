@@ -135,14 +135,6 @@ def text_of(given: Text) -> bytes:
     raise TypeError(f"a text is bytes, a str, a path or a Certificate, and this is {shown(given)}")
 
 
-def two_ended_text(
-    jobs: int, machines: int, lower: int, upper: int, sequence: Iterable[int], directions: bytes
-) -> bytes:
-    """The two-ended certificate of bounds."""
-    head = f"flowshop two-ended 1\n{jobs} {machines}\n{lower} {upper}\n{' '.join(map(str, sequence))}\n"
-    return b"".join([head.encode(), directions, b"\nend\n"])
-
-
 _CHANGED = "the text was cut off or changed, or is of another shop"
 # What is wrong with a certificate, by the name of the status, and which line is at fault where it is always the same.
 # {line} is its number, {text} the line; {jobs} and {machines} are those of the shop.

@@ -11,7 +11,7 @@ import time
 from contextlib import contextmanager, suppress
 from dataclasses import dataclass
 from functools import partial
-from typing import Callable, Generic, Iterator, Optional, TextIO, TypeVar, Union
+from typing import Callable, Generic, Iterator, Optional, Protocol, TextIO, TypeVar, Union
 
 from ._bounded import Bounded
 from ._errors import readable
@@ -20,6 +20,8 @@ from ._stack import Thread
 _T = TypeVar("_T")
 # How many seconds lie between two looks at a search, and between two lines where no terminal shows them.
 _LOOK, _BETWEEN_LINES = 0.25, 0.5
+# How many seconds lie between two looks at what may end a search from another thread.
+_TOKEN_LOOK = 0.05
 # How many seconds the end of a process waits at most for what is under way.
 PATIENCE = 0.5
 
@@ -64,6 +66,13 @@ def has_come(event: threading.Event, seconds: Optional[float] = None) -> bool:
         if time.monotonic() >= ends:
             return False
     return True
+
+
+class Token(Protocol):
+    """What ends a search from another thread once it is set, such as threading.Event."""
+
+    def is_set(self) -> bool:
+        """Whether it is."""
 
 
 class Stopped(Exception):
@@ -219,9 +228,14 @@ class Lines:
 class Watch:
     """When a search is to end, and who is told how far it has come."""
 
-    def __init__(self, time_limit: Optional[float], progress: Union[bool, Callable[[Progress], object], None]) -> None:
+    def __init__(
+        self,
+        time_limit: Optional[float],
+        progress: Union[bool, Callable[[Progress], object], None],
+        token: Optional[Token] = None,
+    ) -> None:
         self._begun = time.monotonic()
-        self._limit = time_limit
+        self._limit, self._token = time_limit, token
         self._stop = threading.Event()
         self._lines = Lines(sys.stderr) if progress is True else None
         self._tell = self._lines or (progress if callable(progress) else None)
@@ -242,17 +256,22 @@ class Watch:
 
     def _look(self) -> Optional[float]:
         """In how many seconds to look at the search; None where that need not be."""
-        looks = [] if self._tell is None else [_LOOK]
+        looks = ([] if self._tell is None else [_LOOK]) + ([] if self._token is None else [_TOKEN_LOOK])
         if self._limit is not None:
             looks.append(self._limit - self._seconds())
         return max(0.0, min(*looks, 3600.0)) if looks else None
 
+    def _is_over(self) -> bool:
+        """Whether time is up, or the token is set."""
+        is_late = self._limit is not None and self._seconds() >= self._limit
+        return is_late or (self._token is not None and self._token.is_set())
+
     def run(self, call: Callable[[], None], state: Callable[[float], Progress]) -> None:
-        """Runs a search until it ends, or time is up."""
+        """Runs a search until it ends, time is up, or the token is set."""
         running = Running(call)
         try:
             running.start()
-            while not running.wait(self._look()) and (self._limit is None or self._seconds() < self._limit):
+            while not running.wait(self._look()) and not self._is_over():
                 if self._tell:
                     self._tell(state(self._seconds()))
             self._stop.set()
