@@ -562,6 +562,9 @@ def test_time_limits():
             sentence = f"time_limit is {limit!r}, and has to be a number of seconds from 0 on, or None"
             got = refused(lambda call=call, limit=limit: call(time_limit=limit))
             equal(f"the time limit {limit!r}", got, ("OptionError", "TIME_LIMIT", 0, sentence))
+    for token in (0, "1", object()):
+        got = refused(lambda token=token: SHOP.certify(token=token))
+        equal(f"the token {token!r}", got[:2], ("OptionError", "TOKEN"))
     for front, error in (([4], "JOB"), ([1, 1], "TWICE")):
         got = refused(lambda front=front: SHOP.prove(12, front=front, time_limit=9))
         equal(f"the node {front} in time", got[:2], ("NotASequence", error))

@@ -60,9 +60,9 @@ class TextError(FlowshopError):
 
 class OptionError(FlowshopError):
     """A number that a call does not take: JOBS, MACHINES, SEED, DEPTH, BUDGET, VERSION, WIDTH, ROUNDS, WORK,
-    DIRECTIONS, UPPER, LOWER, BOUND, WORKERS, TIME_LIMIT or BY; what is no function, as MAP or PROGRESS; PLAN_DEPTH or
-    PLAN_PREFIXES, where the shop has no lists of so many jobs, or too many; SCALE of a table; START or UNIT of a
-    report, PATH where it or a picture is saved, and to the command `report` INDEX."""
+    DIRECTIONS, UPPER, LOWER, BOUND, WORKERS, TIME_LIMIT or BY; what is no function, as MAP or PROGRESS; TOKEN, RESUME;
+    PLAN_DEPTH or PLAN_PREFIXES, where the shop has no lists of so many jobs, or too many; SCALE of a table; START or
+    UNIT of a report, PATH where it or a picture is saved, and to the command `report` INDEX."""
 
 
 class OverBudget(FlowshopError):
