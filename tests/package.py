@@ -24,7 +24,7 @@ from unittest import mock
 
 import package_input
 import refusals
-from counts import BLOCKS, EXAMPLES, TOP, called, end, equal, new_folder, refused
+from counts import BLOCKS, EXAMPLES, TOP, called, end, equal, new_folder, optional, refused
 from reference import makespan, of_rows, root_bound
 from refusals import BOUNDS, LEAST, THREE as ROWS, TREE
 
@@ -32,14 +32,7 @@ import flowshop
 from flowshop import Certificate, FlowshopError, Operation, Shop, Start
 from flowshop import __main__ as command, _library, _options, _parts, _stack, _texts
 
-try:
-    import numpy
-except ImportError:
-    numpy = None
-try:
-    import pandas
-except ImportError:
-    pandas = None
+numpy, pandas = optional("numpy"), optional("pandas")
 
 PUBLISHED, HEADER = EXAMPLES / "taillard_20_5.txt", (TOP / "library" / "flowshop.h").read_text()
 SVG = "{http://www.w3.org/2000/svg}"
@@ -549,8 +542,8 @@ def refuse_tables():
         got = refused(make, table)
         at = f"the time in row {place[0]}, column {place[1]} " if name == "TIME" else ""
         # No other advice follows.
-        got = *got[:3], got[3][: len(at + sentence)], "would fit" in got[3]
-        wanted = "NotAShop", name, place, at + sentence, "would fit" in sentence
+        got = *got[:3], got[3][: len(at + sentence)], "it is a table for" in got[3]
+        wanted = "NotAShop", name, place, at + sentence, "it is a table for" in sentence
         equal(f"the table of which is said: {sentence}", got, wanted)
 
 

@@ -20,7 +20,7 @@ import time
 import xml.etree.ElementTree
 from unittest import mock
 
-from counts import BLOCKS, called, command, equal, new_folder, refused
+from counts import BLOCKS, called, command, equal, new_folder, optional, refused
 from reference import makespan, of_rows
 from refusals import BOUNDS, LEAST
 from refusals import THREE as ROWS
@@ -30,18 +30,7 @@ from flowshop import Shop
 from flowshop import _library, _meter, _options, _parts
 from flowshop.__main__ import main
 
-try:
-    import numpy
-except ImportError:
-    numpy = None
-try:
-    import pandas
-except ImportError:
-    pandas = None
-try:
-    from scipy import sparse
-except ImportError:
-    sparse = None
+numpy, pandas, sparse = map(optional, ("numpy", "pandas", "scipy.sparse"))
 
 SHOP = Shop.from_jobs(ROWS)
 WHOLE = "and has to be a whole number"

@@ -8,12 +8,10 @@ from typing import Any, Dict
 
 from ._answers import CHOICES, Answers, with_answers
 from ._errors import readable
-from ._files import WordError
-from ._labels import label_lines
-from ._reading import Reading, kept_of, reading_of, settings_of
+from ._files import WordError, refuse_read
+from ._reading import Reading, kept_of, reading_of, settings_of, text_kept
 from ._saving import save
 from ._streams import print_page
-from ._texts import block_text
 from ._waiting import Lines
 
 _ABOUT = {
@@ -79,19 +77,20 @@ def read(options: argparse.Namespace, kept: Dict[str, Any], needs_unit: bool = F
     lines = Lines(sys.stderr)
     lines.keep(reading.said())
     if said:
-        before = path.read_text(encoding="utf-8") if path.exists() else None
+        before = text_kept(path)
         after = with_answers(options.table, before, reading.answers)
         if after != before:
-            save(path, after.encode())
+            save(path, after.encode("utf-8", "replace"))
             lines.keep(f"what was said is kept in {readable(path)}")
     return reading
 
 
 def run(options: argparse.Namespace) -> int:
-    """Writes the benchmark text."""
-    shop = read(options, kept_of(settings_file(options))).shop
-    labels = label_lines(shop.jobs, shop.machines, *shop._parts[3:])
-    text = block_text(labels, shop.times, 0, 0, 0).encode()
+    """Writes the benchmark text. WordError where it would replace a file that is read."""
+    settings = settings_file(options)
+    if options.out is not None:
+        refuse_read(options.out, ((options.table, "table"), (settings, "answers")), "shop")
+    text = read(options, kept_of(settings)).shop._text(0, 0, 0)
     if options.out is None:
         print_page(text)
     else:

@@ -17,14 +17,15 @@ from ._calendar import Calendar, Dated, calendar_of, moment_of
 from ._change import Change, First, keys_of, moved_of, start_of
 from ._clock import Plain, Times
 from ._drawing import whole
-from ._errors import NotAShop, NotLawful, OptionError, counted, readable
+from ._errors import NotAShop, NotLawful, OptionError, counted, found_in, readable, shown
 from ._found import Below, Proved
 from ._headings import seconds_of
 from ._options import time_limit_of
-from ._page import MOST_BARS, Facts, page, proved
+from ._page import Facts, page, proved
 from ._reading import Reading, kept_of, reading_of, settings_of
 from ._results import Certificate, Picture, Report, Timetable
 from ._shop import Shop
+from ._texts import MOST_CERTIFICATE, bytes_of
 
 # How many seconds a search may take where nothing is said.
 TIME_LIMIT = 60.0
@@ -86,7 +87,7 @@ class Plan(metaclass=Brief):
         '3'
         """
         if self.calendar is None:
-            return Plain(self.shop._parts[5])
+            return Plain(self.shop._parts[5], self.unit)
         step = seconds_of(self.unit) / self.shop.scale
         shown = {self.listed, self.certificate.lower, self.shop.bound()}
         shown.update(each for operation in self.timetable for each in operation[2:])
@@ -124,21 +125,9 @@ class Plan(metaclass=Brief):
 
     def _facts(self) -> Facts:
         """What the page says."""
-        shop = self.shop
-        jobs = shop._packed(self.certificate, None)
-        facts = Facts(
-            title=f"Plan of {self.name}",
-            timetable=self.timetable,
-            certified=self.certificate.lower,
-            simple=shop.bound(),
-            listed=self.listed,
-            picture="",
-            times=self.times,
-            more=self._changed(),
-        )
-        if shop.jobs * shop.machines <= MOST_BARS:
-            facts = replace(facts, picture=shop._picture(jobs, facts.lower))
-        return facts
+        jobs = self.shop._packed(self.certificate, None)
+        facts = self.shop._facts(jobs, self.certificate.lower, self.times, f"Plan of {self.name}")
+        return replace(facts, more=self._changed())
 
     def report(self) -> Report:
         """The page for the wall.
@@ -170,8 +159,8 @@ class Plan(metaclass=Brief):
             lines.append(f"<p>{title}: {html.escape(readable(', '.join(names) or 'none'))}.</p>")
         if change.begun:
             names = html.escape(readable(", ".join(change.begun)))
-            lines.append(f"<p>Begun already: {names}. This plan does not put them first, nor wait for machines that are "
-                         f"busy with them.{_said_first(change)}</p>")
+            lines.append(f"<p>Begun already: {names}. This plan does not put them first, nor wait for machines that "
+                         f"are busy with them.{_said_first(change)}</p>")
         return ['<section class="change">', "<h2>Change</h2>", *lines, "</section>"]
 
     def to_json(self) -> str:
@@ -194,6 +183,9 @@ class Plan(metaclass=Brief):
         kinds: Dict[str, Tuple[Any, ...]] = dict.fromkeys(("shop", "certificate", "calendar"), (dict,))
         kinds["unit"] = (str,)
         found = _json.read(text, kinds, NotAShop, "Plan.to_json")
+        if not seconds_of(found["unit"]) and (found["unit"] or found["calendar"]):
+            sentence = f"'unit' of the text is {shown(found['unit'])}; it has to be what Plan.to_json gives"
+            raise NotAShop("JSON", 0, sentence)
         shop = Shop.from_json(_json.written(found["shop"]))
         certificate = shop.check(Certificate.from_json(_json.written(found["certificate"])))
         return cls(shop, certificate, calendar_of(found["calendar"]), found["unit"])
@@ -208,12 +200,11 @@ class Plan(metaclass=Brief):
         >>> Plan.read("table.plan.json").certificate.value
         3
         """
-        with open(path, "rb") as file:
-            text = file.read()
+        text = bytes_of(path, "plan", MOST_CERTIFICATE)
         try:
             return cls.from_json(text)
         except (NotAShop, NotLawful, OptionError) as error:
-            raise type(error)(error.name, error.place, f"{readable(path)}: {error}") from None
+            raise found_in(path, error) from None
 
     def __str__(self) -> str:
         """What is proved of the plan, as the page says it."""

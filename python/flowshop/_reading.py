@@ -13,19 +13,21 @@ from ._remarks import Remarks
 from ._results import listed
 from ._shop import Shop
 from ._sheets import Sheet, sheet_of
+from ._texts import bytes_of
 
 _SEPARATORS = {";": "semicolon", "\t": "tab"}
 
 
 class Reading(NamedTuple):
-    """A table that was read: its shop, its sheet, how long its unit is where that is known, what was said of it, and
-    what was left out."""
+    """A table that was read: its shop, its sheet, how long its unit is where that is known, what was said of it, what
+    was left out, and how many blank cells are 0."""
 
     shop: Shop
     sheet: Sheet
     unit: str
     answers: Answers
     notes: List[str]
+    blank: int
 
     def said(self) -> str:
         """What was read, in a line."""
@@ -36,7 +38,8 @@ class Reading(NamedTuple):
         unit = f"; its unit is {self.unit}" if self.unit else ""
         times = [time for row in shop.times for time in row]
         shown = [shop._in_unit(end(times)) for end in (min, max)]
-        return f"{readable(self.sheet.name)}: {read}; times {shown[0]} to {shown[1]}{in_parts}{unit}{notes}"
+        blank = f"; {counted(self.blank, 'blank cell')} taken as 0" if self.blank else ""
+        return f"{readable(self.sheet.name)}: {read}; times {shown[0]} to {shown[1]}{in_parts}{unit}{blank}{notes}"
 
 
 def settings_of(table: Any) -> Optional[FilePath]:
@@ -44,13 +47,27 @@ def settings_of(table: Any) -> Optional[FilePath]:
     return FilePath(f"{os.fsdecode(table)}.flowshop.toml") if isinstance(table, (str, os.PathLike)) else None
 
 
+def text_kept(path: FilePath) -> Optional[str]:
+    """The text of a file of answers; None where there is none. OptionError where it is in no UTF-8."""
+    if not path.exists():
+        return None
+    try:
+        return bytes_of(path, "file of answers").decode("utf-8-sig").replace("\r\n", "\n")
+    except UnicodeDecodeError:
+        raise OptionError("SETTINGS", 0, f"{readable(path)} is no text in UTF-8: save it as such a one") from None
+
+
 def kept_of(path: Optional[FilePath]) -> Dict[str, Any]:
-    """What a file of answers has; nothing where there is none. OptionError where it has another section than that of the
-    calendar."""
-    kept = read_toml(str(path), path.read_text(encoding="utf-8")) if path and path.exists() else {}
-    for name in kept:
-        if isinstance(kept[name], dict) and name != "calendar":
-            raise OptionError("SETTINGS", 0, f"{path} has a section [{name}]; the only one that there is is [calendar]")
+    """What a file of answers has; nothing where there is none. OptionError where it has another section than that of
+    the calendar."""
+    text = text_kept(path) if path else None
+    kept = read_toml(str(path), text) if text else {}
+    for name, value in kept.items():
+        if isinstance(value, dict) and name != "calendar":
+            sentence = f"{readable(path)} has a section [{name}]; the only one that there is is [calendar]"
+            raise OptionError("SETTINGS", 0, sentence)
+    if not isinstance(kept.get("calendar", {}), dict):
+        raise OptionError("SETTINGS", 0, f"calendar of {readable(path)} has to be a section [calendar]")
     return kept
 
 
@@ -82,7 +99,7 @@ def reading_of(table: Any, words: Dict[str, Any], kept: Dict[str, Any], needs_un
     assert times is not None, "a table without times has a remark"
     unit = Unit(times.scale, times.decimal, _SEPARATORS.get(sheet.separator, "comma"))
     shop = _shop_of(times.layout, times.rows, unit)
-    return Reading(shop, sheet, times.unit, answers, times.layout.notes)
+    return Reading(shop, sheet, times.unit, answers, times.layout.notes, times.blank)
 
 
 def read_table(table: Any, **words: Given) -> Shop:
