@@ -103,15 +103,13 @@ def test_scales():
         equal(f"{value} with the scale {scale}", got if said else got.times[1], place if said else [99_250])
 
 
-def test_arrays():
-    """Arrays of each type: which are taken, and what is said of the others."""
-    if numpy is None:
-        return
+def arrays():
+    """Arrays of each type, with what is said of those that are not taken."""
     hidden = [[False] * 3, [False, True, False], [False] * 3]
     seconds = numpy.array(ROWS, dtype="timedelta64[s]")
     at = "the time in row 1, column 1"
     two = "and a table has 2, one of rows and one of columns"
-    for what, table, wanted in [
+    return [
         ("masked", numpy.ma.array(ROWS, mask=hidden), f"the time in row 2, column 2 is missing (masked); {SKIPS}"),
         ("masked floats", numpy.ma.array(ROWS, mask=hidden, dtype=float),
          f"the time in row 2, column 2 is missing (masked); {SKIPS}"),
@@ -142,7 +140,14 @@ def test_arrays():
         ("three dimensions", numpy.array([ROWS, ROWS]), f"this array has 3 dimensions, {two}"),
         ("three of floats", numpy.zeros((2, 2, 2)), f"this array has 3 dimensions, {two}"),
         ("infinity", numpy.array([[numpy.inf]]), f"{at} is inf, of type float, {UNIT}"),
-    ]:
+    ]
+
+
+def test_arrays():
+    """Arrays of each type: which are taken, and what is said of the others."""
+    if numpy is None:
+        return
+    for what, table, wanted in arrays():
         got = refused(lambda table=table: Shop.from_jobs(table))
         equal(f"an array: {what}", got if wanted is None else got[3], SHOP if wanted is None else wanted)
     tenths = numpy.array(ROWS) / 10

@@ -228,6 +228,9 @@ def say_remarks():
         (wrong, ["13 mistakes", mistakes,
                  *(f"  row {row}, column 2 (x{row - 1}) is no number" for row in range(3, 12)),
                  "  row 12, column 2 (x11; and 3 more of its kind) is no number"]),
+        ('Order,Cut\nA,"1 day, 2:00:00"\nB,1\n', [
+            "1 mistake", mistakes, "  row 2, column 2 (1 day, 2:00:00) is a time of day or a length: write it as a "
+            "number, in one unit"]),
         ("Order,Cut\nA,5 min\nB,1\n", ["1 mistake", mistakes, "  row 2, column 2 (5 min) has a unit: write the number "
                                       "alone, and the unit behind the name of the machine, as Saw (min)"]),
     ]:
@@ -250,6 +253,9 @@ def read_other_kinds():
         frame = pandas.DataFrame(rows[1:], columns=rows[0])
         equal("a frame", facts_of(read_table(frame)), wanted)
         equal("a frame with an index", facts_of(read_table(frame.set_index("Order"))), wanted)
+        lengths = frame.assign(Saw=pandas.to_timedelta(frame.Saw, unit="min"))
+        said = [(2, 2, "0 days 00:03:30", ""), (3, 2, "0 days 00:01:00", "")]
+        equal("lengths of time", remarks_of(lengths, {})[0], said)
     else:
         print("no pandas: its frames were passed over")
     if openpyxl:
@@ -524,7 +530,9 @@ def follow_calendars():
         words = {"start": start.isoformat(timespec="minutes"), "unit": unit, "rows": "jobs", "totals": "keep"}
         words["keep"] = machines
         now = f"2026-12-{draw.randrange(1, 29):02}"
-        plan = Plan.of(file_of(table, "day.csv"), workers=1, time_limit=None, after=before, now=now, **words)
+        if before:
+            words.update(after=before, now=now)
+        plan = Plan.of(file_of(table, "day.csv"), workers=1, time_limit=None, **words)
         worked = Worked(calendar, start)
         # All rows have times that are whole where none has a half.
         in_halves = minutes if any(time % 2 for row in rows for time in row) else 2 * minutes
@@ -631,6 +639,10 @@ def refuse_calendars():
         file_of("\n".join(["[calendar]", *lines, ""]), "day.csv.flowshop.toml")
         table = file_of("Job,Cut\nA,4\n", "day.csv")
         equal(str(calendar), refused(lambda: Plan.of(table, unit="1h").report()), ("OptionError", name, 0, said))
+    plan = Plan.of(file_of("Job,Cut\nA,4\n", "none.csv"))
+    for after in ({}, {"after": plan}):
+        got = refused(lambda: Plan.of([["Job", "Cut"], ["A", 4]], now="2026-12-01", **after))
+        equal(f"now with {after}", got, ("OptionError", "NOW", 0, "now needs after, with a plan that has a start"))
     file_of("", "day.csv.flowshop.toml")
     asked = command("plan", file_of("Job,Qty,Cut\nA,3,4\nB,5,2\n", "day.csv"), "--start", "2026-12-01")
     equal("a start without a unit", (asked.returncode, asked.stderr.splitlines()[-1]),
@@ -679,7 +691,7 @@ def refuse_plans():
         ("--after day.csv", 2, "--after is day.csv, and has to be the file of a plan that ends with .plan.json"),
         ("--after day.plan.json", 2, "day.plan.json would replace the plan of --after; give the table a name of its "
          "own, or --out"),
-        ("--now 2026-12-04T13:30", 2, "--now needs --after with a plan that has a start"),
+        ("--now 2026-12-04T13:30", 2, "now needs after, with a plan that has a start"),
         ("--settings none.toml", 2, "--settings is none.toml, and there is no such file"),
         ("--settings wrong.toml", 2, "wrong.toml has a section [calender]; the only one that there is is [calendar]"),
         ("--skip Cut --keep Cut", 2, "'Cut' is named by skip and by keep"),

@@ -63,8 +63,6 @@ def run(options: argparse.Namespace) -> int:
     workers = options.workers if options.workers == -1 else whole_of("workers", options.workers, OF_PARTS)
     effort = Effort(limit_of(options), workers)
     earlier = Earlier(Plan.read(options.after) if options.after else None, options.now)
-    if options.now and (earlier.plan is None or earlier.plan.calendar is None):
-        raise WordError("--now needs --after with a plan that has a start")
     reading = read(options, kept, calendar is not None)
     begin.parent.mkdir(parents=True, exist_ok=True)
     plan = plan_of(reading, calendar, earlier, effort)

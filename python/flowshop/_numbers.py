@@ -112,7 +112,7 @@ class _Reader:
             return "is a percentage, and no time"
         if is_date(text):
             return "is a date, and no time"
-        if re.fullmatch(r"\d{1,3}:\d\d(:\d\d)?", text):
+        if re.fullmatch(r"(\d+ days?,? )?\d{1,3}:\d\d(:\d\d(\.\d+)?)?", text):
             return "is a time of day or a length: write it as a number, in one unit"
         found = re.fullmatch(r"[\d.,]+ ?([^\d\s]+)", text)
         if found and unit_named(found[1]):

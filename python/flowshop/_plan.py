@@ -66,9 +66,9 @@ class Plan(metaclass=Brief):
     ) -> Plan:
         """The plan of a table, as `read_table` takes it, with its words. `start` is the date, or the date and the time,
         from which on work is done; shifts, breaks and holidays stand in the file beside the table. `after` is an
-        earlier plan, or the path of its file, whose order the searches begin with; `now` says which of its jobs have
-        begun. `time_limit` and `workers` are those of `Shop.certify`. OptionError where one of these is none; the other
-        errors are those of `read_table`.
+        earlier plan, or the path of its file, whose order the searches begin with; `now` is the moment that says which
+        of its jobs have begun, where it has a start. `time_limit` and `workers` are those of `Shop.certify`.
+        OptionError where one of these is none; the other errors are those of `read_table`.
 
         >>> Plan.of([["Order", "Saw", "Drill"], ["Shelf", 3, 7], ["Door", 1, 2]]).certificate.names
         ('Door', 'Shelf')
@@ -239,13 +239,15 @@ class Earlier:
     """An earlier plan, or none, and the moment that says which of its jobs have begun."""
 
     def __init__(self, plan: Optional[Plan], now: Optional[str]) -> None:
+        if now is not None and (plan is None or plan.calendar is None):
+            raise OptionError("NOW", 0, "now needs after, with a plan that has a start")
         self.plan = plan
         self.now: Optional[datetime] = None if now is None else moment_of("now", now)
         self.keys = keys_of(plan.timetable.names) if plan else []
 
     def begun(self) -> List[Tuple[str, int]]:
         """The jobs whose first operation begins before that moment."""
-        if self.plan is None or self.now is None or self.plan.calendar is None:
+        if self.plan is None or self.now is None:
             return []
         times = self.plan.times
         assert isinstance(times, Dated), "times by a calendar"

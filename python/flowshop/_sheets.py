@@ -48,7 +48,7 @@ def _text(value: Any) -> str:
         return ""
     if isinstance(value, float) and math.isfinite(value):  # without what is left of rounding
         return format(value, ".15g" if value == round(value) else ".12g")
-    if hasattr(value, "isoformat"):
+    if hasattr(value, "isoformat") and not hasattr(value, "total_seconds"):  # a date or a time of day, and no length
         return str(value.isoformat())
     try:
         return " ".join(str(value).split())

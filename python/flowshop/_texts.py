@@ -63,7 +63,7 @@ def written(most: int, write: Callable[[TextRoom], None]) -> bytes:
 
 def _read(path: Path, most_of: Callable[[bytes], int]) -> Optional[bytes]:
     """The bytes of a file. None where there are more than it may have, by how it begins; no more of them is read."""
-    with open(path, "rb", buffering=0) as file:
+    with open(os.fspath(path), "rb", buffering=0) as file:  # TypeError of a number, which open takes for a stream
         stated, begun = os.fstat(file.fileno()).st_size, file.read(len(_BEGIN))
         most = most_of(begun)
         if stated > most:
