@@ -347,6 +347,20 @@ def keep_answers():
     equal("a word that is none", command("shop", "day.csv", "--totals", "no").returncode, 2)
 
 
+def read_pipes():
+    """A table that comes through a pipe: nothing is kept beside it, and plans stand in the folder that is named."""
+    for words, status, said in [
+        (["shop", "/dev/stdin", "--skip", "B"], 0, "jobs\tA\n1 1 0 0 0\n"),
+        (["plan", "/dev/stdin"], 2, "flowshop: /dev/stdin is no file that plans stand beside: --out names a folder for"),
+        (["plan", "/dev/stdin", "--out", "piped", "--skip", "B"], 0, "No order finishes earlier than 4: this one is"),
+    ]:
+        done = command(*words, input="Job,Cut\nA,4\nB,5\n")
+        got = done.returncode, (done.stderr if status else done.stdout)[: len(said)]
+        equal(f"a table of a pipe: {words}", got, (status, said))
+    files = [f"stdin.plan.{kind}" for kind in ("csv", "html", "json", "svg")]
+    equal("files of it", (sorted(os.listdir("piped")), os.path.exists("/dev/stdin.flowshop.toml")), (files, False))
+
+
 def refuse_files():
     """Files of answers that are none, and files that would be replaced."""
     kept = pathlib.Path("day.csv.flowshop.toml")
@@ -360,6 +374,7 @@ def refuse_files():
     ]:
         equal(str(text), refused(read_table, file_of(text, kept) and "day.csv"), ("OptionError", "SETTINGS", 0, said))
     kept.unlink()
+    read_pipes()
     os.mkdir("folder")
     for words, said in [
         ("shop --out day.csv", "--out day.csv is the file of the table: give the shop another name"),
@@ -654,6 +669,7 @@ def wait_for_a_week():
     file_of("[calendar]\nmonday = [\"07:00-08:00\"]\n", "day.csv.flowshop.toml")
     plan = Plan.of(file_of("Job,Cut\nA,2\n", "day.csv"), start="2026-12-02", unit="1h")
     equal("its end", page_of(plan.report()), [(1, "A", 0, "Mon 7 Dec, 07:00", "Mon 14 Dec, 08:00")])
+    equal("a start to the minute", Plan.of("day.csv", start="2026-12-02T00:00:59", unit="1h").to_json(), plan.to_json())
     for now, begun in (("2026-12-07T07:00", ()), ("2026-12-07 07:01", ("A",))):
         again = Plan.of("day.csv", start="2026-12-02", unit="1h", after=plan, now=now)
         equal(f"what has begun by {now}", again.change.begun, begun)

@@ -167,8 +167,8 @@ def moment_of(name: str, value: Any) -> datetime:
 
 
 def calendar_of(found: Dict[str, Any], start: Any = None) -> Optional[Calendar]:
-    """The calendar that a file states, from a start on, which the file may state too; None where there is no start.
-    OptionError where something has another form."""
+    """The calendar that a file states, from a start on, to the minute, which the file may state too; None where there
+    is no start. OptionError where something has another form."""
     known = ("start", "weekdays", *WEEKDAYS, "breaks", "holidays")
     for name in found:
         if name not in known:
@@ -181,7 +181,9 @@ def calendar_of(found: Dict[str, Any], start: Any = None) -> Optional[Calendar]:
     breaks = _spans_of("breaks", found.get("breaks", []))
     days = found.get("holidays", [])
     holidays = frozenset(moment_of("holidays", day).date() for day in (days if isinstance(days, list) else [days]))
-    return None if begin is None else Calendar(moment_of("start", begin), shifts, breaks, holidays)
+    if begin is None:
+        return None
+    return Calendar(moment_of("start", begin).replace(second=0, microsecond=0), shifts, breaks, holidays)
 
 
 def in_hours(seconds: int, has_seconds: bool, form: str = "") -> str:

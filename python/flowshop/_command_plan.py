@@ -10,7 +10,7 @@ from ._errors import readable
 from ._files import WordError, limit_of, refuse_out, whole_of
 from ._options import OF_PARTS
 from ._plan import TIME_LIMIT, Earlier, Effort, Plan, plan_of
-from ._reading import kept_of
+from ._reading import kept_of, settings_of
 from ._saving import save
 from ._streams import Printed
 from ._waiting import Lines
@@ -44,6 +44,8 @@ def _begin(options: argparse.Namespace) -> Path:
     replaced."""
     if options.out:
         refuse_out(options.out)
+    elif settings_of(options.table) is None:
+        raise WordError(f"{readable(options.table)} is no file that plans stand beside: --out names a folder for them")
     folder = Path(options.out) if options.out else Path(options.table).parent
     begin = folder / f"{Path(options.table).stem}.plan"
     if options.after and not options.after.endswith(".json"):

@@ -4,7 +4,7 @@ import argparse
 import sys
 from dataclasses import fields
 from pathlib import Path
-from typing import Any, Dict
+from typing import Any, Dict, Optional
 
 from ._answers import CHOICES, Answers, with_answers
 from ._errors import readable
@@ -56,12 +56,14 @@ def words_of_table(parser: argparse.ArgumentParser) -> None:
     parser.add_argument("--settings", metavar="FILE", help=about)
 
 
-def settings_file(options: argparse.Namespace) -> Path:
-    """The file that keeps what was said. WordError where one is named that is not there."""
-    beside = settings_of(options.table)
-    if options.settings and not Path(options.settings).exists():
+def settings_file(options: argparse.Namespace) -> Optional[Path]:
+    """The file that keeps what was said; None of a table that is no file. WordError where one is named that is not
+    there."""
+    if options.settings is None:
+        return settings_of(options.table)
+    if not Path(options.settings).exists():
         raise WordError(f"--settings is {options.settings}, and there is no such file")
-    return Path(options.settings) if options.settings or beside is None else beside
+    return Path(options.settings)
 
 
 def given_words(options: argparse.Namespace) -> Dict[str, Any]:
@@ -76,7 +78,7 @@ def read(options: argparse.Namespace, kept: Dict[str, Any], needs_unit: bool = F
     reading = reading_of(options.table, said, kept, needs_unit)
     lines = Lines(sys.stderr)
     lines.keep(reading.said())
-    if said:
+    if said and path is not None:
         before = text_kept(path)
         after = with_answers(options.table, before, reading.answers)
         if after != before:

@@ -23,7 +23,7 @@ from ._headings import seconds_of
 from ._options import time_limit_of
 from ._page import Facts, page, proved
 from ._reading import Reading, kept_of, reading_of, settings_of
-from ._results import Certificate, Picture, Report, Timetable
+from ._results import Certificate, Path, Picture, Report, Timetable
 from ._shop import Shop
 from ._texts import MOST_CERTIFICATE, bytes_of
 
@@ -58,7 +58,7 @@ class Plan(metaclass=Brief):
         table: Any,
         *,
         start: Optional[str] = None,
-        after: Union[Plan, Any, None] = None,
+        after: Union[Plan, Path, None] = None,
         now: Optional[str] = None,
         time_limit: Optional[float] = TIME_LIMIT,
         workers: int = -1,
@@ -191,7 +191,7 @@ class Plan(metaclass=Brief):
         return cls(shop, certificate, calendar_of(found["calendar"]), found["unit"])
 
     @classmethod
-    def read(cls, path: Any) -> Plan:
+    def read(cls, path: Path) -> Plan:
         """The plan in a file that the command `plan` wrote. OSError where it is not read.
 
         >>> plan = Plan.of([["Order", "Saw"], ["Shelf", 3]])

@@ -43,13 +43,15 @@ class Reading(NamedTuple):
 
 
 def settings_of(table: Any) -> Optional[FilePath]:
-    """The file beside a table that keeps what was answered; None of a table that is no file."""
-    return FilePath(f"{os.fsdecode(table)}.flowshop.toml") if isinstance(table, (str, os.PathLike)) else None
+    """The file beside a table that keeps what was answered; None of a table that is no file, or a pipe or a device."""
+    if not isinstance(table, (str, os.PathLike)) or os.path.exists(table) and not os.path.isfile(table):
+        return None
+    return FilePath(f"{os.fsdecode(table)}.flowshop.toml")
 
 
-def text_kept(path: FilePath) -> Optional[str]:
+def text_kept(path: Optional[FilePath]) -> Optional[str]:
     """The text of a file of answers; None where there is none. OptionError where it is in no UTF-8."""
-    if not path.exists():
+    if path is None or not path.exists():
         return None
     try:
         return bytes_of(path, "file of answers").decode("utf-8-sig").replace("\r\n", "\n")
@@ -60,7 +62,7 @@ def text_kept(path: FilePath) -> Optional[str]:
 def kept_of(path: Optional[FilePath]) -> Dict[str, Any]:
     """What a file of answers has; nothing where there is none. OptionError where it has another section than that of
     the calendar."""
-    text = text_kept(path) if path else None
+    text = text_kept(path)
     kept = read_toml(str(path), text) if text else {}
     for name, value in kept.items():
         if isinstance(value, dict) and name != "calendar":
@@ -107,7 +109,7 @@ def read_table(table: Any, **words: Given) -> Shop:
     file of a spreadsheet (CSV with any separator, a matrix with blanks, JSON as a list of rows or of objects, or a
     workbook, where the package openpyxl is there), of a frame as that of pandas, or of a list of rows with their names.
     Decimals become whole by the least scale. What is in doubt is settled by words, as `skip="Qty"`; docs/tables.md has
-    them. Those that the command `plan` has kept in a file beside the table are taken too. NotATable with all that is
+    them. Those that the commands `plan` and `shop` have kept beside the table are taken too. NotATable with all that is
     in doubt or wrong, TextError where the file is no table, OSError where it is not read, OptionError where a word is
     none.
 
