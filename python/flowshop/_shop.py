@@ -525,7 +525,7 @@ class Shop(metaclass=Brief):
         >>> shop.improve([1, 2, 3]).value
         12
         """
-        effort = Effort(option("width", width), option("rounds", rounds), option("seed", seed), option("work", work))
+        effort = _effort(width=width, rounds=rounds, seed=seed, work=work)
         limit, begun = time_limit_of(time_limit), self._begun(start, by)
         if limit is None:
             sequence = (u16 * self.jobs)()
@@ -683,7 +683,7 @@ class Shop(metaclass=Brief):
         >>> certificate.lower, certificate.upper
         (12, 12)
         """
-        effort = Effort(option("width", width), option("rounds", rounds), option("seed", seed), option("work", work))
+        effort = _effort(width=width, rounds=rounds, seed=seed, work=work)
         most, count = option("directions", directions), workers_of(workers)
         limit = time_limit_of(time_limit)
         function_of("map", map, "that of an executor, or of a pool, such as pool.map, or None")
@@ -741,6 +741,11 @@ class Shop(metaclass=Brief):
             raise not_lawful(refused, text, read, self.jobs, self.machines) from None
         sequence = tuple(jobs)
         return Certificate(bounds.lower, bounds.upper, sequence, read, self._named(sequence), self)
+
+
+def _effort(**numbers: int) -> Effort:
+    """How much beams and rounds may do. OptionError where a number is not within its limits."""
+    return Effort(*(option(name, numbers[name]) for name in Effort._fields))
 
 
 def _over_budget(refused: Refused, trees: int, budget: int) -> OverBudget:
