@@ -66,6 +66,7 @@ CELLS = [
     ("3", f"is the text '3', {TEXT}"),
     (float("nan"), f"is missing (nan); {SKIPS}"),
     (decimal.Decimal("NaN"), f"is missing (Decimal('NaN')); {SKIPS}"),
+    (decimal.Decimal("sNaN"), f"is missing (Decimal('sNaN')); {SKIPS}"),
 ]
 
 

@@ -15,6 +15,8 @@ import shutil
 import subprocess
 import sys
 from contextlib import suppress
+from decimal import Decimal
+from fractions import Fraction
 from unittest import mock
 
 from counts import command, end, equal, holds, new_folder, optional, refused
@@ -80,7 +82,7 @@ TAKEN = [
     ("a list of rows", '{"times": [["Job", "Cut"], ["A", 1e-3], ["B", 4]]}', {}, "1/4000", ("A B", "Cut"), 1000),
     ("times for one piece", "Order,Qty,Cut,Weld\nShelf,3,4,1\nDoor,5,2,3\n", {"multiply": "Qty"}, "12 3/10 15",
      ("Shelf Door", "Cut Weld"), 1),
-    ("a name with a comma", 'Order,"Pieces, all",Cut\nA,3,4\nB,5,2\n', {"skip": '"Pieces, all"'}, "4/2",
+    ("a name with a comma", 'Order,Qty,"Pieces, all",Cut\nA,1,3,4\nB,2,5,2\n', {"skip": 'Qty, "Pieces, all"'}, "4/2",
      ("A B", "Cut"), 1),
     # What is near to a doubt.
     ("numbers in three decimals", '[{"Job": "A", "Cut": 1.125}, {"Job": "B", "Cut": 2}]', {}, "9/16", ("A B", "Cut"), 8),
@@ -253,6 +255,9 @@ def say_remarks():
         (wrong, ["13 mistakes", mistakes,
                  *(f"  row {row}, column 2 (x{row - 1}) is no number" for row in range(3, 12)),
                  "  row 12, column 2 (x11; and 3 more of its kind) is no number"]),
+        (f"Order,Cut\nA,{'9' * 61}\nB,{'8' * 60}\n", [
+            "2 mistakes", mistakes, f"  row 2, column 2 ({'9' * 58}..) is no number",
+            f"  row 3, column 2 ({'8' * 60}) is no number"]),
         ('Order,Cut\nA,"1 day, 2:00:00"\nB,1\n', [
             "1 mistake", mistakes, "  row 2, column 2 (1 day, 2:00:00) is a time of day or a length: write it as a "
             "number, in one unit"]),
@@ -274,6 +279,8 @@ def read_other_kinds():
         equal(f"a list of {what}", facts_of(read_table(table)), wanted)
     sums = [["Order", "Saw"], ["Shelf", 0.1 + 0.2], ["Door", 12345.0]]
     equal("what is left of rounding", facts_of(read_table(sums)), wanted_of("3/123450", ("Shelf Door", "Saw"), 10))
+    exact = [["Order", "Saw"], ["Shelf", Fraction(7, 4)], ["Door", Decimal("1E+2")], ["Bed", Decimal("0.50")]]
+    equal("exact numbers", facts_of(read_table(exact)), wanted_of("7/400/2", ("Shelf Door Bed", "Saw"), 4))
     if pandas:
         frame = pandas.DataFrame(rows[1:], columns=rows[0])
         equal("a frame", facts_of(read_table(frame)), wanted)
@@ -317,9 +324,15 @@ def refuse_other_kinds():
     for table in (5, None, [], ["ab", "cd"], {"Job": ["A"], "Cut": [4]}, [{4, 5}], b"4 5"):
         said = f"table: {NO_ROWS.format(repr(table))}"
         equal(f"the table {table}", refused(read_table, table), ("TextError", "TABLE", 0, said))
-    for value, said in [(float("inf"), "inf"), (-float("inf"), "-inf"), (10**5000, "a number of thousands of digits")]:
+    for value, said in [
+        (float("inf"), "inf"), (-float("inf"), "-inf"), (10**5000, "a number of thousands of digits"), ("9" * 41,) * 2,
+        ("1e999999999",) * 2, (f"1.{'5' * 5000}",) * 2, (Decimal("sNaN"), ""),
+        (Fraction(10**5000, 3), f"3.{'3' * 27}e+4999"),
+    ]:
         got = remarks_of([["Job", "Cut", "Saw"], ["A", value, 3], ["B", 1, 4]], {})[0]
-        equal(f"the time {said}", got, [(2, 2, said, "")])
+        equal(f"the time {said}", got, [(2, 2, said, "" if said else ZERO)])
+    equal("a great quantity", remarks_of(file_of(f"Job,Qty,Cut\nA,{'9' * 5000},1\nB,2,3\n"), {"multiply": "Qty"})[0],
+          [(2, 0, "9" * 5000, "")])
     for words, said in [
         ({"totals": "no"}, "totals is 'no', and has to be drop or keep"),
         ({"unit": "5"}, "unit is '5', and has to be the length of one unit, as 1min, 15min or 1h"),

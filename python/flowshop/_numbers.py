@@ -17,7 +17,9 @@ _MAYBE_THOUSAND = re.compile(r"[1-9]\d{0,2}[.,]\d{3}")
 _GROUPS = re.compile(r"\d{1,3}([.,])\d{3}(?:\1\d{3})+")
 _BOTH = re.compile(r"\d{1,3}([.,])\d{3}(?:\1\d{3})*(?!\1)([.,])\d+")
 _SPACED = re.compile(r"\d{1,3}(?:[ '’\u00a0\u202f]\d{3})+(?:[.,]\d+)?")
-_EXACT = re.compile(r"\d+(?:\.\d+)?(?:e[-+]?\d+)?")
+_EXACT = re.compile(r"\d+(?:\.\d+)?(?:e[-+]?\d{1,2})?")
+# How many signs a number has at most.
+_MOST_SIGNS = 40
 _MOST_SCALE = 1_000_000
 Rows = List[List[Optional[Fraction]]]
 
@@ -64,13 +66,14 @@ class _Reader:
         text, place = self.layout.cells[job][machine], self.layout.place(job, machine)
         if is_blank(text):
             return self._missing(text, place)
-        if self.has_numbers and _EXACT.fullmatch(text):
-            return Fraction(text)
         bare = _bare(text)
-        if re.fullmatch(r"\d+", bare):
-            return Fraction(bare)
-        if re.fullmatch(r"[\d.,]*\d", bare):
-            return self._signed(bare, text, place)
+        if len(text) <= _MOST_SIGNS:
+            if self.has_numbers and _EXACT.fullmatch(text):
+                return Fraction(text)
+            if re.fullmatch(r"\d+", bare):
+                return Fraction(bare)
+            if re.fullmatch(r"[\d.,]*\d", bare):
+                return self._signed(bare, text, place)
         self.remarks.refuse(place, text, self._wrong(text))
         return None
 
@@ -198,7 +201,8 @@ def _multiplied(layout: Layout, rows: Rows, reader: _Reader) -> Rows:
     """Times for one piece, multiplied by the quantities of the jobs."""
     if not layout.quantities:
         return rows
-    numbers = [Fraction(_bare(text)) if re.fullmatch(r"\d+", _bare(text)) else None for text in layout.quantities]
+    bare = map(_bare, layout.quantities)
+    numbers = [Fraction(text) if re.fullmatch(rf"\d{{1,{_MOST_SIGNS}}}", text) else None for text in bare]
     for job, number in enumerate(numbers):
         if number is None:
             place, text = layout.place(job, -1), layout.quantities[job]

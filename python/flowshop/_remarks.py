@@ -9,8 +9,8 @@ from ._brief import Brief, BriefABC
 from ._errors import FlowshopError, Place, counted, readable
 
 Word = Tuple[str, str]
-# How many lines there are of mistakes of one kind.
-_MOST_MISTAKES = 10
+# How many lines there are of mistakes of one kind, and how many signs of what stands in a cell.
+_MOST_MISTAKES, _MOST_SIGNS = 10, 60
 
 
 class _Remark(NamedTuple):
@@ -41,7 +41,8 @@ class Remark(_Remark, metaclass=BriefABC):
     def _line(self, more: int) -> str:
         """The same, with how many more there are of its kind."""
         places = [f"{kind} {number}" for kind, number in (("row", self.row), ("column", self.column)) if number]
-        beside = [readable(self.value)] * bool(self.value) + [f"and {more:,} more of its kind"] * bool(more)
+        value = readable(self.value if len(self.value) <= _MOST_SIGNS else f"{self.value[: _MOST_SIGNS - 2]}..")
+        beside = [value] * bool(value) + [f"and {more:,} more of its kind"] * bool(more)
         of_place = f" ({'; '.join(beside)})" if beside else ""
         choices = ", or ".join(_written(name, value) for name, value in self.words)
         return f"{', '.join(places) or 'the table'}{of_place} {self.why}{f': {choices}' if choices else ''}"

@@ -6,6 +6,8 @@ import json
 import math
 import os
 import re
+from decimal import Decimal
+from fractions import Fraction
 from typing import Any, Iterable, Iterator, List, Mapping, NamedTuple, Optional
 
 from ._cells import is_missing
@@ -50,10 +52,13 @@ def _text(value: Any) -> str:
         return format(value, ".15g" if value == round(value) else ".12g")
     if hasattr(value, "isoformat") and not hasattr(value, "total_seconds"):  # a date or a time of day, and no length
         return str(value.isoformat())
+    if isinstance(value, Fraction):  # which would look like a date
+        value = Decimal(value.numerator) / value.denominator
     try:
-        return " ".join(str(value).split())
+        text = str(value)
     except ValueError:  # an int that Python does not write out
         return shown(value)
+    return text.lower() if isinstance(value, Decimal) else " ".join(text.split())
 
 
 def _sheet(name: str, rows: Iterable[Iterable[Any]], **more: Any) -> Sheet:
