@@ -84,6 +84,8 @@ TAKEN = [
      ("Shelf Door", "Cut Weld"), 1),
     ("a name with a comma", 'Order,Qty,"Pieces, all",Cut\nA,1,3,4\nB,2,5,2\n', {"skip": 'Qty, "Pieces, all"'}, "4/2",
      ("A B", "Cut"), 1),
+    ("a first row of names, by a truth value", "10,20\n4,5\n6,7\n", {"header": True, "first": "times"}, "4 5/6 7",
+     (None, "10 20"), 1),
     # What is near to a doubt.
     ("numbers in three decimals", '[{"Job": "A", "Cut": 1.125}, {"Job": "B", "Cut": 2}]', {}, "9/16", ("A B", "Cut"), 8),
     ("names of which some are numbers", "Order,Cut\n1,4\n2,5\n3a,6\n", {}, "4/5/6", ("1 2 3a", "Cut"), 1),
@@ -258,6 +260,8 @@ def say_remarks():
         (f"Order,Cut\nA,{'9' * 61}\nB,{'8' * 60}\n", [
             "2 mistakes", mistakes, f"  row 2, column 2 ({'9' * 58}..) is no number",
             f"  row 3, column 2 ({'8' * 60}) is no number"]),
+        *((table, ["1 mistake", mistakes, f"  the table has 2,001 {kind}, and a shop has at most 800 jobs and 26 "
+                   "machines"]) for kind, table in (("rows", "Total,1\n" * 2001), ("columns", ",".join(["Qty"] * 2001)))),
         ('Order,Cut\nA,"1 day, 2:00:00"\nB,1\n', [
             "1 mistake", mistakes, "  row 2, column 2 (1 day, 2:00:00) is a time of day or a length: write it as a "
             "number, in one unit"]),
@@ -336,6 +340,7 @@ def refuse_other_kinds():
     for words, said in [
         ({"totals": "no"}, "totals is 'no', and has to be drop or keep"),
         ({"unit": "5"}, "unit is '5', and has to be the length of one unit, as 1min, 15min or 1h"),
+        ({"separator": "ab"}, "separator is 'ab', and has to be one sign"),
         ({"begin": 0}, "begin is 0, and has to be the number of a row"),
         ({"skp": "A"}, f"there is no word skp: the words are {', '.join(_answers.Answers.__dataclass_fields__)}"),
     ]:

@@ -6,10 +6,13 @@ from typing import List, NamedTuple, Optional, Tuple
 from ._headings import (
     heads_jobs, heads_machines, is_date, is_job, is_machine, is_other, is_quantity, is_total, unit_named
 )
+from ._library import MOST_JOBS, MOST_MACHINES
 from ._remarks import Remarks, Word
 from ._sheets import Sheet
 
 _NUMBER = re.compile(r"[-+]?[\d.,]*\d[.,]?(e[-+]?\d+)?")
+# How many rows and columns are looked at, at most.
+_MOST_LINES = 2000
 _DASHES = re.compile(r"[-–—.?/]*")
 
 
@@ -391,7 +394,12 @@ def _test_words(sheet: Sheet, remarks: Remarks) -> None:
 
 
 def layout_of(sheet: Sheet, remarks: Remarks) -> Optional[Layout]:
-    """The jobs and machines of a sheet; None where it has no times, with a remark."""
+    """The jobs and machines of a sheet; None where it has no times, or is far too great, with a remark."""
+    for kind, count in (("rows", len(sheet.rows)), ("columns", max(map(len, sheet.rows), default=0))):
+        if count > _MOST_LINES:
+            most = f"{MOST_JOBS} jobs and {MOST_MACHINES} machines"
+            remarks.refuse((0, 0), "", f"has {count:,} {kind}, and a shop has at most {most}")
+            return None
     _test_words(sheet, remarks)
     grid = _Grid(sheet, remarks)
     if grid.rows:
