@@ -87,7 +87,8 @@ TAKEN = [
     ("a first row of names, by a truth value", "10,20\n4,5\n6,7\n", {"header": True, "first": "times"}, "4 5/6 7",
      (None, "10 20"), 1),
     # What is near to a doubt.
-    ("numbers in three decimals", '[{"Job": "A", "Cut": 1.125}, {"Job": "B", "Cut": 2}]', {}, "9/16", ("A B", "Cut"), 8),
+    ("numbers with three decimals", '[{"Job": "A", "Cut": 1.125}, {"Job": "B", "Cut": 2}]', {}, "9/16",
+     ("A B", "Cut"), 8),
     ("names of which some are numbers", "Order,Cut\n1,4\n2,5\n3a,6\n", {}, "4/5/6", ("1 2 3a", "Cut"), 1),
     ("a matrix of two rows", "4 0\n8 5\n", {}, "4 0/8 5", None, 1),
     ("a matrix with falling numbers", "9 1\n7 2\n5 6\n", {}, "9 1/7 2/5 6", None, 1),
@@ -261,7 +262,7 @@ def say_remarks():
             "2 mistakes", mistakes, f"  row 2, column 2 ({'9' * 58}..) is no number",
             f"  row 3, column 2 ({'8' * 60}) is no number"]),
         *((table, ["1 mistake", mistakes, f"  the table has 2,001 {kind}, and a shop has at most 800 jobs and 26 "
-                   "machines"]) for kind, table in (("rows", "Total,1\n" * 2001), ("columns", ",".join(["Qty"] * 2001)))),
+                   "machines"]) for kind, table in (("rows", "Sum,1\n" * 2001), ("columns", ",".join(["Qty"] * 2001)))),
         ('Order,Cut\nA,"1 day, 2:00:00"\nB,1\n', [
             "1 mistake", mistakes, "  row 2, column 2 (1 day, 2:00:00) is a time of day or a length: write it as a "
             "number, in one unit"]),
@@ -394,7 +395,7 @@ def read_pipes():
     """A table that comes through a pipe: nothing is kept beside it, and plans stand in the folder that is named."""
     for words, status, said in [
         (["shop", "/dev/stdin", "--skip", "B"], 0, "jobs\tA\n1 1 0 0 0\n"),
-        (["plan", "/dev/stdin"], 2, "flowshop: /dev/stdin is no file that plans stand beside: --out names a folder for"),
+        (["plan", "/dev/stdin"], 2, "flowshop: /dev/stdin is no file that plans stand beside: --out names a folder"),
         (["plan", "/dev/stdin", "--out", "piped", "--skip", "B"], 0, "No order finishes earlier than 4: this one is"),
     ]:
         done = command(*words, input="Job,Cut\nA,4\nB,5\n")
