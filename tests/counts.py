@@ -2,6 +2,7 @@
 prints a line for each that is not as it should be, and then how many were. The status is 1 where one was not."""
 
 import contextlib
+import importlib
 import io
 import os
 import pathlib
@@ -14,9 +15,18 @@ sys.path.insert(0, str(TOP / "python"))
 EXAMPLES = TOP / "examples"
 BLOCKS = EXAMPLES / "several_blocks.txt"
 PROGRAM = os.environ.get("FLOWSHOP_PROGRAM", str(TOP / "crates/flow_tool/out/flow_tool"))
-# The package as a command.
+# The package as a command, which is that of the clone.
 FLOWSHOP = [sys.executable, "-m", "flowshop"]
+os.environ["PYTHONPATH"] = str(TOP / "python")
 counts = {True: 0, False: 0}
+
+
+def optional(name):
+    """A package, or None where it is not here."""
+    try:
+        return importlib.import_module(name)
+    except ImportError:
+        return None
 
 
 def holds(is_so, what):

@@ -185,7 +185,8 @@ def wait_for_no_reader():
     kept = (
         "import sys, time; from flowshop._waiting import Lines\n"
         "lines, begun = Lines(sys.stderr), time.monotonic()\n"
-        "for number in range(100): lines.keep(f'line {number}{(99 - number) * 100 * chr(32)}'); lines(f'far {number}')\n"
+        "for number in range(100): lines.keep(f'line {number}{(99 - number) * 100 * chr(32)}'); "
+        "lines(f'far {number}')\n"
         "lines.close(); sys.exit(time.monotonic() - begun > 10)"
     )
     kinds = [(err, name) for err in STREAMS_OF_LINES for name in ("a search", "lines")]

@@ -24,7 +24,7 @@ from unittest import mock
 
 import package_input
 import refusals
-from counts import BLOCKS, EXAMPLES, TOP, called, end, equal, new_folder, refused
+from counts import BLOCKS, EXAMPLES, TOP, called, end, equal, new_folder, optional, refused
 from reference import makespan, of_rows, root_bound
 from refusals import BOUNDS, LEAST, THREE as ROWS, TREE
 
@@ -32,14 +32,7 @@ import flowshop
 from flowshop import Certificate, FlowshopError, Operation, Shop, Start
 from flowshop import __main__ as command, _library, _options, _parts, _stack, _texts
 
-try:
-    import numpy
-except ImportError:
-    numpy = None
-try:
-    import pandas
-except ImportError:
-    pandas = None
+numpy, pandas = optional("numpy"), optional("pandas")
 
 PUBLISHED, HEADER = EXAMPLES / "taillard_20_5.txt", (TOP / "library" / "flowshop.h").read_text()
 SVG = "{http://www.w3.org/2000/svg}"
@@ -397,15 +390,16 @@ def use_files():
     equal("a file that is not there", refused(Shop.read, "/nothing"), FileNotFoundError)
 
 
+def labels(path):
+    """The names and the scale of each block of a file."""
+    return [(block.shop.job_names, block.shop.machine_names, block.shop.scale) for block in Shop.read(path)]
+
+
 def use_labels():
     """Names and unit in the label lines of a block, in the form of docs/formats.md, and in others."""
     lines = ["jobs\tShelf\tDoor", "2 1 0 0 0", "machines, times in 1/4, decimal comma, separator tab\tCut, saw", "5 7"]
     wanted = ("Shelf", "Door"), ("Cut, saw",), 4
     no_jobs, plain = ((1, 2), *wanted[1:]), ((1, 2), (1,), 1)
-
-    def labels(path):
-        return [(block.shop.job_names, block.shop.machine_names, block.shop.scale) for block in Shop.read(path)]
-
     with new_folder() as folder:
         path = folder / "shop.txt"
         for at, old, new, names in [
@@ -432,23 +426,28 @@ def use_labels():
             equal(f"the words {first!r}", labels(path), [plain])
         path.write_bytes(codecs.BOM_UTF8 + "\r\n".join(lines).encode())
         equal("a byte order mark", labels(path), [wanted])
-        path.write_bytes("\n".join([*lines, "jobs\tBed", "1 1 0 0 0", lines[2].replace("/4", "/2"), "3"]).encode())
-        equal("names and scales of two blocks", labels(path), [wanted, (("Bed",), wanted[1], 2)])
-        shop = Shop.read(path)[0].shop
-        whole = Shop.from_machines([[5, 7]], job_names=["Shelf", "Door"], machine_names=["Cut, saw"])
-        equal("that the scale tells shops apart", (shop == whole, shop.times == whole.times), (False, True))
-        shop.write(path)
-        equal("label lines that are written", path.read_text().split("\n")[:3:2], [lines[0], lines[2]])
-        named = Shop.from_jobs(ROWS, **NAMES)
-        named.write(path, seed=3)
-        equal("names of a table", Shop.read(path), [(named, 3, 13, 10)])
-        Shop.from_jobs([[1], [2]], job_names=["Shelf", 7]).write(path)
-        equal("names that are no text", Shop.read(path)[0].shop.job_names, ("Shelf", "7"))
-        for name in ("", "a\tb", "a\n", "a\r"):
-            sentence = f"the name of job 2 is {name!r}, and has to have a sign, no tab and no end of a line"
-            got = refused(Shop.from_jobs([[1], [2]], job_names=["a", name]).write, path)
-            equal(f"the name {name!r}", got, ("TextError", "LABEL", 2, sentence))
-        equal("that the file is as it was", Shop.read(path)[0].shop.jobs, 2)
+        write_labels(path, lines, wanted)
+
+
+def write_labels(path, lines, wanted):
+    """Label lines of several blocks, and those that are written."""
+    path.write_bytes("\n".join([*lines, "jobs\tBed", "1 1 0 0 0", lines[2].replace("/4", "/2"), "3"]).encode())
+    equal("names and scales of two blocks", labels(path), [wanted, (("Bed",), wanted[1], 2)])
+    shop = Shop.read(path)[0].shop
+    whole = Shop.from_machines([[5, 7]], job_names=["Shelf", "Door"], machine_names=["Cut, saw"])
+    equal("that the scale tells shops apart", (shop == whole, shop.times == whole.times), (False, True))
+    shop.write(path)
+    equal("label lines that are written", path.read_text().split("\n")[:3:2], [lines[0], lines[2]])
+    named = Shop.from_jobs(ROWS, **NAMES)
+    named.write(path, seed=3)
+    equal("names of a table", Shop.read(path), [(named, 3, 13, 10)])
+    Shop.from_jobs([[1], [2]], job_names=["Shelf", 7]).write(path)
+    equal("names that are no text", Shop.read(path)[0].shop.job_names, ("Shelf", "7"))
+    for name in ("", "a\tb", "a\n", "a\r"):
+        sentence = f"the name of job 2 is {name!r}, and has to have a sign, no tab and no end of a line"
+        got = refused(Shop.from_jobs([[1], [2]], job_names=["a", name]).write, path)
+        equal(f"the name {name!r}", got, ("TextError", "LABEL", 2, sentence))
+    equal("that the file is as it was", Shop.read(path)[0].shop.jobs, 2)
 
 
 def refuse_labels():
@@ -515,14 +514,15 @@ def refuse_files():
         equal("a label that begins as a certificate", Shop.read(path)[0].shop.times, [[7]])
 
 
-def refuse_tables():
-    """Tables that are no shop, each with its place, and a sentence with the value, the limit and what to do."""
+def no_tables():
+    """Tables that are no shop, each with its call, the name of the error, its place, and its sentence with the value,
+    the limit and what to do; of some sentences the first words."""
     jobs = "one for each job, and a shop has 1 to 800 jobs"
     machines = "one for each machine, and a shop has 1 to 26 machines"
     turn = "; if its rows are {0}, it is a table for Shop.from_{0}".format
     whole = "and has to be a whole number; choose a unit in which all are whole, and convert them to int"
     skip, limit = "write 0 where a job skips a machine", "and has to be from 0 to 999,999"
-    for make, table, name, place, sentence in [  # of some sentences the first words
+    return [
         (Shop.from_jobs, [], "JOBS", 0, f"this table has 0 rows, {jobs}"),
         (Shop.from_machines, [], "JOBS", 0, f"this table has 0 columns, {jobs}"),
         (Shop.from_jobs, [[]], "MACHINES", 0, f"this table has 0 columns, {machines}"),
@@ -551,12 +551,17 @@ def refuse_tables():
         (Shop.from_jobs, [[1, 2.0], [3, None]], "TIME", (2, 2), f"is missing (None); {skip}"),
         (Shop.from_jobs, [[float("nan"), 1.5]], "TIME", (1, 1), f"is missing (nan); {skip}"),
         (Shop.from_jobs, [[1, "4"]], "TIME", (1, 2), "is the text '4', and has to be a whole number; convert"),
-    ]:
+    ]
+
+
+def refuse_tables():
+    """Tables that are no shop."""
+    for make, table, name, place, sentence in no_tables():
         got = refused(make, table)
         at = f"the time in row {place[0]}, column {place[1]} " if name == "TIME" else ""
         # No other advice follows.
-        got = *got[:3], got[3][: len(at + sentence)], "would fit" in got[3]
-        wanted = "NotAShop", name, place, at + sentence, "would fit" in sentence
+        got = *got[:3], got[3][: len(at + sentence)], "it is a table for" in got[3]
+        wanted = "NotAShop", name, place, at + sentence, "it is a table for" in sentence
         equal(f"the table of which is said: {sentence}", got, wanted)
 
 

@@ -20,7 +20,7 @@ import time
 import xml.etree.ElementTree
 from unittest import mock
 
-from counts import BLOCKS, called, command, equal, new_folder, refused
+from counts import BLOCKS, called, command, equal, new_folder, optional, refused
 from reference import makespan, of_rows
 from refusals import BOUNDS, LEAST
 from refusals import THREE as ROWS
@@ -30,18 +30,7 @@ from flowshop import Shop
 from flowshop import _library, _meter, _options, _parts
 from flowshop.__main__ import main
 
-try:
-    import numpy
-except ImportError:
-    numpy = None
-try:
-    import pandas
-except ImportError:
-    pandas = None
-try:
-    from scipy import sparse
-except ImportError:
-    sparse = None
+numpy, pandas, sparse = map(optional, ("numpy", "pandas", "scipy.sparse"))
 
 SHOP = Shop.from_jobs(ROWS)
 WHOLE = "and has to be a whole number"
@@ -77,6 +66,7 @@ CELLS = [
     ("3", f"is the text '3', {TEXT}"),
     (float("nan"), f"is missing (nan); {SKIPS}"),
     (decimal.Decimal("NaN"), f"is missing (Decimal('NaN')); {SKIPS}"),
+    (decimal.Decimal("sNaN"), f"is missing (Decimal('sNaN')); {SKIPS}"),
 ]
 
 
@@ -114,15 +104,13 @@ def test_scales():
         equal(f"{value} with the scale {scale}", got if said else got.times[1], place if said else [99_250])
 
 
-def test_arrays():
-    """Arrays of each type: which are taken, and what is said of the others."""
-    if numpy is None:
-        return
+def arrays():
+    """Arrays of each type, with what is said of those that are not taken."""
     hidden = [[False] * 3, [False, True, False], [False] * 3]
     seconds = numpy.array(ROWS, dtype="timedelta64[s]")
     at = "the time in row 1, column 1"
     two = "and a table has 2, one of rows and one of columns"
-    for what, table, wanted in [
+    return [
         ("masked", numpy.ma.array(ROWS, mask=hidden), f"the time in row 2, column 2 is missing (masked); {SKIPS}"),
         ("masked floats", numpy.ma.array(ROWS, mask=hidden, dtype=float),
          f"the time in row 2, column 2 is missing (masked); {SKIPS}"),
@@ -153,7 +141,14 @@ def test_arrays():
         ("three dimensions", numpy.array([ROWS, ROWS]), f"this array has 3 dimensions, {two}"),
         ("three of floats", numpy.zeros((2, 2, 2)), f"this array has 3 dimensions, {two}"),
         ("infinity", numpy.array([[numpy.inf]]), f"{at} is inf, of type float, {UNIT}"),
-    ]:
+    ]
+
+
+def test_arrays():
+    """Arrays of each type: which are taken, and what is said of the others."""
+    if numpy is None:
+        return
+    for what, table, wanted in arrays():
         got = refused(lambda table=table: Shop.from_jobs(table))
         equal(f"an array: {what}", got if wanted is None else got[3], SHOP if wanted is None else wanted)
     tenths = numpy.array(ROWS) / 10

@@ -59,7 +59,7 @@ def numbers(line, count):
 
 
 def heading_of(shop, text):
-    """The depth, the value, the sequence and the rest of a certificate. Refused with the first fault of lines 2 to 4."""
+    """Depth, value, sequence and the rest of a certificate. Refused with the first fault of lines 2 to 4."""
     *lines, rest = text.split(b"\n", 4)[1:]
     sizes, value, jobs = (numbers(line, count) for line, count in zip([*lines, b"", b"", b""], (3, 1, shop[0])))
     if not sizes or sizes[:2] != list(shop[:2]) or sizes[2] > min(3, shop[0]):

@@ -2,6 +2,7 @@
 day, and the files that the commands `shop` and `plan` write. Expected values are written by hand, or come from plain
 code below, which has a recurrence of starts and a calendar of its own."""
 
+import argparse
 import datetime
 import itertools
 import json
@@ -9,27 +10,22 @@ import os
 import pathlib
 import random
 import re
+import shlex
 import shutil
 import subprocess
 import sys
 from contextlib import suppress
+from decimal import Decimal
+from fractions import Fraction
+from unittest import mock
 
-from counts import TOP, command, end, equal, holds, new_folder, refused
+from counts import command, end, equal, holds, new_folder, optional, refused
 from reference import makespan, of_rows, spans as spans_of
 
 from flowshop import NotATable, Plan, Shop, read_table
-from flowshop import _answers
+from flowshop import _answers, _command_shop, _reading
 
-try:
-    import openpyxl
-except ImportError:
-    openpyxl = None
-try:
-    import pandas
-except ImportError:
-    pandas = None
-
-os.environ["PYTHONPATH"] = str(TOP / "python")
+openpyxl, pandas = optional("openpyxl"), optional("pandas")
 
 # --- What is read, and what is asked ---
 
@@ -74,7 +70,9 @@ TAKEN = [
     ("thousands that a decimal proves", 'Order;Saw;Drill\nShelf;1.234,5;7\nDoor;1 000;2\n', {}, "2469 14/2000 4",
      ("Shelf Door", "Saw Drill"), 2),
     ("a unit in the headings", "Order;Saw (min);Drill [h]\nShelf;30;1,5\nDoor;10;2\n", {}, "30 90/10 120",
-     ("Shelf Door", "Saw\xa0(min) Drill\xa0[h]"), 1),
+     ("Shelf Door", "Saw\xa0(min) Drill\xa0[min]"), 1),
+    ("a unit that holds", "Order,Saw (min),Drill [in h]\nA,30,1.5\nB,10,2\n", {"unit": "15min", "trust": "unit"},
+     "60 3/20 4", ("A B", "Saw\xa0(15min) Drill\xa0[15min]"), 2),
     ("a row of units", "Order;Saw;Drill\n;min;h\nShelf;30;1\nDoor;10;2\n", {}, "30 60/10 120",
      ("Shelf Door", "Saw Drill"), 1),
     ("a blank column", "Order,Cut,,Weld\nShelf,4,,5\nDoor,6,,7\n", {}, "4 5/6 7", ("Shelf Door", "Cut Weld"), 1),
@@ -84,6 +82,24 @@ TAKEN = [
     ("a list of rows", '{"times": [["Job", "Cut"], ["A", 1e-3], ["B", 4]]}', {}, "1/4000", ("A B", "Cut"), 1000),
     ("times for one piece", "Order,Qty,Cut,Weld\nShelf,3,4,1\nDoor,5,2,3\n", {"multiply": "Qty"}, "12 3/10 15",
      ("Shelf Door", "Cut Weld"), 1),
+    ("a name with a comma", 'Order,Qty,"Pieces, all",Cut\nA,1,3,4\nB,2,5,2\n', {"skip": 'Qty, "Pieces, all"'}, "4/2",
+     ("A B", "Cut"), 1),
+    ("a first row of names, by a truth value", "10,20\n4,5\n6,7\n", {"header": True, "first": "times"}, "4 5/6 7",
+     (None, "10 20"), 1),
+    # What is near to a doubt.
+    ("numbers with three decimals", '[{"Job": "A", "Cut": 1.125}, {"Job": "B", "Cut": 2}]', {}, "9/16",
+     ("A B", "Cut"), 8),
+    ("names of which some are numbers", "Order,Cut\n1,4\n2,5\n3a,6\n", {}, "4/5/6", ("1 2 3a", "Cut"), 1),
+    ("a matrix of two rows", "4 0\n8 5\n", {}, "4 0/8 5", None, 1),
+    ("a matrix with falling numbers", "9 1\n7 2\n5 6\n", {}, "9 1/7 2/5 6", None, 1),
+    ("a machine ten times the least other", "Order,P,Q,R\nA,1,5,500\nB,2,95,600\nC,9,40,700\n", {},
+     "1 5 500/2 95 600/9 40 700", ("A B C", "P Q R"), 1),
+    ("two equal machines", "Order,P,Q\nA,4,4\nB,5,5\nC,7,7\n", {}, "4 4/5 5/7 7", ("A B C", "P Q"), 1),
+    ("one number on each machine", "Order,P,Q\nA,4,7\nB,4,7\nC,4,7\n", {}, "4 7/4 7/4 7", ("A B C", "P Q"), 1),
+    ("running numbers on one machine", "Order,P\nA,1\nB,2\nC,3\nD,4\n", {}, "1/2/3/4", ("A B C D", "P"), 1),
+    ("three running numbers", "Order,P,Q\nA,4,7\nB,5,1\nC,6,3\n", {}, "4 7/5 1/6 3", ("A B C", "P Q"), 1),
+    ("few rows, of which half have names of jobs", "Order,P,Q,R\nJob 1,4,0,1\nX,0,8,2\n", {}, "4 0 1/0 8 2",
+     ("Job\xa01 X", "P Q R"), 1),
     ("halves and fifths", "Order,Cut,Weld\nShelf,0.5,0.2\nDoor,1,2\n", {}, "5 2/10 20", ("Shelf Door", "Cut Weld"), 10),
     ("thousands that are said", "Order,Cut,Weld\nShelf,1.250,7\nDoor,3,4\n", {"decimal": "comma"}, "1250 7/3 4",
      ("Shelf Door", "Cut Weld"), 1),
@@ -113,7 +129,7 @@ ASKED = [
      [(3, 0, "B", "skip=B")], ("1/5", ("A C", "Cut"), 1)),
     ("a unit against that of the headings", "Job,Saw [h],Drill [h]\nA,1,2\nB,3,1\n", {"unit": "1min"},
      [(0, 2, "Saw [h]", "trust=headings trust=unit")], ("1 2/3 1", ("A B", "Saw\xa0[h] Drill\xa0[h]"), 1)),
-    # Ten with mistakes, and some more.
+    # Mistakes.
     ("all that may be wrong with a time", "Order,Cut,Weld\nA,1:30,5 min\nB,-3,10%\nC,x,1/2\nD,7,2026-12-01\n", {},
      [(2, 2, "1:30", ""), (2, 3, "5 min", ""), (3, 2, "-3", ""), (3, 3, "10%", ""), (4, 2, "x", ""), (4, 3, "1/2", ""),
       (5, 3, "2026-12-01", "")], None),
@@ -130,11 +146,32 @@ ASKED = [
     ("27 machines", ",".join("1" * 27) + "\n", {"rows": "jobs"}, [(0, 0, "", "")], None),
     ("a quantity that is no number", "Order,Qty,Cut,Weld\nA,few,4,1\nB,5,2,3\n", {"multiply": "Qty"},
      [(2, 0, "few", "")], None),
+    ("two jobs of one name, one without times", "Order,Cut\nA,1\nB,3\nA,\n", {}, [(4, 0, "A", "")], None),
+    # Doubts.
+    ("a title above times alone", "Plan of May\n4,5\n6,7\n", {}, [(1, 0, "Plan of May", "begin=2")],
+     ("4 5/6 7", None, 1)),
+    ("numbers above, and an empty corner", ",10,20\nA,4,5\nB,6,7\n", {}, [(1, 0, "", "header=yes header=no")],
+     ("4 5/6 7", ("A B", "10 20"), 1)),
+    ("a machine with a number", "Order,P,10\nA,1,4711\nB,5,4700\nC,2,4600\n", {},
+     [(0, 3, "10", "skip=3 keep=3"), (1, 0, "Order", "header=yes header=no")], ("1/5/2", ("A B C", "P"), 1)),
+    ("sums between the others", "Order,P,x,Q\nA,4,6,2\nB,1,9,8\nC,3,8,5\n", {}, [(0, 3, "x", DROP)],
+     ("4 2/1 8/3 5", ("A B C", "P Q"), 1)),
+    ("fewer rows than columns, without names", "4 0 4 7\n0 8 0 5\n", {}, [(0, 0, "", "rows=machines rows=jobs")],
+     ("4 0/0 8/4 0/7 5", None, 1)),
+    ("sums above the others", "Order,P,Q\ny,8,15\nA,4,2\nB,1,8\nC,3,5\n", {}, [(2, 0, "y", DROP)],
+     ("4 2/1 8/3 5", ("A B C", "P Q"), 1)),
+    ("two rows without times", "Order,Cut\nA,1\n---,\nB,3\n---,\n", {},
+     [(3, 0, "---", "skip=---"), (5, 0, "---", "skip=---")],
+     ("1/3", ("A B", "Cut"), 1)),
     ("a decimal or a thousand", "Order,Cut,Weld\nA,1.250,5\nB,7,2.125\n", {},
      [(2, 2, "1.250", "decimal=point decimal=comma"), (3, 3, "2.125", "decimal=point decimal=comma")],
      ("10 40/56 17", ("A B", "Cut Weld"), 8)),
     ("rows below the table", f"{PLAIN}Printed 24 Nov\n", {}, [(5, 0, "Printed 24 Nov", "skip=Printed\xa024\xa0Nov")],
      (TIMES, NAMES, 1)),
+    ("a row with a comma below the table", f'{PLAIN}"Printed 24 Nov, page 1"\n', {},
+     [(5, 0, "Printed 24 Nov, page 1", "skip=Printed\xa024\xa0Nov,\xa0page\xa01")], (TIMES, NAMES, 1)),
+    ("a column whose name has a comma", 'Order,Cut,"Note, date",Weld\nA,4,urgent,0\nB,0,,8\n', {},
+     [(0, 3, "Note, date", "skip=Note,\xa0date")], ("4 0/0 8", ("A B", "Cut Weld"), 1)),
     ("a hole", PLAIN.replace("8,0", "8,"), {}, [(3, 4, "", ZERO)], (TIMES, NAMES, 1)),
     ("no heading", PLAIN.partition("\n")[2], {}, [(1, 0, "Shelf", "header=no header=yes")], (TIMES, (JOBS, None), 1)),
     ("machines with numbers", "Order,10,20\nA,4,5\nB,6,7\n", {}, [(1, 0, "Order", "header=yes header=no")],
@@ -186,13 +223,16 @@ def file_of(table, name="table.csv"):
 
 
 def remarks_of(table, words):
-    """The remarks on a table, as rows above have them, and the words that settle them."""
+    """The remarks on a table, as rows above have them, the words that settle them, and the same as they are printed."""
     try:
-        return facts_of(read_table(table, **words)), {}
+        return facts_of(read_table(table, **words)), {}, {}
     except NotATable as error:
         said = [(row, column, value, " ".join(f"{name}={each}".replace(" ", "\xa0") for name, each in each_words))
                 for row, column, value, _, each_words in error.remarks]
-        return said, error.words
+        printed = str(error).partition(", write: ")[2]
+        parser = argparse.ArgumentParser()
+        _command_shop.words_of_table(parser)
+        return said, error.words, _command_shop.given_words(parser.parse_args(["table.csv", *shlex.split(printed)]))
 
 
 def read_tables():
@@ -200,23 +240,59 @@ def read_tables():
     for what, table, words, *wanted in TAKEN:
         equal(what, remarks_of(file_of(table), words)[0], wanted_of(*wanted))
     for what, table, words, remarks, settled in ASKED:
-        said, answers = remarks_of(file_of(table), words)
+        said, *answers = remarks_of(file_of(table), words)
         equal(what, said, remarks)
-        if settled:
-            equal(f"{what}, settled", remarks_of(file_of(table), {**words, **answers})[0], wanted_of(*settled))
+        for each in answers if settled else []:
+            equal(f"{what}, with {each}", remarks_of(file_of(table), {**words, **each})[0], wanted_of(*settled))
+
+
+def say_remarks():
+    """The lines of remarks: of equal doubts there is one, and of equal mistakes there are ten at most."""
+    holes = "\n".join(["Order,Cut,Weld", *(f"J{job},{job},{'' if job % 3 else job}" for job in range(1, 8)), ""])
+    wrong = "\n".join(["Order,Cut,Weld", "J1,1,1", *(f"J{job},x{job},{job}" for job in range(2, 15)), ""])
+    doubts, mistakes = "in doubt, with the words of which one settles it:", "to be changed in the table:"
+    for table, lines in [
+        (holes, ["5 doubts", doubts, "  row 2, column 3 (and 4 more of its kind) has no time: write it there, or, if "
+                 "the job skips the machine: --missing zero",
+                 "if all is as it looks, and blank cells are skipped machines, write: --missing zero"]),
+        (wrong, ["13 mistakes", mistakes,
+                 *(f"  row {row}, column 2 (x{row - 1}) is no number" for row in range(3, 12)),
+                 "  row 12, column 2 (x11; and 3 more of its kind) is no number"]),
+        (f"Order,Cut\nA,{'9' * 61}\nB,{'8' * 60}\n", [
+            "2 mistakes", mistakes, f"  row 2, column 2 ({'9' * 58}..) is no number",
+            f"  row 3, column 2 ({'8' * 60}) is no number"]),
+        *((table, ["1 mistake", mistakes, f"  the table has 2,001 {kind}, and a shop has at most 800 jobs and 26 "
+                   "machines"]) for kind, table in (("rows", "Sum,1\n" * 2001), ("columns", ",".join(["Qty"] * 2001)))),
+        ('Order,Cut\nA,"1 day, 2:00:00"\nB,1\n', [
+            "1 mistake", mistakes, "  row 2, column 2 (1 day, 2:00:00) is a time of day or a length: write it as a "
+            "number, in one unit"]),
+        ("Order,Cut\nA,5 min\nB,1\n", ["1 mistake", mistakes, "  row 2, column 2 (5 min) has a unit: write the number "
+                                      "alone, and the unit behind the name of the machine, as Saw (min)"]),
+    ]:
+        said = refused(read_table, file_of(table))[3]
+        equal("the lines of remarks", said, "\n".join(["table.csv: " + lines[0], *lines[1:]]))
+    done = command("shop", file_of(holes), "--missing", "zero")
+    equal("what is said of blank cells", "; times 0 to 7; 5 blank cells taken as 0\n" in done.stderr, True)
 
 
 def read_other_kinds():
-    """Lists, frames and workbooks, and files that are no tables."""
+    """Lists, frames and workbooks."""
     rows = [["Order", "Saw", "Drill"], ["Shelf", 3.5, 7], ["Door", 1, 2.125]]
     wanted = wanted_of("28 56/8 17", ("Shelf Door", "Saw Drill"), 8)
-    equal("a list of rows", facts_of(read_table(rows)), wanted)
+    objects = [dict(zip(rows[0], row)) for row in rows[1:]]
+    for what, table in [("rows", rows), ("tuples", map(tuple, rows)), ("objects", objects), ("one", {"a": objects})]:
+        equal(f"a list of {what}", facts_of(read_table(table)), wanted)
     sums = [["Order", "Saw"], ["Shelf", 0.1 + 0.2], ["Door", 12345.0]]
     equal("what is left of rounding", facts_of(read_table(sums)), wanted_of("3/123450", ("Shelf Door", "Saw"), 10))
+    exact = [["Order", "Saw"], ["Shelf", Fraction(7, 4)], ["Door", Decimal("1E+2")], ["Bed", Decimal("0.50")]]
+    equal("exact numbers", facts_of(read_table(exact)), wanted_of("7/400/2", ("Shelf Door Bed", "Saw"), 4))
     if pandas:
         frame = pandas.DataFrame(rows[1:], columns=rows[0])
         equal("a frame", facts_of(read_table(frame)), wanted)
         equal("a frame with an index", facts_of(read_table(frame.set_index("Order"))), wanted)
+        lengths = frame.assign(Saw=pandas.to_timedelta(frame.Saw, unit="min"))
+        said = [(2, 2, "0 days 00:03:30", ""), (3, 2, "0 days 00:01:00", "")]
+        equal("lengths of time", remarks_of(lengths, {})[0], said)
     else:
         print("no pandas: its frames were passed over")
     if openpyxl:
@@ -230,23 +306,46 @@ def read_other_kinds():
         said = "install the package openpyxl (pip install openpyxl), or save its sheet as CSV (UTF-8)"
         equal("a workbook", refused(read_table, file_of(b"PK\x03\x04 ..", "table.xlsx")),
               ("TextError", "TABLE", 0, f"table.xlsx: this is a workbook: {said}"))
+
+
+DEEP = "the JSON of the text has a number of thousands of digits, or too many lists in lists"
+NO_ROWS = "it is {}, and has to be a list of rows, or of objects, with something in it"
+
+
+def refuse_other_kinds():
+    """Files and lists that are no tables, numbers that are no times, and words that are none."""
     for said, table in [
         ("this is a workbook of an old kind: save its sheet as CSV (UTF-8) or as .xlsx", b"\xd0\xcf\x11\xe0"),
         ("this is an OpenDocument sheet: save it as CSV (UTF-8) or as .xlsx",
          b"PK\x03\x04" + b"\0" * 26 + b"mimetypeapplication/vnd.oasis.opendocument.spreadsheet"),
         ("this is a benchmark text and no table: certify takes it as it is", "times :\n2 1 0 0 0\ntimes :\n4 5\n"),
         ("a quotation mark in row 1 is not closed", 'Order,"Cut\n' + "Shelf,4\n" * 30),
-        ("line 1 is no JSON: Expecting ',' delimiter", "[1 2]"),
-        ("this JSON has to be a list of rows, or of objects", "[]"),
+        ("line 1 of the text is no JSON: Expecting ',' delimiter", "[1 2]"), (DEEP, "[" * 10**5),
+        (DEEP, f"[[{'9' * 5000}]]"), (NO_ROWS.format("[]"), "[]"), (NO_ROWS.format("[5]"), "[5]"),
+        (NO_ROWS.format("[[1], {'a': 2}]"), '[[1], {"a": 2}]'),
+        (NO_ROWS.format("{'a': [[1]], 'b': 2}"), '{"a": [[1]], "b": 2}'),
     ]:
         equal(said, refused(read_table, file_of(table)), ("TextError", "TABLE", 0, f"table.csv: {said}"))
+    for table in (5, None, [], ["ab", "cd"], {"Job": ["A"], "Cut": [4]}, [{4, 5}], b"4 5"):
+        said = f"table: {NO_ROWS.format(repr(table))}"
+        equal(f"the table {table}", refused(read_table, table), ("TextError", "TABLE", 0, said))
+    for value, said in [
+        (float("inf"), "inf"), (-float("inf"), "-inf"), (10**5000, "a number of thousands of digits"), ("9" * 41,) * 2,
+        ("1e999999999",) * 2, (f"1.{'5' * 5000}",) * 2, (Decimal("sNaN"), ""),
+        (Fraction(10**5000, 3), f"3.{'3' * 27}e+4999"),
+    ]:
+        got = remarks_of([["Job", "Cut", "Saw"], ["A", value, 3], ["B", 1, 4]], {})[0]
+        equal(f"the time {said}", got, [(2, 2, said, "" if said else ZERO)])
+    equal("a great quantity", remarks_of(file_of(f"Job,Qty,Cut\nA,{'9' * 5000},1\nB,2,3\n"), {"multiply": "Qty"})[0],
+          [(2, 0, "9" * 5000, "")])
     for words, said in [
         ({"totals": "no"}, "totals is 'no', and has to be drop or keep"),
         ({"unit": "5"}, "unit is '5', and has to be the length of one unit, as 1min, 15min or 1h"),
+        ({"separator": "ab"}, "separator is 'ab', and has to be one sign"),
         ({"begin": 0}, "begin is 0, and has to be the number of a row"),
         ({"skp": "A"}, f"there is no word skp: the words are {', '.join(_answers.Answers.__dataclass_fields__)}"),
     ]:
-        equal(str(words), refused(read_table, rows, **words)[3], said)
+        equal(str(words), refused(read_table, [["Job", "Cut"], ["A", 4]], **words)[3], said)
 
 
 SETTINGS = """# Kept.
@@ -267,7 +366,11 @@ def keep_answers():
     if sys.version_info >= (3, 11):
         import tomllib
         equal("the reader in the place of tomllib", _answers.read_lines(SETTINGS), tomllib.loads(SETTINGS))
-    for line in ("skip", "skip = ", "skip = [1", "skip = [1]]", "skip = 'a", "[a", "skip = 1 2"):
+    for names in (("Säge, 1", 'a "b" \\ c\t\\n'), ("S\x1b[2Jx\x7f", "\u2028", "'")):
+        text = _answers.with_answers("t.csv", None, _answers.Answers(skip=names))
+        for read in (lambda text: _answers.read_toml("t.toml", text), _answers.read_lines):
+            equal(f"the names {names} as they are kept", _answers.answers_of(read(text)).skip, names)
+    for line in ("skip", "skip = ", "skip = [1", "skip = [1]]", "skip = 'a", "[a", "skip = 1 2", 'skip = "\\x"'):
         equal(f"the line {line}", refused(_answers.read_toml, "t.toml", f"\n{line}\n")[1], "SETTINGS")
         equal(f"the line {line} without tomllib", "line 2 is" in str(refused_lines(line)), True)
     file_of("Job,Cut,Saw,Qty\nBed,3,7,1\nSofa,1,2,3\nTotal,4,9,\n", "day.csv")
@@ -286,6 +389,60 @@ def keep_answers():
     equal("another column the next day", command("shop", "day.csv", "--skip", "Due").returncode, 0)
     equal("both names are kept", 'skip = ["Qty", "Due"]' in pathlib.Path("day.csv.flowshop.toml").read_text(), True)
     equal("a word that is none", command("shop", "day.csv", "--totals", "no").returncode, 2)
+
+
+def read_pipes():
+    """A table that comes through a pipe: nothing is kept beside it, and plans stand in the folder that is named."""
+    for words, status, said in [
+        (["shop", "/dev/stdin", "--skip", "B"], 0, "jobs\tA\n1 1 0 0 0\n"),
+        (["plan", "/dev/stdin"], 2, "flowshop: /dev/stdin is no file that plans stand beside: --out names a folder"),
+        (["plan", "/dev/stdin", "--out", "piped", "--skip", "B"], 0, "No order finishes earlier than 4: this one is"),
+    ]:
+        done = command(*words, input="Job,Cut\nA,4\nB,5\n")
+        got = done.returncode, (done.stderr if status else done.stdout)[: len(said)]
+        equal(f"a table of a pipe: {words}", got, (status, said))
+    files = [f"stdin.plan.{kind}" for kind in ("csv", "html", "json", "svg")]
+    equal("files of it", (sorted(os.listdir("piped")), os.path.exists("/dev/stdin.flowshop.toml")), (files, False))
+
+
+def refuse_files():
+    """Files of answers that are none, and files that would be replaced."""
+    kept = pathlib.Path("day.csv.flowshop.toml")
+    file_of("Job,Cut\nA,4\nB,5\n", "day.csv")
+    file_of("\ufeffskip = [\"B\"]\r\n", kept)
+    equal("a file of answers with a byte order mark", read_table("day.csv").job_names, ("A",))
+    for text, said in [
+        (b"skip = ['S\xe4ge']", f"{kept} is no text in UTF-8: save it as such a one"),
+        (b"calendar = 5", f"calendar of {kept} has to be a section [calendar]"),
+        (b"[calender]", f"{kept} has a section [calender]; the only one that there is is [calendar]"),
+    ]:
+        equal(str(text), refused(read_table, file_of(text, kept) and "day.csv"), ("OptionError", "SETTINGS", 0, said))
+    kept.unlink()
+    read_pipes()
+    os.mkdir("folder")
+    for words, said in [
+        ("shop --out day.csv", "--out day.csv is the file of the table: give the shop another name"),
+        ("shop --out ./day.csv", "--out ./day.csv is the file of the table: give the shop another name"),
+        (f"shop --skip B --out {kept}", f"--out {kept} is the file of the answers: give the shop another name"),
+        ("shop --out folder", "--out is folder, which is a folder, and has to be a file"),
+        ("plan --out day.csv", "--out is day.csv, which is a file, and has to be a folder"),
+        ("plan --workers 0", "--workers is 0, and has to be a whole number from 1 to 10,000"),
+        ("plan --time-limit nan", "--time-limit is nan, and has to be a number of seconds from 0 on"),
+    ]:
+        first, *more = words.split()
+        done = command(first, "day.csv", *more)
+        equal(words, (done.returncode, done.stdout, done.stderr), (2, "", f"flowshop: {said}\n"))
+    equal("that nothing is written", [pathlib.Path(name).exists() for name in ("day.plan.html", kept)], [False, False])
+    equal("the table", pathlib.Path("day.csv").read_text(), "Job,Cut\nA,4\nB,5\n")
+    done = command("plan", "none.csv", "--out", "new")
+    equal("a table that is not there", (done.returncode, os.path.exists("new")), (3, False))
+    with mock.patch("flowshop._plan.MOST_CERTIFICATE", 10):
+        equal("a plan that is too long", refused(Plan.read, file_of("{" * 11, "a.json"))[:2], ("TextError", "TOO_LONG"))
+    equal("endless answers", refused(_reading.kept_of, pathlib.Path("/dev/zero"))[:2], ("TextError", "TOO_LONG"))
+    text = Plan.of([["Job", "Cut"], ["A", 4]], start="2026-12-01", unit="1h").to_json()
+    for unit in ('"unit": ""', '"unit": "1x"', '"unit": "<b>"'):
+        got = refused(Plan.from_json, text.replace('"unit": "1h"', unit))
+        equal(unit, got[3], f"'unit' of the text is '{unit[9:-1]}'; it has to be what Plan.to_json gives")
 
 
 def refused_lines(line):
@@ -432,7 +589,9 @@ def follow_calendars():
         words = {"start": start.isoformat(timespec="minutes"), "unit": unit, "rows": "jobs", "totals": "keep"}
         words["keep"] = machines
         now = f"2026-12-{draw.randrange(1, 29):02}"
-        plan = Plan.of(file_of(table, "day.csv"), workers=1, time_limit=None, after=before, now=now, **words)
+        if before:
+            words.update(after=before, now=now)
+        plan = Plan.of(file_of(table, "day.csv"), workers=1, time_limit=None, **words)
         worked = Worked(calendar, start)
         # All rows have times that are whole where none has a half.
         in_halves = minutes if any(time % 2 for row in rows for time in row) else 2 * minutes
@@ -520,12 +679,13 @@ def begin_with_the_earlier_order():
 
 
 SPAN = 'and has to be a span of time, as "06:00-14:00"'
+MOMENT = "and has to be a date, or a date and a time, as 2026-12-01T07:00"
 CALENDARS = [
     ({"mondays": []}, "CALENDAR", "the calendar has no mondays: its names are start, weekdays, monday, tuesday, "
      "wednesday, thursday, friday, saturday, sunday, breaks, holidays"),
     ({"monday": ["6-14"]}, "CALENDAR", f"monday of the calendar is '6-14', {SPAN}"),
     ({"breaks": ["09:00-24:30"]}, "CALENDAR", f"breaks of the calendar is '09:00-24:30', {SPAN}"),
-    ({"start": "7:00"}, "START", "start is '7:00', and has to be a date, or a date and a time, as 2026-12-01T07:00"),
+    *(({"start": start}, "START", f"start is '{start}', {MOMENT}") for start in ("7:00", "0001-01-01", "9999-12-31")),
     ({"start": "2026-12-01", "monday": ["06:00-07:00"], "breaks": ["06:00-07:00"]}, "CALENDAR",
      "the calendar has no shifts for all of the work within 4,000 days"),
 ]
@@ -538,6 +698,10 @@ def refuse_calendars():
         file_of("\n".join(["[calendar]", *lines, ""]), "day.csv.flowshop.toml")
         table = file_of("Job,Cut\nA,4\n", "day.csv")
         equal(str(calendar), refused(lambda: Plan.of(table, unit="1h").report()), ("OptionError", name, 0, said))
+    plan = Plan.of(file_of("Job,Cut\nA,4\n", "none.csv"))
+    for after in ({}, {"after": plan}):
+        got = refused(lambda: Plan.of([["Job", "Cut"], ["A", 4]], now="2026-12-01", **after))
+        equal(f"now with {after}", got, ("OptionError", "NOW", 0, "now needs after, with a plan that has a start"))
     file_of("", "day.csv.flowshop.toml")
     asked = command("plan", file_of("Job,Qty,Cut\nA,3,4\nB,5,2\n", "day.csv"), "--start", "2026-12-01")
     equal("a start without a unit", (asked.returncode, asked.stderr.splitlines()[-1]),
@@ -549,13 +713,14 @@ def wait_for_a_week():
     file_of("[calendar]\nmonday = [\"07:00-08:00\"]\n", "day.csv.flowshop.toml")
     plan = Plan.of(file_of("Job,Cut\nA,2\n", "day.csv"), start="2026-12-02", unit="1h")
     equal("its end", page_of(plan.report()), [(1, "A", 0, "Mon 7 Dec, 07:00", "Mon 14 Dec, 08:00")])
+    equal("a start to the minute", Plan.of("day.csv", start="2026-12-02T00:00:59", unit="1h").to_json(), plan.to_json())
     for now, begun in (("2026-12-07T07:00", ()), ("2026-12-07 07:01", ("A",))):
         again = Plan.of("day.csv", start="2026-12-02", unit="1h", after=plan, now=now)
         equal(f"what has begun by {now}", again.change.begun, begun)
 
 
 def plan_by_the_command():
-    """The command writes the files that a Plan gives."""
+    """The command writes the files that a Plan gives, and says in the page what is new."""
     file_of("[calendar]\nweekdays = [\"07:00-15:30\"]\n", "day.csv.flowshop.toml")
     file_of("Job;Cut;Weld\n<A>;4;3\nB;1;5\nC;2;2\n", "day.csv")
     words = ["--start", "2026-12-04T12:00", "--unit", "1h"]
@@ -576,21 +741,25 @@ def plan_by_the_command():
         equal(text, text in page, True)
     equal("both numbers", "takes 11:00 of working time, and ends at Mon 7 Dec, 14:30" in texts[0], True)
     equal("its title", "<title>Plan of day.csv</title>" in texts[0], True)
+
+
+def refuse_plans():
+    """What the command does not take, after the plan above, and what it says of words and a calendar."""
     file_of("[calender]\nweekdays = [\"07:00-15:30\"]\n", "wrong.toml")
     pathlib.Path("none.json").write_text("none", encoding="utf-8")
-    for words, said in (
-        ("--after day.csv", "--after is day.csv, and has to be the file of a plan that ends with .plan.json"),
-        ("--after day.plan.json", "day.plan.json would replace the plan of --after; give the table a name of its own, "
-         "or --out"),
-        ("--now 2026-12-04T13:30", "--now needs --after with a plan that has a start"),
-        ("--settings none.toml", "--settings is none.toml, and there is no such file"),
-        ("--settings wrong.toml", "wrong.toml has a section [calender]; the only one that there is is [calendar]"),
-        ("--skip Cut --keep Cut", "'Cut' is named by skip and by keep"),
-        ("--after none.json", "none.json: line 1 of the text is no JSON: Expecting value; a file is read by "
+    for words, status, said in (
+        ("--after day.csv", 2, "--after is day.csv, and has to be the file of a plan that ends with .plan.json"),
+        ("--after day.plan.json", 2, "day.plan.json would replace the plan of --after; give the table a name of its "
+         "own, or --out"),
+        ("--now 2026-12-04T13:30", 2, "now needs after, with a plan that has a start"),
+        ("--settings none.toml", 2, "--settings is none.toml, and there is no such file"),
+        ("--settings wrong.toml", 2, "wrong.toml has a section [calender]; the only one that there is is [calendar]"),
+        ("--skip Cut --keep Cut", 2, "'Cut' is named by skip and by keep"),
+        ("--after none.json", 1, "none.json: line 1 of the text is no JSON: Expecting value; a file is read by "
          "pathlib.Path"),
     ):
         done = command("plan", "day.csv", *words.split())
-        equal(words, (done.returncode > 0, done.stderr.splitlines()[-1:]), (True, [f"flowshop: {said}"]))
+        equal(words, (done.returncode, done.stderr.splitlines()[-1:]), (status, [f"flowshop: {said}"]))
     command("shop", "day.csv", "--skip", "Cut")
     command("shop", "day.csv", "--keep", "Cut")
     equal("a word that is said now", "skip" in pathlib.Path("day.csv.flowshop.toml").read_text("utf-8"), False)
@@ -634,12 +803,16 @@ def print_plans():
 
 with new_folder(is_here=True):
     read_tables()
+    say_remarks()
     read_other_kinds()
+    refuse_other_kinds()
     keep_answers()
+    refuse_files()
     follow_calendars()
     begin_with_the_earlier_order()
     refuse_calendars()
     wait_for_a_week()
     plan_by_the_command()
+    refuse_plans()
     print_plans()
 end("plan")

@@ -184,8 +184,9 @@ def compare(what, report, rows, sequence, shown, names):
     return root
 
 
-def say_what_is_proved():
-    """The sentences on the bound, and on the order of the table. All numbers were worked out by hand."""
+def proved_orders():
+    """Orders of shops, the words for a report, and what is said of the bound, and of the order of the table. All
+    numbers were worked out by hand."""
     earlier, optimal = "No order finishes earlier than", "this one is optimal."
     before, finishes = "No order can finish before", "this one finishes at"
     no_search = "That bound takes no search;"
@@ -197,7 +198,7 @@ def say_what_is_proved():
     part = "flowshop two-ended 1\n1 1\n{} 1000\n1\n\nend\n".format
     root = NOTHING.replace("0 13", "10 13")
     percents = "It takes at most {}% more than the least time.".format
-    for shop, order, words, proved, beside in [
+    return [
         (SHOP, SHOP.check(LEAST), {}, f"{earlier} 12: {optimal}", f"{table} take 15."),
         (SHOP, SHOP.check(BOUNDS), {}, f"{before} 11; {finishes} 13.", f"{percents(18.2)} {table} take 15."),
         (SHOP, SHOP.check(NOTHING), {}, f"{before} 10; {finishes} 13.",
@@ -225,7 +226,12 @@ def say_what_is_proved():
          f"{percents(25.0)} {simple} {table} take 800."),
         (Shop.from_jobs([[1, 500], [2, 498]]), [2, 1], {}, f"{before} 999; {finishes} 1000.",
          f"{percents(0.2)} {simple} {table} take 999."),
-    ]:
+    ]
+
+
+def say_what_is_proved():
+    """The sentences on the bound, and on the order of the table."""
+    for shop, order, words, proved, beside in proved_orders():
         root = read(shop.report(order, **words))
         equal(f"what is said of {order!r}", line_of(root, "No order"), proved)
         equal(f"what is said beside it of {order!r}", [each.text() for each in root.all("p")][1], beside)
@@ -238,23 +244,28 @@ def say_what_is_proved():
     equal("a sequence of another shop", refused(SHOP.report, [1, 2])[:2], ("NotASequence", "LENGTH"))
 
 
+# A time, the unit of its table, start and unit of a report, when a job of this time ends, and how long the machine
+# works. All were worked out by hand.
+TIMES = [
+    (29, 4, "point", None, None, "7.25", "7.25"), (29, 4, "comma", None, None, "7,25", "7,25"),
+    (28, 4, "point", None, None, "7", "7"), (1, 1_000_000, "point", None, None, "0.000001", "0.000001"),
+    (10, 100, "comma", None, None, "0,1", "0,1"), (999_999, 1, "point", None, None, "999999", "999999"),
+    (29, 1, "point", "23:30", "1min", "23:59", "0:29"), (30, 1, "point", "23:30", "1min", "day 2, 00:00", "0:30"),
+    (90, 1, "point", "23:30", "1min", "day 2, 01:00", "1:30"),
+    (49, 1, "point", "7:30", "1h", "day 3, 08:30", "49:00"),
+    (2, 1, "point", "00:00", "12h", "day 2, 00:00", "24:00"), (3, 1, "point", "08:00", "15 min", "08:45", "0:45"),
+    (1, 4, "point", "08:00", "15min", "08:03:45", "0:03:45"),
+    (29, 4, "comma", "07:30", "1min", "07:37:15", "0:07:15"), (4, 4, "comma", "07:30", "1h", "08:30", "1:00"),
+    (5, 10, "point", "08:00", "1,5min", "08:00:45", "0:00:45"), (5, 10, "point", "08:00", "1.5 h", "08:45", "0:45"),
+    (3, 1, "point", "23:59", "0.5s", "23:59:02", "0:00:02"),
+    (119, 1, "point", "23:59", "0.5s", "day 2, 00:00:00", "0:01:00"),
+    (999_999, 1, "point", "00:00", "24h", "day 1000000, 00:00", "23999976:00"),
+]
+
+
 def show_times():
-    """When a job of this time ends, and how long the machine works, in each unit. All were worked out by hand."""
-    for number, scale, sign, start, unit, at, lasting in [
-        (29, 4, "point", None, None, "7.25", "7.25"), (29, 4, "comma", None, None, "7,25", "7,25"),
-        (28, 4, "point", None, None, "7", "7"), (1, 1_000_000, "point", None, None, "0.000001", "0.000001"),
-        (10, 100, "comma", None, None, "0,1", "0,1"), (999_999, 1, "point", None, None, "999999", "999999"),
-        (29, 1, "point", "23:30", "1min", "23:59", "0:29"), (30, 1, "point", "23:30", "1min", "day 2, 00:00", "0:30"),
-        (90, 1, "point", "23:30", "1min", "day 2, 01:00", "1:30"),
-        (49, 1, "point", "7:30", "1h", "day 3, 08:30", "49:00"),
-        (2, 1, "point", "00:00", "12h", "day 2, 00:00", "24:00"), (3, 1, "point", "08:00", "15 min", "08:45", "0:45"),
-        (1, 4, "point", "08:00", "15min", "08:03:45", "0:03:45"),
-        (29, 4, "comma", "07:30", "1min", "07:37:15", "0:07:15"), (4, 4, "comma", "07:30", "1h", "08:30", "1:00"),
-        (5, 10, "point", "08:00", "1,5min", "08:00:45", "0:00:45"), (5, 10, "point", "08:00", "1.5 h", "08:45", "0:45"),
-        (3, 1, "point", "23:59", "0.5s", "23:59:02", "0:00:02"),
-        (119, 1, "point", "23:59", "0.5s", "day 2, 00:00:00", "0:01:00"),
-        (999_999, 1, "point", "00:00", "24h", "day 1000000, 00:00", "23999976:00"),
-    ]:
+    """Times in each unit, and the sentence that says what they are."""
+    for number, scale, sign, start, unit, at, lasting in TIMES:
         root = read(shop_of([[number]], scale, sign).report([1], start=start, unit=unit))
         ((_, _, rows),) = sheets_of(root)
         row = table_of(next(root.all("section", "shared")))[1]
@@ -267,6 +278,27 @@ def show_times():
          "Times are by the clock, from 07:30:00 on, rounded to seconds; one unit of the table is 0.7 s."),
     ]:
         equal(f"what the times are {words}", line_of(read(SHOP.report([1, 2, 3], **words)), "Times"), said)
+    # What stands behind the names of machines is the unit, where it is one.
+    clock = "Times are by the clock, from 07:30 on; one unit of the table is"
+    for names, words, said in [
+        (["Saw (min)", "Drill [min]"], {"start": "7:30"}, f"{clock} 1 min."),
+        (["Saw", "Oven (in h)"], {"start": "7:30"}, f"{clock} 1 h."),
+        (["Saw (min)", "Oven"], {"start": "7:30", "unit": "60s"}, f"{clock} 60 s."),
+        (["Saw (s)", "Oven"], {}, "Times count from 0, in the unit of the table, which is 1 s."),
+        (["Saw (min)", "Oven (h)"], {}, "Times count from 0, in the unit of the table."),
+    ]:
+        report = Shop.from_jobs([[1, 2]], machine_names=names).report([1], **words)
+        equal(f"what the times are of {names}", line_of(read(report), "Times"), said)
+
+
+def refuse_times():
+    """Starts and units that are none, or that do not fit."""
+    one, two = (Shop.from_jobs([[1, 2]], machine_names=names).report for names in
+                (["Saw (min)", "Oven"], ["Saw (min)", "Oven (h)"]))
+    said = "unit is '1h', and the names of the machines say 1min: one of both has to be changed"
+    got = refused(one, [1], start="7:30", unit="1h")
+    equal("a unit against that of the names", got, ("OptionError", "UNIT", 0, said))
+    equal("names of two units", refused(two, [1], start="7:30")[:2], ("OptionError", "UNIT"))
     for words, name, sentence in [
         ({"start": "07:30"}, "UNIT", "start needs unit: how long one unit of the table is, as 15min"),
         ({"unit": "1min"}, "START", "unit needs start: the time of day when the first job starts, as 07:30"),
@@ -579,17 +611,14 @@ def write_by_the_command():
     equal("the file", written, SHOP.report(least, title="Öl"))
 
 
-def refuse_by_the_command():
-    """Each way in which the command is refused, with its status and its line on standard error."""
+def refused_words():
+    """Words with which the command is refused, the status, and the line on standard error."""
     blocks = "two.txt has 2 blocks: write the number of one behind it"
     head = "the head of a block is five numbers: jobs, machines, seed, upper bound and lower bound"
-    orders, give = "that of a certificate, such as 'flowshop two-ended 1', or the line", "give the report another name"
-    html = "and a report is written as HTML: give it the suffix .html"
+    orders = "that of a certificate, such as 'flowshop two-ended 1', or the line"
     converters = "python3 -m flowshop shop makes such a file of a table, and examples/from_pairs.awk in the clone one "
     converters += "of pairs of machine and time; in Python read_table takes the table itself"
-    os.symlink("shop.txt", "linked")
-    shop = pathlib.Path("shop.txt").read_text(encoding="utf-8")
-    for words, status, said in [
+    return [
         ("nothing", 3, "[Errno 2] No such file or directory: 'nothing'"),
         ("shop.txt 1 nothing", 3, "[Errno 2] No such file or directory: 'nothing'"),
         ("shop.txt 1 least --out nothing/a.html", 3, "[Errno 2] No such file or directory: 'nothing/a.html'"),
@@ -620,6 +649,13 @@ def refuse_by_the_command():
          "old: line 1 is ' flowshop two-ended 1', and has to name a certificate, as in 'flowshop two-ended 1'"),
         ("least 1 shop.txt", 1, f"line 4 of least is '3 1 2': {head}; this text begins as a certificate does, and the "
          "file of the shop is wanted here"),
+    ]
+
+
+def refused_files():
+    """The same of files to be written."""
+    html, give = "and a report is written as HTML: give it the suffix .html", "give the report another name"
+    return [
         ("nothing 1 least --out r.pdf", 2, f"the file is 'r.pdf', {html}"),
         ("nothing --out a/R.Docx", 2, f"the file is 'R.Docx', {html}"),
         ("shop.txt 1 least --out shop.txt", 2, f"--out shop.txt is the file of the shop: {give}"),
@@ -629,8 +665,16 @@ def refuse_by_the_command():
         ("shop.txt 1 least --out least", 2, f"--out least is the file of the certificate or the sequence: {give}"),
         ("shop.txt best --out ../{}/best", 2,
          f"--out ../{{}}/best is the file of the certificate or the sequence: {give}"),
+        ("shop.txt 1 least --out .", 2, "--out is ., which is a folder, and has to be a file"),
         ("shop.txt 1 least --start 7", 2, "start needs unit: how long one unit of the table is, as 15min"),
-    ]:
+    ]
+
+
+def refuse_by_the_command():
+    """Each way in which the command is refused."""
+    os.symlink("shop.txt", "linked")
+    shop = pathlib.Path("shop.txt").read_text(encoding="utf-8")
+    for words, status, said in refused_words() + refused_files():
         words, said = (text.replace("{}", os.path.basename(os.getcwd())) for text in (words, said))
         equal(f"report {words}", run(*words.split()), (status, "", f"flowshop: {said}\n"))
     kept = {name: pathlib.Path(name).read_text(encoding="utf-8") for name in ("shop.txt", "least", "best")}
@@ -694,7 +738,7 @@ def plan_tables():
 
 
 if __name__ == "__main__":
-    for part in (say_what_is_proved, show_times, show_names, draw_pictures, label_bars, cut_for_paper,
+    for part in (say_what_is_proved, show_times, refuse_times, show_names, draw_pictures, label_bars, cut_for_paper,
                  compare_drawn_shops, write_the_greatest, keep_reports, name_files, call_the_command, plan_tables):
         part()
     end("reports")

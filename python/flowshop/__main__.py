@@ -1,4 +1,4 @@
-"""The commands of the package: python -m flowshop COMMAND .."""
+"""The commands of the package: python3 -m flowshop COMMAND .."""
 
 import argparse
 import multiprocessing
@@ -49,11 +49,17 @@ def _advised(error: OSError) -> str:
     return f"{error}; {advice}" if isinstance(error, PermissionError) else f"{error}"
 
 
+def _called() -> str:
+    """How the program was called."""
+    name = os.path.basename(sys.argv[0])
+    return "python3 -m flowshop" if name == "__main__.py" else name
+
+
 def main(words: Optional[List[str]] = None) -> int:
     """Runs a command. The status is 1 where something is refused, 2 where it is the words, 3 where a file is not read
     or written, and 130 at an interrupt. Where standard error leads makes no difference."""
     about = "Exact permutation flow shops. Each command says with --help what its words are."
-    parser = _Parser(prog="python -m flowshop", description=about)
+    parser = _Parser(prog=_called(), description=about)
     parser.add_argument("--version", action="version", version=__version__)
     parsers = parser.add_subparsers(metavar="COMMAND", required=True)
     for command in _COMMANDS:

@@ -1,6 +1,9 @@
 """What a user says of a table and of the calendar: by words, and in a small file beside the table."""
 
+import csv
 import datetime
+import io
+import json
 import re
 from dataclasses import dataclass, fields, replace
 from typing import Any, Callable, Dict, Iterable, List, Optional, Sequence, Tuple, Union
@@ -67,10 +70,18 @@ def without(kept: Answers, said: Answers) -> Answers:
     return replace(kept, **{word: tuple(name for name in getattr(kept, word) if name not in names) for word in LISTS})
 
 
+def as_text(names: Iterable[str]) -> str:
+    """Names as a text with commas between them. One that has a comma stands in quotation marks, as in CSV."""
+    text = io.StringIO()
+    csv.writer(text, lineterminator="").writerow(names)
+    return text.getvalue()
+
+
 def _list(name: str, value: Any) -> Tuple[str, ...]:
-    """The names of a list, which a text has with commas between them."""
+    """The names of a list, which a text has as above."""
     if isinstance(value, str):
-        return tuple(part.strip() for part in value.split(",") if part.strip())
+        parts: List[str] = next(csv.reader([" ".join(value.split())], skipinitialspace=True), [])
+        return tuple(part.strip() for part in parts if part.strip())
     if isinstance(value, Iterable):
         return tuple(str(part) for part in value)
     raise OptionError(name.upper(), 0, f"{name} is {shown(value)}, and has to be names with commas between them")
@@ -126,7 +137,7 @@ _READERS: Tuple[Callable[[str], Any], ...] = (
 def _plain_value(text: str) -> Any:
     """A text, a number, a truth value, a date or a time of the file."""
     if text[0] == '"':
-        return re.sub(r"\\(.)", lambda found: {"t": "\t", "n": "\n"}.get(found[1], found[1]), text[1:-1])
+        return json.loads(text, strict=False)  # which has the same escapes, but those of eight digits
     if text[0] == "'":
         return text[1:-1]
     if text in ("true", "false"):
@@ -163,7 +174,7 @@ def read_lines(text: str) -> Dict[str, Any]:
     in the place of tomllib, which Python has from 3.11 on. ValueError with the first line that has another form."""
     found: Dict[str, Any] = {}
     table = found
-    for number, line in enumerate(text.splitlines(), 1):
+    for number, line in enumerate(text.split("\n"), 1):
         line = line.strip()
         if not line or line.startswith("#"):
             continue
@@ -198,8 +209,7 @@ def _written(value: Any) -> str:
         return f"[{', '.join(map(_written, value))}]"
     if isinstance(value, int):
         return str(value)
-    text = str(value).replace("\\", "\\\\").replace('"', '\\"').replace("\t", "\\t").replace("\n", "\\n")
-    return f'"{text}"'
+    return json.dumps(str(value), ensure_ascii=False).replace("\x7f", "\\u007f")
 
 
 _HEAD = "# What was answered about {}. It is taken the next time, and may be changed here."
@@ -208,7 +218,7 @@ _HEAD = "# What was answered about {}. It is taken the next time, and may be cha
 def with_answers(name: str, text: Optional[str], answers: Answers) -> str:
     """The text of the file beside a table with these answers in the place of those that stand there. All else stays:
     comments, and the tables behind the answers."""
-    lines = [_HEAD.format(readable(name))] if text is None else text.splitlines()
+    lines = [_HEAD.format(readable(name))] if text is None else text.rstrip("\n").split("\n")
     names = [field.name for field in fields(Answers)]
     first = next((at for at, line in enumerate(lines) if line.lstrip().startswith("[")), len(lines))
     kept: List[str] = []

@@ -16,8 +16,9 @@ _NAMES = ("Mon", "Tue", "Wed", "Thu", "Fri", "Sat", "Sun")
 _MONTHS = ("Jan", "Feb", "Mar", "Apr", "May", "Jun", "Jul", "Aug", "Sep", "Oct", "Nov", "Dec")
 _SPAN = re.compile(r"([01]?\d|2[0-3]):([0-5]\d) ?[-–] ?([01]?\d|2[0-4]):([0-5]\d)", re.ASCII)
 _DAY = 86_400
-# How many days a plan may go through.
+# How many days a plan may go through, and the first and the last year in which it may start.
 _MOST_DAYS = 4000
+_YEARS = range(1900, 9000)
 # Seconds after midnight.
 Span = Tuple[int, int]
 Moments = Tuple[datetime, datetime]
@@ -155,20 +156,19 @@ def _spans_of(name: str, values: Any) -> Tuple[Span, ...]:
 def moment_of(name: str, value: Any) -> datetime:
     """The moment that a text states: a date with a time of day, or its midnight."""
     try:
-        if isinstance(value, datetime):
-            return value.replace(tzinfo=None)
-        if isinstance(value, date):
-            return datetime.combine(value, datetime.min.time())
-        text = value.strip().replace(" ", "T")
-        return datetime.fromisoformat(text if "T" in text else f"{text}T00:00").replace(tzinfo=None)
+        text = (value.isoformat() if isinstance(value, date) else value).strip().replace(" ", "T")
+        moment = datetime.fromisoformat(text if "T" in text else f"{text}T00:00").replace(tzinfo=None)
     except (AttributeError, ValueError):
-        sentence = f"{name} is {shown(value)}, and has to be a date, or a date and a time, as 2026-12-01T07:00"
-        raise OptionError(name.upper(), 0, sentence) from None
+        moment = datetime.min
+    if moment.year in _YEARS:
+        return moment
+    sentence = f"{name} is {shown(value)}, and has to be a date, or a date and a time, as 2026-12-01T07:00"
+    raise OptionError(name.upper(), 0, sentence)
 
 
 def calendar_of(found: Dict[str, Any], start: Any = None) -> Optional[Calendar]:
-    """The calendar that a file states, from a start on, which the file may state too; None where there is no start.
-    OptionError where something has another form."""
+    """The calendar that a file states, from a start on, to the minute, which the file may state too; None where there
+    is no start. OptionError where something has another form."""
     known = ("start", "weekdays", *WEEKDAYS, "breaks", "holidays")
     for name in found:
         if name not in known:
@@ -181,7 +181,15 @@ def calendar_of(found: Dict[str, Any], start: Any = None) -> Optional[Calendar]:
     breaks = _spans_of("breaks", found.get("breaks", []))
     days = found.get("holidays", [])
     holidays = frozenset(moment_of("holidays", day).date() for day in (days if isinstance(days, list) else [days]))
-    return None if begin is None else Calendar(moment_of("start", begin), shifts, breaks, holidays)
+    if begin is None:
+        return None
+    return Calendar(moment_of("start", begin).replace(second=0, microsecond=0), shifts, breaks, holidays)
+
+
+def in_hours(seconds: int, has_seconds: bool, form: str = "") -> str:
+    """Hours, in a form, and minutes, and seconds where there are any."""
+    text = f"{seconds // 3600:{form}}:{seconds // 60 % 60:02}"
+    return f"{text}:{seconds % 60:02}" if has_seconds else text
 
 
 @dataclass(frozen=True)
@@ -232,9 +240,7 @@ class Dated:
 
     def lasting(self, time: int) -> str:
         """How many hours of work something takes."""
-        seconds = int(time * self.step + Fraction(1, 2))
-        text = f"{seconds // 3600}:{seconds // 60 % 60:02}"
-        return f"{text}:{seconds % 60:02}" if self.has_seconds else text
+        return in_hours(int(time * self.step + Fraction(1, 2)), self.has_seconds)
 
     def sentence(self) -> str:
         """What the times are, and why the least one is the least by the calendar too."""

@@ -22,7 +22,7 @@ def is_missing(value: Any) -> bool:
         return True
     try:
         return value is None or bool(value != value)
-    except (TypeError, ValueError):  # pandas.NA is neither equal to itself nor unequal; nor is an array
+    except (TypeError, ValueError, ArithmeticError):  # of pandas.NA, of an array, and of a NaN that signals
         return not hasattr(value, "__len__")
 
 

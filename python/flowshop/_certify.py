@@ -4,7 +4,8 @@ from functools import partial
 from typing import Callable, Dict, NamedTuple, Optional, Tuple
 
 from ._library import AnswerNumbers, EffortNumbers, RunNumbers, TaskNumbers, byref, call, u32
-from ._parts import OVER, PROVED, REACHED, Instance, Reached
+from ._options import option
+from ._parts import PROVED, REACHED, Instance, Reached
 from ._spread import Numbers, Spread, Workers
 from ._waiting import Progress, Watch
 
@@ -30,6 +31,11 @@ class Effort(NamedTuple):
     def steps(self, parts: int) -> int:
         """So many of 17 parts of the most steps."""
         return self.work * 1_000_000 * parts // 17
+
+
+def effort_of(**numbers: int) -> Effort:
+    """How much beams and rounds may do. OptionError where a number is not within its limits."""
+    return Effort(*(option(name, numbers[name]) for name in Effort._fields))
 
 
 class Known(NamedTuple):

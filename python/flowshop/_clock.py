@@ -5,7 +5,7 @@ from dataclasses import dataclass
 from fractions import Fraction
 from typing import Optional, Union
 
-from ._calendar import Dated
+from ._calendar import Dated, in_hours
 from ._errors import OptionError, shown
 from ._headings import seconds_of, spaced
 from ._labels import Unit
@@ -16,9 +16,10 @@ _DAY = 86_400
 
 @dataclass(frozen=True)
 class Plain:
-    """Times in the unit of the table, from 0."""
+    """Times in the unit of the table, from 0, and how long that is, where it is known."""
 
     unit: Unit
+    length: str = ""
 
     def begin_at(self, time: int) -> str:
         """When something begins."""
@@ -34,7 +35,8 @@ class Plain:
 
     def sentence(self) -> str:
         """What the times are."""
-        return "Times count from 0, in the unit of the table."
+        length = f", which is {spaced(self.length)}" if self.length else ""
+        return f"Times count from 0, in the unit of the table{length}."
 
     def taking(self, time: int) -> str:
         """What an order does that ends then."""
@@ -60,11 +62,6 @@ class Clock:
         """How many seconds a time is, to the nearest one."""
         return (2 * time * self.step.numerator + self.step.denominator) // (2 * self.step.denominator)
 
-    def _written(self, seconds: int, form: str) -> str:
-        """Hours and minutes, and seconds where there are any."""
-        text = f"{seconds // 3600:{form}}:{seconds // 60 % 60:02}"
-        return f"{text}:{seconds % 60:02}" if self.has_seconds else text
-
     def begin_at(self, time: int) -> str:
         """When something begins: as when something ends, since the clock runs on."""
         return self.at(time)
@@ -72,12 +69,12 @@ class Clock:
     def at(self, time: int) -> str:
         """When something ends: the time of day, with the day after the first one."""
         days, seconds = divmod(self.start + self._seconds(time), _DAY)
-        text = self._written(seconds, "02")
+        text = in_hours(seconds, self.has_seconds, "02")
         return f"day {days + 1}, {text}" if days else text
 
     def lasting(self, time: int) -> str:
         """How long something takes."""
-        return self._written(self._seconds(time), "")
+        return in_hours(self._seconds(time), self.has_seconds)
 
     def sentence(self) -> str:
         """What the times are."""
@@ -96,11 +93,12 @@ class Clock:
 Times = Union[Plain, Clock, Dated]
 
 
-def times_of(unit: Unit, start: Optional[str], length: Optional[str]) -> Times:
+def times_of(unit: Unit, start: Optional[str], length: Optional[str], named: str) -> Times:
     """How to show times of this unit: by the clock, where it is said when they start and how long the unit of the table
-    is. OptionError where one of both is missing, or has another form."""
+    is, which its headings may name. OptionError where one of both is missing, or has another form."""
     if start is None and length is None:
-        return Plain(unit)
+        return Plain(unit, named)
+    length = named or None if length is None else length
     if length is None:
         raise OptionError("UNIT", 0, "start needs unit: how long one unit of the table is, as 15min")
     if start is None:
@@ -109,6 +107,9 @@ def times_of(unit: Unit, start: Optional[str], length: Optional[str]) -> Times:
     if not begun:
         raise OptionError("START", 0, f"start is {shown(start)}, and has to be a time of day, as 07:30")
     seconds = seconds_of(length) if isinstance(length, str) else Fraction(0)
+    if named and seconds and seconds != seconds_of(named):
+        sentence = f"unit is {shown(length)}, and the names of the machines say {named}: one of both has to be changed"
+        raise OptionError("UNIT", 0, sentence)
     if not seconds:
         sentence = f"unit is {shown(length)}, and has to be how long one unit of the table is, as 15min, 1h or 30s"
         raise OptionError("UNIT", 0, sentence)

@@ -11,15 +11,16 @@ import time
 from concurrent.futures import BrokenExecutor, ProcessPoolExecutor
 from contextlib import closing, contextmanager
 from pathlib import Path
-from typing import Any, Dict, Iterator, List, NamedTuple, Optional, Tuple
+from typing import Any, Dict, Iterator, List, NamedTuple, Optional
 
 from ._certify import Effort
-from ._errors import NotLawful, OptionError
+from ._errors import NotLawful
 from ._files import (
-    PROVED, WordError, Work, make_folder, place_of_old, row_of, save_certificate, words_of_blocks, works_of
+    PROVED, WordError, Work, limit_of, make_folder, place_of_old, row_of, save_certificate, whole_of, words_of_blocks,
+    works_of
 )
 from ._meter import Meter
-from ._options import LIMITS, OF_PARTS, option
+from ._options import OF_PARTS
 from ._rows import Row, Table
 from ._saving import target_of
 from ._spread import Workers
@@ -210,14 +211,6 @@ def _all_certified(works: List[Work], table: Table, search: _Search) -> None:
     threads.close()
 
 
-def _number(name: str, value: int, limits: Dict[str, Tuple[int, int]] = LIMITS) -> int:
-    """The number of a word. WordError where it is not within its limits."""
-    try:
-        return option(name, value, limits)
-    except OptionError as error:
-        raise WordError(f"--{error}") from None
-
-
 def _starts(works: List[Work], start: Optional[str], starts: Optional[str]) -> Dict[Path, bytes]:
     """The sequences from which searches begin, by the paths of certificates. WordError where there is not one for each
     block, and where one start is given for several."""
@@ -232,12 +225,10 @@ def _starts(works: List[Work], start: Optional[str], starts: Optional[str]) -> D
 
 def run(options: argparse.Namespace) -> int:
     """Runs the command."""
-    *numbers, directions = (_number(name, getattr(options, name)) for name in _EFFORT)
+    *numbers, directions = (whole_of(name, getattr(options, name)) for name in _EFFORT)
     effort = Effort(*numbers)
-    count = None if options.workers in (None, -1) else _number("workers", options.workers, OF_PARTS)
-    limit = options.time_limit
-    if limit is not None and not limit >= 0:
-        raise WordError(f"--time-limit is {limit:g}, and has to be a number of seconds from 0 on")
+    count = None if options.workers in (None, -1) else whole_of("workers", options.workers, OF_PARTS)
+    limit = limit_of(options)
     works = works_of(options)
     starts = _starts(works, options.start, options.starts)
     if not all(work.path.is_file() for work in works):

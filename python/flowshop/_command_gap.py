@@ -5,7 +5,7 @@ import os
 import sys
 from typing import Optional, Sequence, Tuple
 
-from ._errors import NotLawful
+from ._errors import NotLawful, found_in
 from ._files import WordError, Work, percent, works_of
 from ._rows import Form, Row, Table, columns, words_of_tables
 from ._starts import sequences_of
@@ -50,7 +50,7 @@ def _bounds(work: Work, has_certificates: bool) -> Tuple[Optional[int], Optional
     try:
         found = work.shop.check(work.path)
     except NotLawful as error:
-        raise NotLawful(error.name, error.place, f"{work.path}: {error}") from None
+        raise found_in(work.path, error) from None
     return found.lower, found.upper
 
 

@@ -7,9 +7,10 @@ from pathlib import Path
 from ._calendar import calendar_of
 from ._command_shop import read, settings_file, words_of_table
 from ._errors import readable
-from ._files import WordError
+from ._files import WordError, limit_of, refuse_out, whole_of
+from ._options import OF_PARTS
 from ._plan import TIME_LIMIT, Earlier, Effort, Plan, plan_of
-from ._reading import kept_of
+from ._reading import kept_of, settings_of
 from ._saving import save
 from ._streams import Printed
 from ._waiting import Lines
@@ -32,21 +33,25 @@ def words(parsers: "argparse._SubParsersAction[argparse.ArgumentParser]") -> Non
     parser.add_argument("--now", metavar="MOMENT", help=about)
     about = f"the most seconds of the searches; else {TIME_LIMIT:g}"
     parser.add_argument("--time-limit", type=float, default=TIME_LIMIT, metavar="S", help=about)
-    parser.add_argument("--workers", type=int, default=-1, metavar="K", help="how many threads share the searches")
+    about = "how many threads share the searches; else, and for -1, one for each processor"
+    parser.add_argument("--workers", type=int, default=-1, metavar="K", help=about)
     parser.add_argument("--out", metavar="FOLDER", help="the folder to write to; else that of the table")
     parser.set_defaults(run=run)
 
 
 def _begin(options: argparse.Namespace) -> Path:
-    """How the names of the files begin. Their folder is made where it is not there. WordError where the earlier plan is
-    none, or would be replaced."""
+    """How the names of the files begin. WordError where their folder is none, or the earlier plan is none, or would be
+    replaced."""
+    if options.out:
+        refuse_out(options.out)
+    elif settings_of(options.table) is None:
+        raise WordError(f"{readable(options.table)} is no file that plans stand beside: --out names a folder for them")
     folder = Path(options.out) if options.out else Path(options.table).parent
     begin = folder / f"{Path(options.table).stem}.plan"
     if options.after and not options.after.endswith(".json"):
         raise WordError(f"--after is {options.after}, and has to be the file of a plan that ends with .plan.json")
     if options.after and Path(options.after).resolve() == Path(f"{begin}.json").resolve():
         raise WordError(f"{begin}.json would replace the plan of --after; give the table a name of its own, or --out")
-    folder.mkdir(parents=True, exist_ok=True)
     return begin
 
 
@@ -57,11 +62,12 @@ def run(options: argparse.Namespace) -> int:
     calendar = calendar_of(kept.get("calendar", {}), options.start)
     if calendar is None and "calendar" in kept:
         Lines(sys.stderr).keep(f"the calendar of {readable(settings)} is not used, since there is no --start")
-    effort = Effort(options.time_limit, options.workers)
+    workers = options.workers if options.workers == -1 else whole_of("workers", options.workers, OF_PARTS)
+    effort = Effort(limit_of(options), workers)
     earlier = Earlier(Plan.read(options.after) if options.after else None, options.now)
-    if options.now and (earlier.plan is None or earlier.plan.calendar is None):
-        raise WordError("--now needs --after with a plan that has a start")
-    plan = plan_of(read(options, kept, calendar is not None), calendar, earlier, effort)
+    reading = read(options, kept, calendar is not None)
+    begin.parent.mkdir(parents=True, exist_ok=True)
+    plan = plan_of(reading, calendar, earlier, effort)
     texts = {"html": plan.report(), "csv": plan.to_csv(), "svg": plan.picture(), "json": plan.to_json()}
     names = [f"{begin}.{suffix}" for suffix in texts]
     for name, text in zip(names, texts.values()):

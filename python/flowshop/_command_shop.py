@@ -4,16 +4,14 @@ import argparse
 import sys
 from dataclasses import fields
 from pathlib import Path
-from typing import Any, Dict
+from typing import Any, Dict, Optional
 
 from ._answers import CHOICES, Answers, with_answers
 from ._errors import readable
-from ._files import WordError
-from ._labels import label_lines
-from ._reading import Reading, kept_of, reading_of, settings_of
+from ._files import WordError, refuse_read
+from ._reading import Reading, kept_of, reading_of, settings_of, text_kept
 from ._saving import save
 from ._streams import print_page
-from ._texts import block_text
 from ._waiting import Lines
 
 _ABOUT = {
@@ -58,12 +56,14 @@ def words_of_table(parser: argparse.ArgumentParser) -> None:
     parser.add_argument("--settings", metavar="FILE", help=about)
 
 
-def settings_file(options: argparse.Namespace) -> Path:
-    """The file that keeps what was said. WordError where one is named that is not there."""
-    beside = settings_of(options.table)
-    if options.settings and not Path(options.settings).exists():
+def settings_file(options: argparse.Namespace) -> Optional[Path]:
+    """The file that keeps what was said; None of a table that is no file. WordError where one is named that is not
+    there."""
+    if options.settings is None:
+        return settings_of(options.table)
+    if not Path(options.settings).exists():
         raise WordError(f"--settings is {options.settings}, and there is no such file")
-    return Path(options.settings) if options.settings or beside is None else beside
+    return Path(options.settings)
 
 
 def given_words(options: argparse.Namespace) -> Dict[str, Any]:
@@ -78,20 +78,21 @@ def read(options: argparse.Namespace, kept: Dict[str, Any], needs_unit: bool = F
     reading = reading_of(options.table, said, kept, needs_unit)
     lines = Lines(sys.stderr)
     lines.keep(reading.said())
-    if said:
-        before = path.read_text(encoding="utf-8") if path.exists() else None
+    if said and path is not None:
+        before = text_kept(path)
         after = with_answers(options.table, before, reading.answers)
         if after != before:
-            save(path, after.encode())
+            save(path, after.encode("utf-8", "replace"))
             lines.keep(f"what was said is kept in {readable(path)}")
     return reading
 
 
 def run(options: argparse.Namespace) -> int:
-    """Writes the benchmark text."""
-    shop = read(options, kept_of(settings_file(options))).shop
-    labels = label_lines(shop.jobs, shop.machines, *shop._parts[3:])
-    text = block_text(labels, shop.times, 0, 0, 0).encode()
+    """Writes the benchmark text. WordError where it would replace a file that is read."""
+    settings = settings_file(options)
+    if options.out is not None:
+        refuse_read(options.out, ((options.table, "table"), (settings, "answers")), "shop")
+    text = read(options, kept_of(settings)).shop._text(0, 0, 0)
     if options.out is None:
         print_page(text)
     else:

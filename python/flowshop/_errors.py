@@ -1,7 +1,7 @@
 """What is refused: one base class, and a class for each kind of thing that is refused."""
 
 import re
-from typing import Any, Tuple, Union
+from typing import Any, Tuple, TypeVar, Union
 
 from ._brief import Brief
 
@@ -85,6 +85,14 @@ class Interrupted(KeyboardInterrupt, metaclass=Brief):
     def __str__(self) -> str:
         """What the result is."""
         return repr(self.result)
+
+
+_Refusal = TypeVar("_Refusal", bound=FlowshopError)
+
+
+def found_in(where: object, error: _Refusal) -> _Refusal:
+    """A refusal that says where it is: in a file of this name."""
+    return type(error)(error.name, error.place, f"{readable(where)}: {error}")
 
 
 def counted(number: int, what: str) -> str:

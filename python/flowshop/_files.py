@@ -7,8 +7,10 @@ import re
 import tempfile
 from functools import partial
 from pathlib import Path
-from typing import Collection, Dict, List, NamedTuple, Optional, Sequence, Tuple
+from typing import Collection, Dict, Iterable, List, NamedTuple, Optional, Sequence, Tuple, Union
 
+from ._errors import OptionError, readable
+from ._options import LIMITS, option
 from ._results import Certificate
 from ._rows import OTHER, Form, Row, columns, is_other, is_replaced, tables_of, words_of_tables
 from ._saving import names_folder, save, stream_of, target_of
@@ -173,8 +175,41 @@ def _refuse_other(options: argparse.Namespace, form: Form) -> None:
             raise WordError(f"--{kind} and --{other} are one file, {table}; give each a file of its own")
 
 
-def _refuse_out(out: str) -> None:
-    """WordError where what is to be the folder of the certificates is a file, or a folder without leave to enter."""
+def whole_of(name: str, value: int, limits: Dict[str, Tuple[int, int]] = LIMITS) -> int:
+    """The number of a word. WordError where it is not within its limits."""
+    try:
+        return option(name, value, limits)
+    except OptionError as error:
+        raise WordError(f"--{error}") from None
+
+
+def limit_of(options: argparse.Namespace) -> Optional[float]:
+    """The number of --time-limit, or None. WordError where it is no number of seconds."""
+    limit: Optional[float] = options.time_limit
+    if limit is not None and not limit >= 0:
+        raise WordError(f"--time-limit is {limit:g}, and has to be a number of seconds from 0 on")
+    return limit
+
+
+def _are_one(path: Union[str, Path], other: str) -> bool:
+    """Whether two names are those of one file, which need not be there."""
+    if os.path.exists(path) and os.path.exists(other):
+        return os.path.samefile(path, other)
+    return os.path.realpath(path) == os.path.realpath(other)
+
+
+def refuse_read(out: str, read: Iterable[Tuple[Union[str, Path, None], str]], what: str) -> None:
+    """WordError where --out, the file for this, is a folder, or one of the files that are read, each with what it is
+    the file of."""
+    if os.path.isdir(out) or names_folder(out):
+        raise WordError(f"--out is {readable(out)}, which is a folder, and has to be a file")
+    for path, kind in read:
+        if path is not None and _are_one(path, out):
+            raise WordError(f"--out {readable(out)} is the file of the {kind}: give the {what} another name")
+
+
+def refuse_out(out: str) -> None:
+    """WordError where what is to be the folder for files is a file, or a folder without leave to enter."""
     if os.path.exists(out) and not os.path.isdir(out):
         raise WordError(f"--out is {out}, which is a file, and has to be a folder")
     if os.path.isdir(out) and not os.access(out, os.X_OK):
@@ -184,7 +219,7 @@ def _refuse_out(out: str) -> None:
 def works_of(options: argparse.Namespace, form: Form = PROVED) -> List[Work]:
     """The blocks that the words name, in their order. TextError or OSError where a file is not read, WordError where
     one would be overwritten, or none could be written, or a word is none. Tables are of this form."""
-    _refuse_out(options.out)
+    refuse_out(options.out)
     works = []
     for file in options.files:
         if re.fullmatch("[1-9][0-9]*", file) and not Path(file).exists():

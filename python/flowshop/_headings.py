@@ -2,7 +2,7 @@
 
 import re
 from fractions import Fraction
-from typing import Dict, FrozenSet, Optional
+from typing import Dict, FrozenSet, Hashable, Iterable, Optional
 
 # A blank stands between two words. Words of totals; names of extremes, and of rows below the jobs.
 _TOTALS = frozenset(
@@ -53,6 +53,7 @@ _UNITS: Dict[str, Fraction] = {
 }
 UNIT_NAMES: Dict[Fraction, str] = {Fraction(1): "s", Fraction(60): "min", Fraction(3600): "h"}
 _LENGTH = re.compile(r"(\d{1,9}(?:[.,]\d{1,9})?) ?(s|min|h)", re.ASCII)
+_IN_BRACKETS = re.compile(r"[(\[]\s*([^()\[\]]*?)\s*[)\]]\s*$")
 _DATE = re.compile(
     r"(\d{4}-\d{1,2}-\d{1,2}|\d{1,2}\.\d{1,2}\.(\d{2}|\d{4})?|\d{1,2}/\d{1,2}(/(\d{2}|\d{4}))?)"
     r"([T ]\d{1,2}:\d\d(:\d\d)?)?"
@@ -115,8 +116,21 @@ def is_other(name: str) -> bool:
 
 def unit_of(name: str) -> Optional[Fraction]:
     """How many seconds the unit has that stands in brackets at the end of a name; None where there is none."""
-    found = re.search(r"[(\[]\s*([^()\[\]]*?)\s*[)\]]\s*$", name)
+    found = _IN_BRACKETS.search(name)
     return unit_named(re.sub(r"^in\s+", "", found[1])) if found else None
+
+
+def with_unit(name: str, unit: str) -> str:
+    """A name with this unit in the place of the one that stands in brackets at its end, where there is one."""
+    found = _IN_BRACKETS.search(name) if unit_of(name) else None
+    return f"{name[: found.start(1)]}{unit}{name[found.end(1) :]}" if found else name
+
+
+def length_of(names: Iterable[Hashable]) -> str:
+    """How long the unit is that stands in brackets at the end of names, as `1min`; nothing where none has one, or two
+    have different ones."""
+    units = {unit_of(str(name)) for name in names} - {None}
+    return "".join(f"1{UNIT_NAMES[unit]}" for unit in units if unit) if len(units) == 1 else ""
 
 
 def unit_named(text: str) -> Optional[Fraction]:

@@ -6,6 +6,15 @@ from typing import Any, Dict, Hashable, List, Mapping, Optional, Tuple, Type, Un
 from ._errors import FlowshopError, shown
 
 Json = Union[str, bytes, bytearray]
+# What json.loads raises where a text is none.
+FAULTS = (ValueError, RecursionError)
+
+
+def fault_of(error: Exception) -> Tuple[int, str]:
+    """The line at which a text is no JSON, or 0, and why."""
+    if isinstance(error, json.JSONDecodeError):
+        return error.lineno, f"line {error.lineno} of the text is no JSON: {error.msg}"
+    return 0, "the JSON of the text has a number of thousands of digits, or too many lists in lists"
 
 
 def plain_names(names: Optional[Tuple[Hashable, ...]]) -> Optional[List[Union[str, int]]]:
@@ -25,12 +34,12 @@ def read(text: Json, kinds: Mapping[str, Tuple[Any, ...]], error: Type[FlowshopE
     it has another form."""
     try:
         fields = json.loads(text)
-    except json.JSONDecodeError as fault:
-        advice = "" if isinstance(text, str) and text.lstrip()[:1] in ("{", "") else "; a file is read by pathlib.Path"
-        sentence = f"line {fault.lineno} of the text is no JSON: {fault.msg}{advice}"
-        raise error("JSON", fault.lineno, sentence) from None
     except (TypeError, UnicodeDecodeError):
         raise error("JSON", 0, f"the text is {shown(text)}, and has to be what {maker} gives") from None
+    except FAULTS as fault:
+        line, why = fault_of(fault)
+        is_begun = not line or isinstance(text, str) and text.lstrip()[:1] in ("{", "")
+        raise error("JSON", line, f"{why}{'' if is_begun else '; a file is read by pathlib.Path'}") from None
     if not isinstance(fields, dict):
         raise error("JSON", 0, f"the text has {shown(fields)}, and has to be what {maker} gives")
     for name, of_kinds in kinds.items():

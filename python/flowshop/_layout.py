@@ -6,10 +6,13 @@ from typing import List, NamedTuple, Optional, Tuple
 from ._headings import (
     heads_jobs, heads_machines, is_date, is_job, is_machine, is_other, is_quantity, is_total, unit_named
 )
+from ._library import MOST_JOBS, MOST_MACHINES
 from ._remarks import Remarks, Word
 from ._sheets import Sheet
 
 _NUMBER = re.compile(r"[-+]?[\d.,]*\d[.,]?(e[-+]?\d+)?")
+# How many rows and columns are looked at, at most.
+_MOST_LINES = 2000
 _DASHES = re.compile(r"[-–—.?/]*")
 
 
@@ -135,7 +138,7 @@ class _Grid:
         """A column as words name it: by its name, or by its number where that is none, a number, or that of two."""
         name = self.head(at)
         heads = self.rows[0] if self.has_header else []
-        return name if is_word(name) and "," not in name and heads.count(name) == 1 else str(self.columns[at])
+        return name if is_word(name) and heads.count(name) == 1 else str(self.columns[at])
 
     def listed(self, names: Tuple[str, ...], at: int) -> bool:
         """Whether a list of words has a column."""
@@ -289,17 +292,27 @@ def _test_width(grid: _Grid) -> None:
             break
 
 
+def _has_times(row: List[str]) -> bool:
+    """Whether a row has something like a time behind its first field."""
+    return any(cell[:1].isdigit() or is_number(cell) for cell in row[1:])
+
+
 def _drop_rows(grid: _Grid) -> None:
-    """Asks about rows without times, and refuses those that repeat the names of the first one."""
+    """Asks about rows without times, and refuses those that repeat the names of the first one, or that --skip would
+    leave out together with times."""
+    timed = {row[0] for row in grid.rows if _has_times(row)}
     for at in reversed(range(grid.above, len(grid.rows))):
         row, number = grid.rows[at], grid.numbers[at]
         if grid.has_header and row == grid.rows[0]:
             grid.remarks.refuse((number, 0), row[0], "repeats the first row: take it out of the table")
             del grid.rows[at], grid.numbers[at]
-        elif len(row) > 1 and is_word(row[0]) and not any(cell[:1].isdigit() or is_number(cell) for cell in row[1:]):
+        elif len(row) > 1 and is_word(row[0]) and not _has_times(row):
             if grid.answers.missing and not any(map(is_word, row[1:])):
                 continue
-            grid.remarks.ask((number, 0), row[0], "has no times", ("skip", row[0]))
+            if row[0] in timed:
+                grid.remarks.refuse((number, 0), row[0], "has no times, and another row has its name: take it out")
+            else:
+                grid.remarks.ask((number, 0), row[0], "has no times", ("skip", row[0]))
             grid.drop_row(at)
 
 
@@ -334,7 +347,7 @@ def word_of(layout: Layout, at: int) -> str:
     """A machine as words name it."""
     line = layout.machines[at]
     is_one = [each.name for each in layout.machines].count(line.name) == 1
-    return line.name if is_word(line.name) and "," not in line.name and is_one else str(line.number)
+    return line.name if is_word(line.name) and is_one else str(line.number)
 
 
 def is_in(layout: Layout, at: int, names: Tuple[str, ...]) -> bool:
@@ -381,7 +394,12 @@ def _test_words(sheet: Sheet, remarks: Remarks) -> None:
 
 
 def layout_of(sheet: Sheet, remarks: Remarks) -> Optional[Layout]:
-    """The jobs and machines of a sheet; None where it has no times, with a remark."""
+    """The jobs and machines of a sheet; None where it has no times, or is far too great, with a remark."""
+    for kind, count in (("rows", len(sheet.rows)), ("columns", max(map(len, sheet.rows), default=0))):
+        if count > _MOST_LINES:
+            most = f"{MOST_JOBS} jobs and {MOST_MACHINES} machines"
+            remarks.refuse((0, 0), "", f"has {count:,} {kind}, and a shop has at most {most}")
+            return None
     _test_words(sheet, remarks)
     grid = _Grid(sheet, remarks)
     if grid.rows:

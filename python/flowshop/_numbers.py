@@ -2,10 +2,11 @@
 
 import re
 from fractions import Fraction
+from itertools import chain
 from math import lcm
 from typing import Dict, List, NamedTuple, Optional, Tuple
 
-from ._headings import UNIT_NAMES, is_date, is_machine, names_operation, seconds_of, unit_named, unit_of
+from ._headings import UNIT_NAMES, is_date, is_machine, names_operation, seconds_of, unit_named, unit_of, with_unit
 from ._layout import Layout, doubt_machine, is_blank, is_in, is_word
 from ._library import MOST_JOBS, MOST_MACHINES, MOST_TIME
 from ._remarks import Remarks
@@ -16,7 +17,9 @@ _MAYBE_THOUSAND = re.compile(r"[1-9]\d{0,2}[.,]\d{3}")
 _GROUPS = re.compile(r"\d{1,3}([.,])\d{3}(?:\1\d{3})+")
 _BOTH = re.compile(r"\d{1,3}([.,])\d{3}(?:\1\d{3})*(?!\1)([.,])\d+")
 _SPACED = re.compile(r"\d{1,3}(?:[ '’\u00a0\u202f]\d{3})+(?:[.,]\d+)?")
-_EXACT = re.compile(r"\d+(?:\.\d+)?(?:e[-+]?\d+)?")
+_EXACT = re.compile(r"\d+(?:\.\d+)?(?:e[-+]?\d{1,2})?")
+# How many signs a number has at most.
+_MOST_SIGNS = 40
 _MOST_SCALE = 1_000_000
 Rows = List[List[Optional[Fraction]]]
 
@@ -63,19 +66,20 @@ class _Reader:
         text, place = self.layout.cells[job][machine], self.layout.place(job, machine)
         if is_blank(text):
             return self._missing(text, place)
-        if self.has_numbers and _EXACT.fullmatch(text):
-            return Fraction(text)
         bare = _bare(text)
-        if re.fullmatch(r"\d+", bare):
-            return Fraction(bare)
-        if re.fullmatch(r"[\d.,]*\d", bare):
-            return self._signed(bare, text, place)
+        if len(text) <= _MOST_SIGNS:
+            if self.has_numbers and _EXACT.fullmatch(text):
+                return Fraction(text)
+            if re.fullmatch(r"\d+", bare):
+                return Fraction(bare)
+            if re.fullmatch(r"[\d.,]*\d", bare):
+                return self._signed(bare, text, place)
         self.remarks.refuse(place, text, self._wrong(text))
         return None
 
     def _missing(self, text: str, place: Tuple[int, int]) -> Optional[Fraction]:
         """The number of a cell that has nothing."""
-        why = "has no time; it is 0 if the job skips the machine, and has to be written otherwise"
+        why = "has no time: write it there, or, if the job skips the machine"
         self.remarks.ask(place, text, why, ("missing", "zero"))
         return Fraction(0)
 
@@ -111,7 +115,7 @@ class _Reader:
             return "is a percentage, and no time"
         if is_date(text):
             return "is a date, and no time"
-        if re.fullmatch(r"\d{1,3}:\d\d(:\d\d)?", text):
+        if re.fullmatch(r"(\d+ days?,? )?\d{1,3}:\d\d(:\d\d(\.\d+)?)?", text):
             return "is a time of day or a length: write it as a number, in one unit"
         found = re.fullmatch(r"[\d.,]+ ?([^\d\s]+)", text)
         if found and unit_named(found[1]):
@@ -197,7 +201,8 @@ def _multiplied(layout: Layout, rows: Rows, reader: _Reader) -> Rows:
     """Times for one piece, multiplied by the quantities of the jobs."""
     if not layout.quantities:
         return rows
-    numbers = [Fraction(_bare(text)) if re.fullmatch(r"\d+", _bare(text)) else None for text in layout.quantities]
+    bare = map(_bare, layout.quantities)
+    numbers = [Fraction(text) if re.fullmatch(rf"\d{{1,{_MOST_SIGNS}}}", text) else None for text in bare]
     for job, number in enumerate(numbers):
         if number is None:
             place, text = layout.place(job, -1), layout.quantities[job]
@@ -206,13 +211,20 @@ def _multiplied(layout: Layout, rows: Rows, reader: _Reader) -> Rows:
             for number, row in zip(numbers, rows)]
 
 
-def _in_one_unit(layout: Layout, rows: Rows, remarks: Remarks) -> Tuple[Rows, str]:
-    """The times in the least unit that the headings name, and how long it is; nothing where none is named."""
+def _with_unit(layout: Layout, length: str) -> Layout:
+    """The layout with a unit of this length in the headings that name one."""
+    unit = UNIT_NAMES.get(seconds_of(length), length)
+    return layout._replace(machines=[line._replace(name=with_unit(line.name, unit)) for line in layout.machines])
+
+
+def _in_one_unit(layout: Layout, rows: Rows, remarks: Remarks) -> Tuple[Layout, Rows, str]:
+    """The times in the least unit that the headings name, which all of these name then, and how long it is; nothing
+    where none is named."""
     names = ((line.unit, line.name) for line in layout.machines)
     units: List[Optional[Fraction]] = [unit_named(unit) if unit else unit_of(name) for unit, name in names]
     named = [unit for unit in units if unit]
     if not named:
-        return rows, remarks.answers.unit
+        return layout, rows, remarks.answers.unit
     least, said = min(named), remarks.answers.unit
     line, place = layout.machines[units.index(least)], layout.place(-1, units.index(least))
     heading = f"1{UNIT_NAMES[least]}"
@@ -224,10 +236,10 @@ def _in_one_unit(layout: Layout, rows: Rows, remarks: Remarks) -> Tuple[Rows, st
     elif said and seconds_of(said) != least:
         why = f"has the unit {UNIT_NAMES[least]}, and --unit says {said}"
         if remarks.ask(place, line.name, why, *_TRUST) == "unit":
-            return rows, said
+            return _with_unit(layout, said), rows, said
     factors = [(unit or least) / Fraction(least) for unit in units]
     scaled = [[None if time is None else time * factor for time, factor in zip(row, factors)] for row in rows]
-    return scaled, heading
+    return _with_unit(layout, heading), scaled, heading
 
 
 _TRUST = ("trust", "headings"), ("trust", "unit")
@@ -273,13 +285,15 @@ def _test_sizes(layout: Layout, remarks: Remarks) -> None:
 
 class Times(NamedTuple):
     """The times of a table in parts of its unit: what is left of the layout; a row of whole numbers for each job; by
-    what they are multiplied; the decimal sign, by its word; and how long the unit is, where that is known."""
+    what they are multiplied; the decimal sign, by its word; how long the unit is, where that is known; and how many
+    blank cells are 0."""
 
     layout: Layout
     rows: List[List[int]]
     scale: int
     decimal: str
     unit: str
+    blank: int
 
 
 def times_of(layout: Layout, remarks: Remarks, has_numbers: bool) -> Times:
@@ -288,9 +302,10 @@ def times_of(layout: Layout, remarks: Remarks, has_numbers: bool) -> Times:
     rows = _read(layout, reader)
     layout, rows = _drop_sums(layout, rows, remarks)
     layout, rows = _drop_others(layout, rows, remarks)
-    rows, unit = _in_one_unit(layout, _multiplied(layout, rows, reader), remarks)
+    layout, rows, unit = _in_one_unit(layout, _multiplied(layout, rows, reader), remarks)
     scale = _scale(layout, rows, remarks)
     _test_sizes(layout, remarks)
+    blank = sum(map(is_blank, chain.from_iterable(layout.cells)))
     whole = [[int((time or 0) * scale) for time in row] for row in rows]
     has_signs = any("." in text or "," in text for row in layout.cells for text in row)
-    return Times(layout, whole, scale, (reader.decimal or "point") if has_signs else "point", unit)
+    return Times(layout, whole, scale, (reader.decimal or "point") if has_signs else "point", unit, blank)

@@ -17,14 +17,15 @@ from ._calendar import Calendar, Dated, calendar_of, moment_of
 from ._change import Change, First, keys_of, moved_of, start_of
 from ._clock import Plain, Times
 from ._drawing import whole
-from ._errors import NotAShop, NotLawful, OptionError, counted, readable
+from ._errors import NotAShop, NotLawful, OptionError, counted, found_in, readable, shown
 from ._found import Below, Proved
 from ._headings import seconds_of
 from ._options import time_limit_of
-from ._page import MOST_BARS, Facts, page, proved
+from ._page import Facts, page, proved
 from ._reading import Reading, kept_of, reading_of, settings_of
-from ._results import Certificate, Picture, Report, Timetable
+from ._results import Certificate, Path, Picture, Report, Timetable
 from ._shop import Shop
+from ._texts import MOST_CERTIFICATE, bytes_of
 
 # How many seconds a search may take where nothing is said.
 TIME_LIMIT = 60.0
@@ -57,7 +58,7 @@ class Plan(metaclass=Brief):
         table: Any,
         *,
         start: Optional[str] = None,
-        after: Union[Plan, Any, None] = None,
+        after: Union[Plan, Path, None] = None,
         now: Optional[str] = None,
         time_limit: Optional[float] = TIME_LIMIT,
         workers: int = -1,
@@ -65,9 +66,9 @@ class Plan(metaclass=Brief):
     ) -> Plan:
         """The plan of a table, as `read_table` takes it, with its words. `start` is the date, or the date and the time,
         from which on work is done; shifts, breaks and holidays stand in the file beside the table. `after` is an
-        earlier plan, or the path of its file, whose order the searches begin with; `now` says which of its jobs have
-        begun. `time_limit` and `workers` are those of `Shop.certify`. OptionError where one of these is none; the other
-        errors are those of `read_table`.
+        earlier plan, or the path of its file, whose order the searches begin with; `now` is the moment that says which
+        of its jobs have begun, where it has a start. `time_limit` and `workers` are those of `Shop.certify`.
+        OptionError where one of these is none; the other errors are those of `read_table`.
 
         >>> Plan.of([["Order", "Saw", "Drill"], ["Shelf", 3, 7], ["Door", 1, 2]]).certificate.names
         ('Door', 'Shelf')
@@ -86,7 +87,7 @@ class Plan(metaclass=Brief):
         '3'
         """
         if self.calendar is None:
-            return Plain(self.shop._parts[5])
+            return Plain(self.shop._parts[5], self.unit)
         step = seconds_of(self.unit) / self.shop.scale
         shown = {self.listed, self.certificate.lower, self.shop.bound()}
         shown.update(each for operation in self.timetable for each in operation[2:])
@@ -124,21 +125,9 @@ class Plan(metaclass=Brief):
 
     def _facts(self) -> Facts:
         """What the page says."""
-        shop = self.shop
-        jobs = shop._packed(self.certificate, None)
-        facts = Facts(
-            title=f"Plan of {self.name}",
-            timetable=self.timetable,
-            certified=self.certificate.lower,
-            simple=shop.bound(),
-            listed=self.listed,
-            picture="",
-            times=self.times,
-            more=self._changed(),
-        )
-        if shop.jobs * shop.machines <= MOST_BARS:
-            facts = replace(facts, picture=shop._picture(jobs, facts.lower))
-        return facts
+        jobs = self.shop._packed(self.certificate, None)
+        facts = self.shop._facts(jobs, self.certificate.lower, self.times, f"Plan of {self.name}")
+        return replace(facts, more=self._changed())
 
     def report(self) -> Report:
         """The page for the wall.
@@ -170,8 +159,8 @@ class Plan(metaclass=Brief):
             lines.append(f"<p>{title}: {html.escape(readable(', '.join(names) or 'none'))}.</p>")
         if change.begun:
             names = html.escape(readable(", ".join(change.begun)))
-            lines.append(f"<p>Begun already: {names}. This plan does not put them first, nor wait for machines that are "
-                         f"busy with them.{_said_first(change)}</p>")
+            lines.append(f"<p>Begun already: {names}. This plan does not put them first, nor wait for machines that "
+                         f"are busy with them.{_said_first(change)}</p>")
         return ['<section class="change">', "<h2>Change</h2>", *lines, "</section>"]
 
     def to_json(self) -> str:
@@ -194,12 +183,15 @@ class Plan(metaclass=Brief):
         kinds: Dict[str, Tuple[Any, ...]] = dict.fromkeys(("shop", "certificate", "calendar"), (dict,))
         kinds["unit"] = (str,)
         found = _json.read(text, kinds, NotAShop, "Plan.to_json")
+        if not seconds_of(found["unit"]) and (found["unit"] or found["calendar"]):
+            sentence = f"'unit' of the text is {shown(found['unit'])}; it has to be what Plan.to_json gives"
+            raise NotAShop("JSON", 0, sentence)
         shop = Shop.from_json(_json.written(found["shop"]))
         certificate = shop.check(Certificate.from_json(_json.written(found["certificate"])))
         return cls(shop, certificate, calendar_of(found["calendar"]), found["unit"])
 
     @classmethod
-    def read(cls, path: Any) -> Plan:
+    def read(cls, path: Path) -> Plan:
         """The plan in a file that the command `plan` wrote. OSError where it is not read.
 
         >>> plan = Plan.of([["Order", "Saw"], ["Shelf", 3]])
@@ -208,12 +200,11 @@ class Plan(metaclass=Brief):
         >>> Plan.read("table.plan.json").certificate.value
         3
         """
-        with open(path, "rb") as file:
-            text = file.read()
+        text = bytes_of(path, "plan", MOST_CERTIFICATE)
         try:
             return cls.from_json(text)
         except (NotAShop, NotLawful, OptionError) as error:
-            raise type(error)(error.name, error.place, f"{readable(path)}: {error}") from None
+            raise found_in(path, error) from None
 
     def __str__(self) -> str:
         """What is proved of the plan, as the page says it."""
@@ -248,13 +239,15 @@ class Earlier:
     """An earlier plan, or none, and the moment that says which of its jobs have begun."""
 
     def __init__(self, plan: Optional[Plan], now: Optional[str]) -> None:
+        if now is not None and (plan is None or plan.calendar is None):
+            raise OptionError("NOW", 0, "now needs after, with a plan that has a start")
         self.plan = plan
         self.now: Optional[datetime] = None if now is None else moment_of("now", now)
         self.keys = keys_of(plan.timetable.names) if plan else []
 
     def begun(self) -> List[Tuple[str, int]]:
         """The jobs whose first operation begins before that moment."""
-        if self.plan is None or self.now is None or self.plan.calendar is None:
+        if self.plan is None or self.now is None:
             return []
         times = self.plan.times
         assert isinstance(times, Dated), "times by a calendar"

@@ -13,19 +13,21 @@ from ._remarks import Remarks
 from ._results import listed
 from ._shop import Shop
 from ._sheets import Sheet, sheet_of
+from ._texts import bytes_of
 
 _SEPARATORS = {";": "semicolon", "\t": "tab"}
 
 
 class Reading(NamedTuple):
-    """A table that was read: its shop, its sheet, how long its unit is where that is known, what was said of it, and
-    what was left out."""
+    """A table that was read: its shop, its sheet, how long its unit is where that is known, what was said of it, what
+    was left out, and how many blank cells are 0."""
 
     shop: Shop
     sheet: Sheet
     unit: str
     answers: Answers
     notes: List[str]
+    blank: int
 
     def said(self) -> str:
         """What was read, in a line."""
@@ -36,21 +38,38 @@ class Reading(NamedTuple):
         unit = f"; its unit is {self.unit}" if self.unit else ""
         times = [time for row in shop.times for time in row]
         shown = [shop._in_unit(end(times)) for end in (min, max)]
-        return f"{readable(self.sheet.name)}: {read}; times {shown[0]} to {shown[1]}{in_parts}{unit}{notes}"
+        blank = f"; {counted(self.blank, 'blank cell')} taken as 0" if self.blank else ""
+        return f"{readable(self.sheet.name)}: {read}; times {shown[0]} to {shown[1]}{in_parts}{unit}{blank}{notes}"
 
 
 def settings_of(table: Any) -> Optional[FilePath]:
-    """The file beside a table that keeps what was answered; None of a table that is no file."""
-    return FilePath(f"{os.fsdecode(table)}.flowshop.toml") if isinstance(table, (str, os.PathLike)) else None
+    """The file beside a table that keeps what was answered; None of a table that is no file, or a pipe or a device."""
+    if not isinstance(table, (str, os.PathLike)) or os.path.exists(table) and not os.path.isfile(table):
+        return None
+    return FilePath(f"{os.fsdecode(table)}.flowshop.toml")
+
+
+def text_kept(path: Optional[FilePath]) -> Optional[str]:
+    """The text of a file of answers; None where there is none. OptionError where it is in no UTF-8."""
+    if path is None or not path.exists():
+        return None
+    try:
+        return bytes_of(path, "file of answers").decode("utf-8-sig").replace("\r\n", "\n")
+    except UnicodeDecodeError:
+        raise OptionError("SETTINGS", 0, f"{readable(path)} is no text in UTF-8: save it as such a one") from None
 
 
 def kept_of(path: Optional[FilePath]) -> Dict[str, Any]:
-    """What a file of answers has; nothing where there is none. OptionError where it has another section than that of the
-    calendar."""
-    kept = read_toml(str(path), path.read_text(encoding="utf-8")) if path and path.exists() else {}
-    for name in kept:
-        if isinstance(kept[name], dict) and name != "calendar":
-            raise OptionError("SETTINGS", 0, f"{path} has a section [{name}]; the only one that there is is [calendar]")
+    """What a file of answers has; nothing where there is none. OptionError where it has another section than that of
+    the calendar."""
+    text = text_kept(path)
+    kept = read_toml(str(path), text) if text else {}
+    for name, value in kept.items():
+        if isinstance(value, dict) and name != "calendar":
+            sentence = f"{readable(path)} has a section [{name}]; the only one that there is is [calendar]"
+            raise OptionError("SETTINGS", 0, sentence)
+    if not isinstance(kept.get("calendar", {}), dict):
+        raise OptionError("SETTINGS", 0, f"calendar of {readable(path)} has to be a section [calendar]")
     return kept
 
 
@@ -82,7 +101,7 @@ def reading_of(table: Any, words: Dict[str, Any], kept: Dict[str, Any], needs_un
     assert times is not None, "a table without times has a remark"
     unit = Unit(times.scale, times.decimal, _SEPARATORS.get(sheet.separator, "comma"))
     shop = _shop_of(times.layout, times.rows, unit)
-    return Reading(shop, sheet, times.unit, answers, times.layout.notes)
+    return Reading(shop, sheet, times.unit, answers, times.layout.notes, times.blank)
 
 
 def read_table(table: Any, **words: Given) -> Shop:
@@ -90,7 +109,7 @@ def read_table(table: Any, **words: Given) -> Shop:
     file of a spreadsheet (CSV with any separator, a matrix with blanks, JSON as a list of rows or of objects, or a
     workbook, where the package openpyxl is there), of a frame as that of pandas, or of a list of rows with their names.
     Decimals become whole by the least scale. What is in doubt is settled by words, as `skip="Qty"`; docs/tables.md has
-    them. Those that the command `plan` has kept in a file beside the table are taken too. NotATable with all that is
+    them. Those that the commands `plan` and `shop` have kept beside the table are taken too. NotATable with all that is
     in doubt or wrong, TextError where the file is no table, OSError where it is not read, OptionError where a word is
     none.
 

@@ -1,13 +1,16 @@
 """What is in doubt in a table, and what is wrong in it."""
 
 import shlex
-from typing import Dict, List, NamedTuple, Tuple
+from collections import Counter
+from typing import Dict, Iterable, Iterator, List, NamedTuple, Tuple
 
-from ._answers import Answers, Given
+from ._answers import LISTS, Answers, Given, as_text
 from ._brief import Brief, BriefABC
 from ._errors import FlowshopError, Place, counted, readable
 
 Word = Tuple[str, str]
+# How many lines there are of mistakes of one kind, and how many signs of what stands in a cell.
+_MOST_MISTAKES, _MOST_SIGNS = 10, 60
 
 
 class _Remark(NamedTuple):
@@ -33,10 +36,16 @@ class Remark(_Remark, metaclass=BriefABC):
 
     def __str__(self) -> str:
         """A line with all of it."""
+        return self._line(0)
+
+    def _line(self, more: int) -> str:
+        """The same, with how many more there are of its kind."""
         places = [f"{kind} {number}" for kind, number in (("row", self.row), ("column", self.column)) if number]
-        value = f" ({readable(self.value)})" if self.value else ""
-        choices = ", or ".join(f"--{name} {shlex.quote(readable(value))}" for name, value in self.words)
-        return f"{', '.join(places) or 'the table'}{value} {self.why}{f': {choices}' if choices else ''}"
+        value = readable(self.value if len(self.value) <= _MOST_SIGNS else f"{self.value[: _MOST_SIGNS - 2]}..")
+        beside = [value] * bool(value) + [f"and {more:,} more of its kind"] * bool(more)
+        of_place = f" ({'; '.join(beside)})" if beside else ""
+        choices = ", or ".join(_written(name, value) for name, value in self.words)
+        return f"{', '.join(places) or 'the table'}{of_place} {self.why}{f': {choices}' if choices else ''}"
 
 
 class NotATable(FlowshopError, metaclass=Brief):
@@ -85,17 +94,39 @@ class Remarks:
         lines = [f"{readable(name)}: {' and '.join(counts)}"]
         words = self.answers.with_words(self._assumed).given()
         if doubts:
-            lines += ["in doubt, with the words of which one settles it:", *(f"  {remark}" for remark in doubts)]
+            lines += ["in doubt, with the words of which one settles it:", *_lines(doubts, 1)]
         if wrong:
-            lines += ["to be changed in the table:", *(f"  {remark}" for remark in wrong)]
+            lines += ["to be changed in the table:", *_lines(wrong, _MOST_MISTAKES)]
         if doubts:
-            lines.append(f"if all is as it looks, write: {written_words(words)}")
+            has_blank = any(name == "missing" for name, _ in self._assumed)
+            blank = ", and blank cells are skipped machines" if has_blank else ""
+            lines.append(f"if all is as it looks{blank}, write: {written_words(words)}")
         first = remarks[0]
         kind = "MISTAKE" if wrong else "DOUBT"
         raise NotATable(kind, (first.row, first.column), "\n".join(lines), tuple(remarks), words)
 
 
+def _lines(remarks: Iterable[Remark], most: int) -> Iterator[str]:
+    """A line for each of some remarks, or for the first ones of a kind, where the last of these says how many more
+    there are."""
+    kinds = Counter((remark.why, remark.words) for remark in remarks)
+    said: Counter[Tuple[str, Tuple[Word, ...]]] = Counter()
+    for remark in remarks:
+        kind = remark.why, remark.words
+        said[kind] += 1
+        if said[kind] <= most:
+            yield f"  {remark._line(kinds[kind] - most if said[kind] == most else 0)}"
+
+
+def _written(name: str, value: Given) -> str:
+    """A word as a command takes it."""
+    text = str(value)
+    if name in LISTS and not isinstance(value, int):
+        text = as_text([value] if isinstance(value, str) else value)
+    sign = "=" if text.startswith("-") else " "
+    return f"--{name}{sign}{shlex.quote(readable(text))}"
+
+
 def written_words(words: Dict[str, Given]) -> str:
     """Words as a command takes them."""
-    texts = ((name, ",".join(value) if isinstance(value, list) else str(value)) for name, value in words.items())
-    return " ".join(f"--{name} {shlex.quote(readable(value))}" for name, value in texts)
+    return " ".join(_written(name, value) for name, value in words.items())

@@ -1,18 +1,16 @@
 """The command `report`: a schedule as one file of HTML, with names, a picture, and a sheet for each machine."""
 
 import argparse
-import os
 import sys
 from typing import List, Optional
 
-from ._errors import NotASequence, NotLawful, OptionError, TextError, counted, readable, shown
-from ._files import WordError
+from ._errors import NotASequence, NotLawful, OptionError, TextError, counted, found_in, readable, shown
+from ._files import WordError, refuse_read
 from ._results import Certificate, require_suffix
 from ._sequences import Jobs
-from ._saving import names_folder
 from ._shop import Shop
 from ._streams import print_page
-from ._texts import order_of, sequence_of
+from ._texts import is_certificate, order_of, sequence_of
 
 
 def words(parsers: "argparse._SubParsersAction[argparse.ArgumentParser]") -> None:
@@ -34,7 +32,8 @@ def words(parsers: "argparse._SubParsersAction[argparse.ArgumentParser]") -> Non
         help="the file of a certificate, which is checked, or of a sequence; left out, a search takes some seconds",
     )
     parser.add_argument("--start", metavar="TIME", help="the time of day when the first job starts, as 07:30")
-    parser.add_argument("--unit", metavar="LENGTH", help="how long one unit of the table is, as 15min, 1h or 30s")
+    unit = "how long one unit of the table is, as 15min, 1h or 30s; else as the names of the machines say, as Saw (min)"
+    parser.add_argument("--unit", metavar="LENGTH", help=unit)
     parser.add_argument("--title", help="the title of the report; left out, it names the file of the shop")
     out = "the file to write; left out, standard output, if that is no terminal"
     parser.add_argument("--out", metavar="FILE", help=out)
@@ -61,25 +60,9 @@ def _order(shop: Shop, path: Optional[str]) -> Jobs:
     if path is None:
         return shop.certify(work=100, directions=1_000_000)
     text = order_of(path)
-    if text.split(None, 1)[:1] == [b"flowshop"]:
+    if is_certificate(text):
         return Certificate(0, 0, (), text)
     return shop._attained(*sequence_of(text))
-
-
-def _are_one(path: str, other: str) -> bool:
-    """Whether two names are those of one file."""
-    return os.path.exists(path) and os.path.exists(other) and os.path.samefile(path, other)
-
-
-def _test_out(out: str, shop: str, text: Optional[str]) -> None:
-    """OptionError where the report would have the suffix of another format, WordError where it would replace a file
-    that is read."""
-    require_suffix(out, "report")
-    if os.path.isdir(out) or names_folder(out):
-        raise WordError(f"--out is {readable(out)}, which is a folder, and has to be a file")
-    for path, what in ((shop, "shop"), (text, "certificate or the sequence")):
-        if path is not None and _are_one(path, out):
-            raise WordError(f"--out {readable(out)} is the file of the {what}: give the report another name")
 
 
 def run(options: argparse.Namespace) -> int:
@@ -91,13 +74,14 @@ def run(options: argparse.Namespace) -> int:
     if index is not None and text is None and not index.isdecimal():
         index, text = None, index
     if options.out is not None:
-        _test_out(options.out, options.shop, text)
+        require_suffix(options.out, "report")
+        refuse_read(options.out, ((options.shop, "shop"), (text, "certificate or the sequence")), "report")
     shop = _picked(options.shop, index)
     title = options.title or f"Schedule of {options.shop}{f', block {index}' if index not in (None, '1') else ''}"
     try:
         report = shop.report(_order(shop, text), start=options.start, unit=options.unit, title=title)
     except (NotASequence, NotLawful, TextError) as error:
-        raise type(error)(error.name, error.place, f"{readable(text)}: {error}") from None
+        raise found_in(text, error) from None
     if options.out is None:
         print_page(report.encode("utf-8", "replace"))
     else:

@@ -3,7 +3,7 @@
 import zlib
 from typing import NamedTuple
 
-from ._certify import Effort, Kept
+from ._certify import Effort, Kept, effort_of
 from ._errors import OptionError
 from ._found import numbers_of
 from ._library import RunNumbers
@@ -50,7 +50,7 @@ def _read(shop: Numbers, state: bytes) -> State:
     if head != _HEAD or named != _named(shop) or len(rest) != 4:
         raise ValueError
     width, rounds, seed, work, directions = (int(word) for word in called.split())
-    effort = Effort(option("width", width), option("rounds", rounds), option("seed", seed), option("work", work))
+    effort = effort_of(width=width, rounds=rounds, seed=seed, work=work)
     start, best, before = (_packed(line, shop[0]) for line in rest[:3])
     kept = Kept(bytes.fromhex(numbers.decode("ascii")), start, best, before, rest[3])
     RunNumbers.from_buffer_copy(kept.numbers)

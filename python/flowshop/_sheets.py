@@ -3,13 +3,18 @@
 import csv
 import io
 import json
+import math
 import os
 import re
-from typing import Any, Iterable, Iterator, List, NamedTuple, Optional
+from decimal import Decimal
+from fractions import Fraction
+from typing import Any, Iterable, Iterator, List, Mapping, NamedTuple, Optional
 
 from ._cells import is_missing
 from ._errors import TextError, readable, shown
+from ._json import FAULTS, fault_of
 from ._results import Path
+from ._tables import UNORDERED
 from ._texts import bytes_of
 
 _WORKBOOK, _OLD_WORKBOOK, _DOCUMENT = b"PK\x03\x04", b"\xd0\xcf\x11\xe0", b"mimetypeapplication/vnd.oasis"
@@ -43,11 +48,17 @@ def _text(value: Any) -> str:
     """A value of a sheet as text."""
     if is_missing(value):
         return ""
-    if isinstance(value, float):  # without what is left of rounding
+    if isinstance(value, float) and math.isfinite(value):  # without what is left of rounding
         return format(value, ".15g" if value == round(value) else ".12g")
-    if hasattr(value, "isoformat"):
+    if hasattr(value, "isoformat") and not hasattr(value, "total_seconds"):  # a date or a time of day, and no length
         return str(value.isoformat())
-    return " ".join(str(value).split())
+    if isinstance(value, Fraction):  # which would look like a date
+        value = Decimal(value.numerator) / value.denominator
+    try:
+        text = str(value)
+    except ValueError:  # an int that Python does not write out
+        return shown(value)
+    return text.lower() if isinstance(value, Decimal) else " ".join(text.split())
 
 
 def _sheet(name: str, rows: Iterable[Iterable[Any]], **more: Any) -> Sheet:
@@ -105,22 +116,31 @@ def _separated(name: str, text: str, has_mark: bool, separator: Optional[str]) -
     return _sheet(name, rows, separator=sign, has_mark=has_mark)
 
 
-def _of_json(name: str, text: str) -> Sheet:
-    """The sheet of JSON: of a list of rows, or of a list of objects, whose keys are the first row."""
+def _of_rows(name: str, table: Any) -> Sheet:
+    """The sheet of a list of rows, or of a list of objects, whose keys are the first row. It may stand in an object as
+    its only entry."""
+    found = next(iter(table.values())) if isinstance(table, Mapping) and len(table) == 1 else table
     try:
-        found = json.loads(text)
-    except json.JSONDecodeError as error:
-        raise _fault(name, f"line {error.lineno} is no JSON: {error.msg}") from None
-    if isinstance(found, dict) and len(found) == 1:
-        found = next(iter(found.values()))
-    if not isinstance(found, list) or not found:
-        raise _fault(name, "this JSON has to be a list of rows, or of objects")
-    if all(isinstance(row, list) for row in found):
-        return _sheet(name, found, has_numbers=True)
-    if not all(isinstance(row, dict) for row in found):
-        raise _fault(name, "this JSON has to be a list of rows, or of objects, and of one kind alone")
-    keys = list(dict.fromkeys(key for row in found for key in row))
-    return _sheet(name, [keys, *([row.get(key) for key in keys] for row in found)], has_numbers=True, header="yes")
+        rows = [] if isinstance(found, (str, bytes, *UNORDERED)) else list(found)
+        if rows and all(isinstance(row, Mapping) for row in rows):
+            keys = list(dict.fromkeys(key for row in rows for key in row))
+            rows = [keys, *([row.get(key) for key in keys] for row in rows)]
+            return _sheet(name, rows, has_numbers=True, header="yes")
+        if rows and not any(isinstance(row, (str, bytes, *UNORDERED)) for row in rows):
+            return _sheet(name, rows, has_numbers=True)
+    except TypeError:  # it is no list, or has something that is none
+        pass
+    raise _fault(name, f"it is {shown(table)}, and has to be a list of rows, or of objects, with something in it")
+
+
+def _of_json(name: str, text: str) -> Sheet:
+    """The sheet of JSON."""
+    try:
+        return _of_rows(name, json.loads(text))
+    except FAULTS as error:
+        if isinstance(error, TextError):
+            raise
+        raise _fault(name, fault_of(error)[1]) from None
 
 
 def _of_workbook(name: str, data: bytes) -> Sheet:
@@ -134,9 +154,9 @@ def _of_workbook(name: str, data: bytes) -> Sheet:
         raise _fault(name, f"this is a workbook: {advice}") from None
     try:
         book = openpyxl.load_workbook(io.BytesIO(data), read_only=True, data_only=True)
+        return _sheet(name, book.worksheets[0].iter_rows(values_only=True), has_numbers=True)
     except Exception as error:  # of many kinds
         raise _fault(name, f"this workbook can not be read: {error}") from None
-    return _sheet(name, book.worksheets[0].iter_rows(values_only=True), has_numbers=True)
 
 
 def _of_file(path: Path, separator: Optional[str]) -> Sheet:
@@ -174,7 +194,4 @@ def sheet_of(table: Any, separator: Optional[str] = None) -> Sheet:
     columns = getattr(table, "columns", None)
     if columns is not None and not callable(columns):
         return _of_frame(table)
-    try:
-        return _sheet("table", table, has_numbers=True)
-    except TypeError:
-        raise _fault("table", f"it is {shown(table)}, and has to be a file, a frame or a list of rows") from None
+    return _of_rows("table", table)

@@ -15,18 +15,19 @@ from typing import (
 
 from . import _json
 from ._brief import Brief, BriefABC
-from ._certify import Better, Effort, Known, Run, begun
-from ._clock import Plain, times_of
+from ._certify import Better, Effort, Known, Run, begun, effort_of
+from ._clock import Plain, Times, times_of
 from ._drawing import with_times
 from ._errors import Interrupted, NotASequence, NotAShop, NotLawful, OptionError, OverBudget, TextError
-from ._errors import counted, readable
+from ._errors import counted, found_in
 from ._found import Below, Over, Proved, numbers_of, part_of
+from ._headings import length_of
 from ._labels import Unit, label_lines, unit_of
 from ._library import BoundsRoom, EffortNumbers, Plan, ReachedRoom, Refused, ShopNumbers, SpansRoom, TextRoom
 from ._library import byref, call, size, u16, u32, u64
 from ._options import MOST_TREES, OF_PARTS, STATED, function_of, option, scale_of, time_limit_of, token_of, workers_of
 from ._page import MOST_BARS, Facts, page
-from ._parts import BELOW, OVER, PROVED, Instance, PackedPart, Pieces, Rooms, parts_of
+from ._parts import OVER, PROVED, Instance, PackedPart, Pieces, Rooms, parts_of
 from ._results import Certificate, Names, Path, Picture, Report, Start, Timetable, listed, with_names
 from ._resume import State, refused, state_of
 from ._saving import save
@@ -34,7 +35,7 @@ from ._sequences import By, Jobs, Many, Naming, not_a_node, not_a_sequence, not_
 from ._sequences import packed_many, packed_node
 from ._spread import Map, Workers
 from ._tables import Table, read_kept, read_table
-from ._texts import Text, block_text, blocks_of, not_lawful, order_of, start_of, text_of, written
+from ._texts import Text, block_text, blocks_of, is_certificate, not_lawful, order_of, start_of, text_of, written
 from ._waiting import Progress, Token, Watch, waited, waited_for
 
 # The most bytes that a text has beside its trees or its directions.
@@ -186,9 +187,12 @@ class Shop(metaclass=Brief):
             option("upper", self.neh().value if upper is None else upper, STATED),
             option("lower", self.bound() if lower is None else lower, STATED),
         ]
+        save(path, self._text(*stated))
+
+    def _text(self, seed: int, upper: int, lower: int) -> bytes:
+        """The benchmark text of the shop, with what its head states."""
         labels = label_lines(self.jobs, self.machines, *self._parts[3:])
-        text = block_text(labels, self.times, *stated).encode("utf-8", "replace")
-        save(path, text)
+        return block_text(labels, self.times, seed, upper, lower).encode("utf-8", "replace")
 
     @property
     def jobs(self) -> int:
@@ -313,19 +317,18 @@ class Shop(metaclass=Brief):
     def _packed(self, sequence: Jobs, by: By) -> bytes:
         """A sequence as the calls of the library take it."""
         if type(sequence) not in (list, tuple) and isinstance(sequence, os.PathLike):
-            return packed(self._read_sequence(sequence), self._naming, "number")
+            text = order_of(sequence)
+            try:
+                return self._packed_text(text)
+            except (NotASequence, NotLawful, TextError) as error:
+                raise found_in(sequence, error) from None
         return packed(sequence, self._naming, by)
 
-    def _read_sequence(self, path: Path) -> Jobs:
-        """The sequence in a file: of a certificate, which is checked, of what the program prints, or of numbers alone.
-        Refusals name the file."""
-        text = order_of(path)
-        try:
-            if text.split(None, 1)[:1] == [b"flowshop"]:
-                return self.check(text)
-            return self._attained(*start_of(text))
-        except (NotASequence, NotLawful, TextError) as error:
-            raise type(error)(error.name, error.place, f"{readable(path)}: {error}") from None
+    def _packed_text(self, text: bytes) -> bytes:
+        """The sequence that a text has: of a certificate, which is checked, of what the program prints, or of numbers
+        alone."""
+        jobs: Jobs = self.check(text) if is_certificate(text) else self._attained(*start_of(text))
+        return packed(jobs, self._naming, "number")
 
     def _attained(self, jobs: List[int], stated: Optional[int], line: int) -> List[int]:
         """The jobs of a text. TextError where it says in a line that they have another makespan."""
@@ -454,28 +457,24 @@ class Shop(metaclass=Brief):
         sheet for each of them with start and end of each job. It says what is proved: of a Certificate, which is
         checked, its lower bound, or that of `bound` where this is higher, and of another sequence that of `bound`.
         Times are in the unit of the table; or by the clock, where `start` is the time of day when the first job starts,
-        and `unit` how long one unit of the table is, as `15min`, `1h` or `30s`. NotLawful where a certificate is none
-        of the shop, OptionError where start or unit has another form, or one is given alone; `by` and the other errors
-        are those of `makespan`.
+        and `unit` how long one unit of the table is, as `15min`, `1h` or `30s`; left out, it is the one that stands
+        behind the names of machines, as `Saw (min)`. NotLawful where a certificate is none of the shop, OptionError
+        where start or unit has another form, or one is missing; `by` and the other errors are those of `makespan`.
 
         >>> shop.report(shop.certify(), start="07:30", unit="15min").save("schedule.html")
         """
-        times = times_of(self._parts[5], start, unit)
+        times = times_of(self._parts[5], start, unit, length_of(self.machine_names))
         certificate = self.check(order) if isinstance(order, Certificate) else None
         jobs = self._packed(certificate or order, by)
-        timetable = self._timetable(jobs, 0)
-        facts = Facts(
-            title=title or f"Schedule of {counted(self.jobs, 'job')} on {counted(self.machines, 'machine')}",
-            timetable=timetable,
-            certified=certificate.lower if certificate else None,
-            simple=self.bound(),
-            listed=self._makespan(self._in_order()),
-            picture="",
-            times=times,
-        )
-        if self.jobs * self.machines <= MOST_BARS:
-            facts = replace(facts, picture=self._picture(jobs, facts.lower))
-        return Report(page(facts))
+        title = title or f"Schedule of {counted(self.jobs, 'job')} on {counted(self.machines, 'machine')}"
+        return Report(page(self._facts(jobs, certificate.lower if certificate else None, times, title)))
+
+    def _facts(self, jobs: bytes, certified: Optional[int], times: Times, title: str) -> Facts:
+        """What a page says of a packed sequence, with the lower bound of a certificate where there is one."""
+        listed = self._makespan(self._in_order())
+        facts = Facts(title, self._timetable(jobs, 0), certified, self.bound(), listed, "", times)
+        has_picture = self.jobs * self.machines <= MOST_BARS
+        return replace(facts, picture=self._picture(jobs, facts.lower)) if has_picture else facts
 
     def bound(self) -> int:
         """A number below which no sequence has a makespan: the bound of the two-ended certificate with no directions.
@@ -536,7 +535,7 @@ class Shop(metaclass=Brief):
         >>> shop.improve([1, 2, 3]).value
         12
         """
-        effort = Effort(option("width", width), option("rounds", rounds), option("seed", seed), option("work", work))
+        effort = effort_of(width=width, rounds=rounds, seed=seed, work=work)
         limit, begun = time_limit_of(time_limit), self._begun(start, by)
         if limit is None:
             sequence = (u16 * self.jobs)()
@@ -702,7 +701,7 @@ class Shop(metaclass=Brief):
         >>> certificate.lower, certificate.upper
         (12, 12)
         """
-        effort = Effort(option("width", width), option("rounds", rounds), option("seed", seed), option("work", work))
+        effort = effort_of(width=width, rounds=rounds, seed=seed, work=work)
         most, count, limit = option("directions", directions), workers_of(workers), time_limit_of(time_limit)
         function_of("map", map, "that of an executor, or of a pool, such as pool.map, or None")
         if not isinstance(progress, bool):

@@ -4,9 +4,9 @@ import os
 from pathlib import Path
 from typing import List, Tuple
 
-from ._errors import NotASequence, TextError, counted, readable
+from ._errors import NotASequence, NotLawful, TextError, counted, found_in
 from ._files import WordError, Work
-from ._texts import order_of, start_of
+from ._texts import is_certificate, order_of
 
 Given = List[Tuple[Work, bytes]]
 
@@ -43,10 +43,10 @@ def _texts(text: bytes) -> List[Tuple[int, bytes]]:
 def _packed(work: Work, path: str, number: int, text: bytes) -> bytes:
     """The sequence of a text. Refusals name the file and the line."""
     try:
-        return work.shop._packed(work.shop._attained(*start_of(text)), "number")
-    except (NotASequence, TextError) as error:
-        line = "" if isinstance(error, TextError) else f", line {number}"
-        raise type(error)(error.name, error.place, f"{readable(path)}{line}: {error}") from None
+        return work.shop._packed_text(text)
+    except (NotASequence, NotLawful, TextError) as error:
+        line = f", line {number}" if isinstance(error, NotASequence) else ""
+        raise found_in(f"{path}{line}", error) from None
 
 
 def sequences_of(works: List[Work], path: str, word: str, may_be_many: bool) -> Given:
@@ -55,8 +55,8 @@ def sequences_of(works: List[Work], path: str, word: str, may_be_many: bool) -> 
     if os.path.isdir(path):
         return _of_folder(works, path, word)
     text = order_of(path)
-    if len(works) == 1 and text.startswith(b"flowshop "):
-        return [(works[0], works[0].shop._packed(Path(path), None))]
+    if len(works) == 1 and is_certificate(text):
+        return [(works[0], _packed(works[0], path, 1, text))]
     texts = _texts(text)
     if len(works) == 1 and may_be_many and texts:
         works = works * len(texts)

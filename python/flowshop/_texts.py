@@ -48,14 +48,6 @@ def _room(wanted: int) -> mmap.mmap:
     raise MemoryError("flowshop: memory ran out")
 
 
-def room_for(count: int) -> mmap.mmap:
-    """Memory for so many bytes or more, of which none is used before it is written. MemoryError where there is none."""
-    memory = _room(max(count, _LEAST_ROOM))
-    if len(memory) < count:
-        raise MemoryError("flowshop: memory ran out")
-    return memory
-
-
 def written(most: int, write: Callable[[TextRoom], None]) -> bytes:
     """The text that a call writes, which has at most so many bytes. MemoryError where there is no room for it."""
     memory = _room(max(most, _LEAST_ROOM))
@@ -71,7 +63,7 @@ def written(most: int, write: Callable[[TextRoom], None]) -> bytes:
 
 def _read(path: Path, most_of: Callable[[bytes], int]) -> Optional[bytes]:
     """The bytes of a file. None where there are more than it may have, by how it begins; no more of them is read."""
-    with open(path, "rb", buffering=0) as file:
+    with open(os.fspath(path), "rb", buffering=0) as file:  # TypeError of a number, which open takes for a stream
         stated, begun = os.fstat(file.fileno()).st_size, file.read(len(_BEGIN))
         most = most_of(begun)
         if stated > most:
@@ -91,6 +83,11 @@ def _too_long(path: Path, most: int, what: str) -> str:
     return f"{readable(path)} has more than {most:,} bytes, and a {what} has at most so many"
 
 
+def is_certificate(text: bytes) -> bool:
+    """Whether a text begins as certificates do, also behind blanks, which no lawful one has."""
+    return text.split(None, 1)[:1] == [_BEGIN.strip()]
+
+
 def order_of(path: Path) -> bytes:
     """The bytes of a file that is a certificate or a sequence. OSError where it is not read, TextError where it is too
     long."""
@@ -108,11 +105,12 @@ def order_of(path: Path) -> bytes:
     return text
 
 
-def bytes_of(path: Path, what: str) -> bytes:
-    """The bytes of a file that is read as this. TextError where there are more than a benchmark text may have."""
-    text = _read(path, lambda _: MOST_TEXT)
+def bytes_of(path: Path, what: str, most: int = MOST_TEXT) -> bytes:
+    """The bytes of a file that is read as this. TextError where there are more than it may have: else as many as a
+    benchmark text."""
+    text = _read(path, lambda _: most)
     if text is None:
-        raise TextError(_TOO_LONG, 0, _too_long(path, MOST_TEXT, what))
+        raise TextError(_TOO_LONG, 0, _too_long(path, most, what))
     return text
 
 
