@@ -5,9 +5,9 @@
  * on machine k is times[(k - 1) * jobs + (j - 1)]. Their unit is yours, and makespans are in it too. A sequence is a
  * list of all job numbers, each once.
  *
- * A slice is a pointer and a count of entries. No pointer may be null, also where the count is 0; each is aligned for
- * its type, and what is written to overlaps nothing else that the call is lent. Nothing is kept of what a call is
- * lent, and nothing is left for the caller to free.
+ * A slice is a pointer and a count of entries. A call with a null pointer, also of a slice whose count is 0, is refused
+ * before all else: FLOWSHOP_NULL. Each pointer is aligned for its type, and what is written to overlaps nothing else
+ * that the call is lent. Nothing is kept of what a call is lent, and nothing is left for the caller to free.
  *
  * Each call but flowshop_version returns its outcome: a status, which is FLOWSHOP_DONE or the number of what is wrong,
  * the first fault in the order that the call lists; and a place. FLOWSHOP_MEMORY, where memory ran out, can come in the
@@ -27,8 +27,8 @@
  * returns, and gives what its comment says: the status, the value, the sequence, the certificate. The contracts stand
  * in crates/flow_c/src, and the numbers of the statuses in crates/flow_c/specs/Statuses.antt. Not proved are how
  * the searches of flowshop_improve, flowshop_beam and flowshop_rounds go, and so how good what they reach is, and what
- * `whole` says of a makespan above Taillard's bound; this header, the test of the processor (library/cpu.s), the
- * compiler, the C library, and how much time or memory a call takes. */
+ * `whole` says of a makespan above Taillard's bound; this header, the tests of pointers and of the processor
+ * (library/cpu.s), the compiler, the C library, and how much time or memory a call takes. */
 #ifndef FLOWSHOP_H
 #define FLOWSHOP_H
 
@@ -84,6 +84,7 @@ enum flowshop_status {
     FLOWSHOP_MEMORY = 1, /* memory ran out */
     FLOWSHOP_ROOM = 2, /* a slice for results is too short; place: the entries that it needs */
     FLOWSHOP_CPU = 3, /* the processor lacks something of x86-64-v2, such as SSE4.2 or POPCNT */
+    FLOWSHOP_NULL = 4, /* a pointer is null: an argument, or of a slice */
 
     /* The numbers are no shop. */
     FLOWSHOP_JOBS = 10, /* the jobs are not 1 to 800 */
@@ -318,6 +319,7 @@ static inline const char *flowshop_status_name(uint32_t status) {
     case FLOWSHOP_MEMORY: return "MEMORY";
     case FLOWSHOP_ROOM: return "ROOM";
     case FLOWSHOP_CPU: return "CPU";
+    case FLOWSHOP_NULL: return "NULL";
     case FLOWSHOP_JOBS: return "JOBS";
     case FLOWSHOP_MACHINES: return "MACHINES";
     case FLOWSHOP_COUNT: return "COUNT";

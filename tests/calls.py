@@ -9,6 +9,7 @@ import re
 import subprocess
 import sys
 
+import records
 import reference
 import refusals
 from counts import EXAMPLES, PROGRAM, TOP, end, new_folder
@@ -385,6 +386,22 @@ def refuse_answers():
         equal(f"the answer {answer} to no task", put_to(run, numbers, *answer), ("ANSWER", 0))
 
 
+def refuse_null_pointers():
+    """Each call with each of its pointers null."""
+    records.last.has_nulls = True
+    numbers, run = (16, 9, 1, 1), run_of(SHOP, START)
+    for make in (
+        lambda: generate(3, 3, 1), lambda: block(b"one\n1 1 0 0 0\ntimes\n5\n", 1), lambda: makespan(SHOP, START),
+        lambda: makespans(SHOP, START + START), lambda: timetable(SHOP, START), lambda: picture(SHOP, START, 5_000),
+        lambda: neh(SHOP), lambda: improve(SHOP, START), lambda: check(SHOP, refusals.LEAST), lambda: solve(SHOP, START),
+        lambda: certify(SHOP, START), lambda: next_of(run, numbers), lambda: put_to(run, numbers, 3, 0, 0, 0),
+        lambda: text_of(SHOP, START, 10, b""), lambda: prove(SHOP, 13), lambda: beam(SHOP, START),
+        lambda: rounds(SHOP, START),
+    ):
+        make()
+    records.last.has_nulls = False
+
+
 def refuse_texts():
     """Benchmark texts and certificates, with their first faults, and such texts cut off after each byte."""
     for text, fault, *_ in refusals.TEXTS:
@@ -580,7 +597,7 @@ def main():
     """Runs all, and says how many were as they should be."""
     major, minor, patch = map(int, (TOP / "VERSION").read_text().split("."))
     equal("the version", LIBRARY.flowshop_version(), major * 1_000_000 + minor * 1_000 + patch)
-    for part in (refuse_arguments, refuse_rooms, refuse_answers, refuse_texts, compare_calls):
+    for part in (refuse_arguments, refuse_rooms, refuse_answers, refuse_null_pointers, refuse_texts, compare_calls):
         part()
     draw = random.Random(20_261_125)
     for _ in range(200):

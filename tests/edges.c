@@ -155,6 +155,7 @@ static struct {
     flowshop_bounds *bounds;
     flowshop_text *text;
     flowshop_part *part;
+    flowshop_run_state *run;
     uint64_t *makespan;
 } lent;
 
@@ -214,6 +215,7 @@ static void lend_all(const size_t *lengths) {
     lent.rounds = lend(&ROUNDS, sizeof ROUNDS);
     lent.makespan = lend(NULL, sizeof *lent.makespan);
     *lent.makespan = 7;
+    lent.run = lend(NULL, sizeof *lent.run);
     RECORD(block, 7, 7, slices[TIMES], lengths[TIMES], 7, 7, 7);
     RECORD(spans, slices[STARTS], lengths[STARTS], slices[ENDS], lengths[ENDS]);
     RECORD(reached, slices[SEQUENCE], lengths[SEQUENCE], 7, 7);
@@ -246,6 +248,7 @@ static uint64_t written(void) {
         lent.part->rest_length};
     uint64_t sum = 1469598103934665603u;
     for (size_t i = 0; i < sizeof numbers / sizeof *numbers; i++) sum = (sum ^ numbers[i]) * 1099511628211u;
+    for (size_t at = 0; at < sizeof *lent.run; at++) sum = (sum ^ ((uint8_t *)lent.run)[at]) * 1099511628211u;
     for (int i = TIMES; i < LENGTHS; i++)
         for (size_t at = 0; at < lent.lengths[i] * WIDTHS[i]; at++)
             sum = (sum ^ ((uint8_t *)lent.slices[i])[at]) * 1099511628211u;
@@ -271,6 +274,8 @@ CALL(improve, flowshop_improve(ON_SHOP, lent.effort, lent.reached))
 CALL(check, flowshop_check(lent.shop, lent.certificate, of.certificate_count, lent.bounds))
 CALL(solve, flowshop_solve(ON_SHOP, lent.plan, lent.bounds, lent.text))
 CALL(certify, flowshop_certify(ON_SHOP, lent.effort, DIRECTIONS_MOST, lent.bounds, lent.text))
+CALL(run, flowshop_run(ON_SHOP, DIRECTIONS_MOST, 1, lent.run))
+CALL(run_text, flowshop_run_text(ON_SHOP, 5, lent.certificate, of.certificate_count, lent.text))
 CALL(prove, flowshop_prove(lent.shop, lent.root, of.upper, lent.part))
 CALL(prove_node, flowshop_prove(lent.shop, lent.node, of.upper + 1, lent.part))
 CALL(beam, flowshop_beam(ON_SHOP, lent.beam, lent.reached))
@@ -289,7 +294,8 @@ static const struct call {
     {"timetable", timetable, READ | BIT(STARTS) | BIT(ENDS)}, {"picture", picture, READ | BIT(TEXT)},
     {"neh", neh, BIT(SHOP_TIMES) | BIT(SEQUENCE)}, {"improve", improve, READ | BIT(SEQUENCE)},
     {"check", check, BIT(SHOP_TIMES) | BIT(SEQUENCE)}, {"solve", solve, READ | BIT(SEQUENCE) | BIT(TEXT)},
-    {"certify", certify, READ | BIT(SEQUENCE) | BIT(TEXT)},
+    {"certify", certify, READ | BIT(SEQUENCE) | BIT(TEXT)}, {"run", run, READ},
+    {"run_text", run_text, READ | BIT(TEXT)},
     {"prove", prove, BIT(SHOP_TIMES) | BIT(SEQUENCE) | BIT(REST)},
     {"prove of a node", prove_node, BIT(SHOP_TIMES) | BIT(SEQUENCE) | BIT(REST)},
     {"beam", beam, READ | BIT(SEQUENCE)}, {"rounds", rounds, READ | BIT(SEQUENCE)}};

@@ -12,6 +12,7 @@ static const flowshop_effort EFFORT = {16, 10, 1, 1};
 static const flowshop_plan PLAN = {0, 1000, 1};
 static const flowshop_beam_options BEAM = {0, 16, 1000000};
 static const flowshop_rounds_options ROUNDS = {10, 1, 1000000};
+static const flowshop_answer ANSWER = {FLOWSHOP_OVER, 0, 0, 0};
 static const char BLOCK[] = "one\n2 2 5 9 8\ntimes\n1 14\n75 46\n";
 static const char CERTIFICATE[] = "flowshop two-ended 1\n3 3\n12 12\n3 1 2\n-+\nend\n";
 
@@ -27,8 +28,12 @@ struct rooms {
     flowshop_reached reached;
     flowshop_bounds bounds;
     flowshop_part part;
+    flowshop_run_state run;
+    flowshop_task task;
+    uint32_t better;
 };
 static struct rooms rooms, before;
+static flowshop_run_state run; /* one that has begun */
 
 /* All rooms as they are before a call. */
 static void begin(void) {
@@ -43,6 +48,7 @@ static void begin(void) {
     rooms.reached.sequence_count = rooms.bounds.sequence_count = rooms.part.sequence_count = 3;
     rooms.part.rest = rooms.rest;
     rooms.part.rest_count = 28;
+    rooms.run = run;
     memcpy(&before, &rooms, sizeof rooms);
 }
 
@@ -70,6 +76,11 @@ int main(void) {
     MAKE(check, &SHOP, certificate, sizeof CERTIFICATE - 1, &rooms.bounds);
     MAKE(solve, &SHOP, START, 3, &PLAN, &rooms.bounds, &rooms.text);
     MAKE(prove, &SHOP, &root, 12, &rooms.part);
+    MAKE(run, &SHOP, START, 3, 1000, 0, &rooms.run);
+    run = rooms.run;
+    MAKE(run_next, &rooms.run, &EFFORT, &rooms.task);
+    MAKE(run_put, &rooms.run, &EFFORT, &ANSWER, &rooms.better);
+    MAKE(run_text, &SHOP, START, 3, 10, certificate, 0, &rooms.text);
     MAKE(beam, &SHOP, START, 3, &BEAM, &rooms.reached);
     MAKE(rounds, &SHOP, START, 3, &ROUNDS, &rooms.reached);
     return 0;

@@ -14,7 +14,15 @@ STATUSES = re.findall(r"FLOWSHOP_(\w+) = (\d+)", HEADER.partition("enum flowshop
 NAMES = {int(number): name for name, number in STATUSES}
 U8, U16, U32, U64, SIZE = ctypes.c_uint8, ctypes.c_uint16, ctypes.c_uint32, ctypes.c_uint64, ctypes.c_size_t
 
-last = threading.local()
+
+
+class Last(threading.local):
+    """Of each thread the last call, and whether its calls are also made with each pointer null."""
+
+    call, has_nulls = ("none", ()), False
+
+
+last = Last()
 
 
 def equal(what, got, wanted):
@@ -138,6 +146,8 @@ def call(name, *words):
     made.restype = Outcome
     records = [word for word in words if isinstance(word, ctypes.Structure)]
     before = [slices(word) for word in records]
+    if last.has_nulls:
+        refuse_nulls(made, words, records)
     outcome = made(*arguments(words))
     equal("where the slices are", [slices(word) for word in records], before)
     if outcome.status:
@@ -150,6 +160,23 @@ def call(name, *words):
         return NAMES[outcome.status], outcome.place
     equal("the place of a call that is done", outcome.place, 0)
     return None
+
+
+def refuse_nulls(made, words, records):
+    """Makes a call with each of its pointers null, and of the records that it is lent: it says so, and nothing more."""
+    given_ = [*arguments(words)]
+    for place, word in enumerate(given_):
+        if not isinstance(word, ctypes._SimpleCData):
+            outcome = made(*given_[:place], None, *given_[place + 1 :])
+            equal(f"argument {place} that is null", (outcome.status, outcome.place), (4, 0))
+    for record_ in records:
+        for name, *_ in record_._fields_:
+            if f"{name}_count" in dir(record_):
+                pointer, lent_ = getattr(record_, name), record_._objects  # what keeps the entries
+                setattr(record_, name, None)
+                outcome = made(*arguments(words))
+                setattr(record_, name, pointer)
+                equal(f"{name} that is null", (outcome.status, outcome.place, lent_ is None), (4, 0, False))
 
 
 def slices(word):

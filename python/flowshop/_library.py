@@ -9,6 +9,7 @@ STATUSES: Dict[int, str] = {
     1: "MEMORY",
     2: "ROOM",
     3: "CPU",
+    4: "NULL",
     10: "JOBS",
     11: "MACHINES",
     12: "COUNT",

@@ -92,6 +92,8 @@ statuses! {
     FLOWSHOP_ROOM = 2;
     /// The processor lacks something of x86-64-v2, such as SSE4.2 or POPCNT.
     FLOWSHOP_CPU = 3;
+    /// A pointer is null: an argument, or of a slice.
+    FLOWSHOP_NULL = 4;
     /// The jobs are not 1 to 800.
     FLOWSHOP_JOBS = 10;
     /// The machines are not 1 to 26.
