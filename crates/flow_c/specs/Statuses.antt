@@ -1,4 +1,4 @@
--- The numbers of statuses. `library/flowshop.h` has the same ones, and 3, which `library/cpu.s` answers.
+-- The numbers of statuses. `library/flowshop.h` has the same ones, and 3 and 4, which `library/cpu.s` answers.
 use Rattle.std.specs.Prelude.{ℕ}
 use Rattle.flow_shop.specs.declared.instance.InstanceFault.{InstanceFault}
 use Rattle.flow_shop.specs.declared.instance.InstanceFault.TheVariants as instance
