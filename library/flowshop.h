@@ -27,8 +27,9 @@
  * returns, and gives what its comment says: the status, the value, the sequence, the certificate. The contracts stand
  * in crates/flow_c/src, and the numbers of the statuses in crates/flow_c/specs/Statuses.antt. Not proved are how
  * the searches of flowshop_improve, flowshop_beam and flowshop_rounds go, and so how good what they reach is, and what
- * `whole` says of a makespan above Taillard's bound; this header, the tests of pointers and of the processor
- * (library/cpu.s), the compiler, the C library, and how much time or memory a call takes. */
+ * `whole` says of a makespan above Taillard's bound; which of the tasks that a run may ask for is next; this header, the
+ * tests of pointers and of the processor (library/cpu.s), the compiler, the C library, and how much time or memory a
+ * call takes. */
 #ifndef FLOWSHOP_H
 #define FLOWSHOP_H
 
@@ -502,15 +503,15 @@ FLOWSHOP_CALL flowshop_outcome flowshop_run(const flowshop_shop *shop, const uin
     FLOWSHOP_NOEXCEPT;
 
 /* What a run asks for next: a search for a number above its lower bound and at most its upper one, a beam or rounds, or
- * nothing more. What a task does not need is 0. Asked again, it is the same.
+ * nothing more. What a task does not need is 0. The effort is the same in all calls of a run.
  * Faults in order: WIDTH, ROUNDS, SEED, WORK. */
 FLOWSHOP_CALL flowshop_outcome flowshop_run_next(flowshop_run_state *run, const flowshop_effort *effort,
                                                  flowshop_task *task) FLOWSHOP_NOEXCEPT;
 
 /* Tells a run what became of the task that is next. `better` becomes 1 where the sequence of the answer is to be kept
  * as the best one, else 0. Nothing tests that the answer is true: the bounds of the run are proved where it is what
- * flowshop_prove, flowshop_beam or flowshop_rounds gave. No answer to a search is directions above its budget, or a
- * sequence that is not below its number.
+ * flowshop_prove, flowshop_beam or flowshop_rounds gave for this task. More directions than the budget of a search, or
+ * a sequence that is not below its number, are no answer to it.
  * Faults in order: WIDTH, ROUNDS, SEED, WORK; ANSWER. */
 FLOWSHOP_CALL flowshop_outcome flowshop_run_put(flowshop_run_state *run, const flowshop_effort *effort,
                                                 const flowshop_answer *answer, uint32_t *better) FLOWSHOP_NOEXCEPT;

@@ -1,11 +1,11 @@
 -- Runs of `certify`, task by task: what is asked for, and what an answer changes.
-use Rattle.std.specs.Prelude.{ℕ, ◌≡◌, Bool, false, true, cond, nat_eq, Option, Some, None, ◌∷◌, [], List, length, not}
+use Rattle.std.specs.Prelude.{ℕ, ◌≡◌, ◌⊎◌, Bool, false, true, cond, nat_eq, Option, Some, None, ◌∷◌, [], List, length, not}
 use Rattle.std.specs.Option.{option_map}
 use Rattle.flow_shop.specs.Shop.{Shop}
 use Rattle.flow_shop.specs.Paths.{span}
 use Rattle.flow_shop.specs.Refusals.{first_fault}
 use Rattle.flow_check.specs.TwoEnded.{two_ended_text}
-use Rattle.flow_certify.specs.Tasks.{HasSameBounds, IsAsked, lower_after, makespan_of, may_become}
+use Rattle.flow_certify.specs.Tasks.{HasSameBounds, IsAnswered, IsAsked, may_become}
 use Rattle.flow_certify.specs.declared.run.Run.{Run}
 use Rattle.flow_certify.specs.declared.task.Task.{Task}
 use Rattle.flow_certify.specs.declared.task.Task.TheVariants as task
@@ -100,18 +100,28 @@ answer_of answer =
 pub record IsNext (old new : Run) (numbers : TaskNumbers) : Type 0 where
   pub asked : (task : Task) × IsAsked new task × (numbers ≡ task_numbers task)
   pub bounds : HasSameBounds old new
+  pub tasks : new.tasks ≡ old.tasks
 
--- after an answer to a task that the run may ask for, its bounds are those that the answer shows
+-- the answer that numbers say is taken: a run with these bounds may ask for a task that it fits, and has it answered
 pub record IsPut (old new : Run) (numbers : AnswerNumbers) (better : Bool) : Type 0 where
   pub answer : Answer
   pub said : answer_of numbers ≡ Some answer
+  pub asking : Run
+  pub bounds : HasSameBounds old asking
+  pub tasks : asking.tasks ≡ old.tasks
   pub task : Task
-  pub asked : IsAsked old task
+  pub asked : IsAsked asking task
   pub becomes : may_become task answer ≡ true
-  pub lower : new.lower ≡ lower_after old.lower task answer
-  pub upper : new.upper ≡ cond better (makespan_of answer) old.upper
+  pub answered : IsAnswered asking new task answer better
+
+-- no answer: the numbers say none; or a run with these bounds may ask for a task that it does not fit
+abbrev pub IsNoAnswer : Run → AnswerNumbers → Type 0
+IsNoAnswer old numbers =
+    (answer_of numbers ≡ None)
+    ⊎ ((asking : Run) × (task : Task) × (answer : Answer) × HasSameBounds old asking × IsAsked asking task
+    × (answer_of numbers ≡ Some answer) × (may_become task answer ≡ false))
 
 -- why no answer is taken: the numbers of the effort are refused; or it is none to the task that is next
-abbrev pub IsPutFault : Option EffortFault → Fault → Type 0
-IsPutFault (Some of_effort) fault = fault ≡ Effort of_effort
-IsPutFault None fault = fault ≡ NoAnswer
+abbrev pub IsPutFault : Option EffortFault → Run → AnswerNumbers → Fault → Type 0
+IsPutFault (Some of_effort) old numbers fault = fault ≡ Effort of_effort
+IsPutFault None old numbers fault = (fault ≡ NoAnswer) × IsNoAnswer old numbers

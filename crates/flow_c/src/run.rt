@@ -1,9 +1,12 @@
 //! A run of `certify`, task by task.
 
-ghost use Rattle.std.specs.Prelude.{◌≡◌, ◌⊎◌, ◌+◌, ◌≤◌, Bool, cond, None, IfOk, OnOk, IfErr, OnErr, [], length, drop};
+ghost use Rattle.std.specs.Prelude.{◌≡◌, ◌⊎◌, ◌+◌, ◌≤◌, min, nat_eq, Bool, cond, None, [], length, drop};
+ghost use Rattle.std.specs.Prelude.{IfOk, OnOk, IfErr, OnErr};
 ghost use Rattle.std.specs.Option.{option_map};
 ghost use Rattle.flow_shop.specs.Paths.{span};
 ghost use Rattle.flow_shop.specs.Ends.{end_bound};
+ghost use Rattle.flow_bound.specs.Taillard.{taillard_bound};
+ghost use Rattle.flow_certify.specs.Signs.{most_signs};
 ghost use Rattle.flow_c.specs.Statuses.{number, done, memory};
 ghost use Rattle.flow_c.specs.Faults.{shop_of, numbers_fault, fault_of_effort, IsFaultOf, IsDone, HasFault, Reports};
 ghost use Rattle.flow_c.specs.Rooms.{IsSameRoom, text_in};
@@ -94,6 +97,9 @@ fn run_of(
 ) -> Result<Run, Fault>
     ensures lower { IfOk result (λ run. run.lower ≡ end_bound (shop_of shop.now) [] []) }
     ensures upper { IfOk result (λ run. run.upper ≡ span (shop_of shop.now) start.now) }
+    ensures least { IfOk result (λ run. run.least ≡ taillard_bound (shop_of shop.now)) }
+    ensures most { IfOk result (λ run. run.fund.most ≤ min directions most_signs) }
+    ensures limited { IfOk result (λ run. run.limited ≡ cond (nat_eq limited 0) 0 1) }
     ensures accepted { OnOk result (run_fault shop.now start.now directions ≡ None) }
     ensures refused { IfErr result (IsFaultOf (run_fault shop.now start.now directions)) }
     ensures memory { IfErr result (λ fault. number fault ≡ memory → numbers_fault shop.now ≡ None) }
@@ -119,6 +125,9 @@ pub extern "C" fn flowshop_run(
     ensures memory { result.status ≡ memory → numbers_fault shop.now ≡ None }
     ensures lower { result.status ≡ done → run.new.lower ≡ end_bound (shop_of shop.now) [] [] }
     ensures upper { result.status ≡ done → run.new.upper ≡ span (shop_of shop.now) start.now }
+    ensures least { result.status ≡ done → run.new.least ≡ taillard_bound (shop_of shop.now) }
+    ensures most { result.status ≡ done → run.new.fund.most ≤ min directions most_signs }
+    ensures limited { result.status ≡ done → run.new.limited ≡ cond (nat_eq limited 0) 0 1 }
     ensures stays { result.status ≡ done → result.place ≡ 0 }
     ensures kept { (result.status ≡ done) ⊎ (run.new ≡ run.old) }
 {
@@ -187,7 +196,7 @@ fn numbers_of_task(task: Task) -> TaskNumbers
     numbers
 }
 
-/// What a run asks for next. Asked again, it is the same.
+/// What a run asks for next.
 #[unsafe(no_mangle)]
 pub extern "C" fn flowshop_run_next(
     run: &mut Run,
@@ -211,7 +220,7 @@ pub extern "C" fn flowshop_run_next(
 fn take(run: &mut Run, effort: &EffortNumbers, answer: &AnswerNumbers) -> Result<bool, Fault>
     ensures put { IfOk result (IsPut run.old run.new answer.now) }
     ensures accepted { OnOk result (fault_of_effort effort.now ≡ None) }
-    ensures refused { IfErr result (IsPutFault (fault_of_effort effort.now)) }
+    ensures refused { IfErr result (IsPutFault (fault_of_effort effort.now) run.old answer.now) }
     ensures kept { OnErr result (run.new ≡ run.old) }
 {
     let effort = effort.effort()?;
@@ -234,7 +243,8 @@ pub extern "C" fn flowshop_run_put(
     ensures put { result.status ≡ done →
         (is_better : Bool) × IsPut run.old run.new answer.now is_better × (better.new ≡ cond is_better 1 0) }
     ensures accepted { result.status ≡ done → fault_of_effort effort.now ≡ None }
-    ensures status { IsDone result ⊎ ((fault : Fault) × IsPutFault (fault_of_effort effort.now) fault × HasFault fault result) }
+    ensures status { IsDone result ⊎ ((fault : Fault)
+        × IsPutFault (fault_of_effort effort.now) run.old answer.now fault × HasFault fault result) }
     ensures kept { (result.status ≡ done) ⊎ ((run.new ≡ run.old) × (better.new ≡ better.old)) }
 {
     match take(run, effort, answer) {

@@ -1,5 +1,5 @@
 -- What a run of `certify` asks for, and what an answer changes.
-use Rattle.std.specs.Prelude.{ℕ, ◌≡◌, ◌<◌, ◌≤◌, ◌-◌, Bool, true, false, cond, nat_lt, nat_le}
+use Rattle.std.specs.Prelude.{ℕ, ◌≡◌, ◌<◌, ◌≤◌, ◌-◌, ◌⊎◌, ◌&&◌, Bool, true, false, cond, nat_lt, nat_le}
 use Rattle.flow_certify.specs.declared.run.Run.{Run}
 use Rattle.flow_certify.specs.declared.task.Task.{Task}
 use Rattle.flow_certify.specs.declared.task.Task.TheVariants.{Search, Beam, Rounds, End}
@@ -7,13 +7,20 @@ use Rattle.flow_certify.specs.declared.task.Origin.TheVariants.{Start, Best, Bef
 use Rattle.flow_certify.specs.declared.task.Answer.{Answer}
 use Rattle.flow_certify.specs.declared.task.Answer.TheVariants.{Proved, Below, Over, Reached}
 
--- what a run may ask for: searches below thresholds above its lower bound, up to its upper one, within its budgets
+-- how many acts a run has
+abbrev pub acts : ℕ
+acts = 38
+
+-- what a run may ask for: a search below a threshold above its lower bound, up to its upper one, that writes at least
+-- one direction, and no more than its greatest budget and than are left; a beam; rounds; or nothing, where its best
+-- sequence is proved, it has made its acts, or no task more may follow
 abbrev pub IsAsked : Run → Task → Type 0
 IsAsked run (Search threshold budget) =
-    (run.lower < threshold) × (threshold ≤ run.upper) × (budget ≤ run.fund.most)
-IsAsked run (Beam from limits) = Unit {0}
-IsAsked run (Rounds from limits) = Unit {0}
-IsAsked run End = Unit {0}
+    (run.lower < threshold) × (threshold ≤ run.upper) × (0 < budget) × (budget ≤ run.fund.most)
+    × (budget ≤ run.fund.left)
+IsAsked run (Beam from limits) = run.lower < run.upper
+IsAsked run (Rounds from limits) = run.lower < run.upper
+IsAsked run End = (run.upper ≤ run.lower) ⊎ (acts ≤ run.act) ⊎ (run.tasks ≡ 0)
 
 -- two runs have the same bounds, and the same greatest budget
 pub record HasSameBounds (before after : Run) : Type 0 where
@@ -21,11 +28,12 @@ pub record HasSameBounds (before after : Run) : Type 0 where
   pub upper : after.upper ≡ before.upper
   pub most : after.fund.most ≡ before.fund.most
 
--- whether this may become of a task: a proof within its budget, or a sequence below its threshold, of a search; a
--- sequence of a beam or of rounds
+-- whether this may become of a task: within its budget a proof, or a sequence below its threshold, of a search; or that
+-- the search was over; a sequence of a beam or of rounds
 abbrev pub may_become : Task → Answer → Bool
 may_become (Search threshold budget) (Proved directions) = nat_le directions budget
-may_become (Search threshold budget) (Below makespan directions) = nat_lt makespan threshold
+may_become (Search threshold budget) (Below makespan directions) =
+    nat_lt makespan threshold && nat_le directions budget
 may_become (Search threshold budget) Over = true
 may_become (Search threshold budget) (Reached makespan whole) = false
 may_become (Beam from limits) (Proved directions) = false

@@ -4,6 +4,7 @@ ghost use Rattle.std.specs.Prelude.{◌≡◌, ◌↔◌, ◌<◌, ◌≤◌, mi
 ghost use Rattle.std.specs.Prelude.{IfSome, IsSomeAnd, IsTrue};
 ghost use Rattle.flow_shop.specs.Paths.{span};
 ghost use Rattle.flow_shop.specs.Ends.{end_bound};
+ghost use Rattle.flow_bound.specs.Taillard.{taillard_bound};
 ghost use Rattle.flow_certify.specs.Signs.{most_signs};
 ghost use Rattle.flow_certify.specs.Tasks.{IsAnswered, IsAsked, HasSameBounds, may_become};
 
@@ -70,7 +71,9 @@ impl Run {
         requires { length start.now ≡ instance.now.jobs }
         ensures lower { result.lower ≡ end_bound instance.now [] [] }
         ensures upper { result.upper ≡ span instance.now start.now }
+        ensures least { result.least ≡ taillard_bound instance.now }
         ensures most { result.fund.most ≤ min most most_signs }
+        ensures limited { result.limited ≡ cond limited 1 0 }
     {
         let upper = makespan(instance, start);
         let least = taillard_bound(instance);
@@ -102,14 +105,14 @@ impl Run {
         self.lower >= self.upper
     }
 
-    /// What is to be done next. Asked again, it says the same.
+    /// What is to be done next.
     pub fn next(&mut self, effort: &Effort) -> Task
         ensures asked { IsAsked self.new result }
         ensures bounds { HasSameBounds self.old self.new }
         ensures tasks { self.new.tasks ≡ self.old.tasks }
     {
         'acts: while let Some(act) = ACTS.get(self.act as usize) {
-            if self.is_proved() {
+            if self.is_proved() || self.tasks == 0 {
                 break;
             }
             if let Some(task) = self.task_of(*act, effort) {
@@ -165,6 +168,7 @@ impl Run {
 
     /// Rounds from a sequence, where there are some, and the best sequence has not Taillard's lower bound.
     fn rounds(&self, from: Origin, limits: RunLimits) -> Option<Task>
+        requires { self.now.lower < self.now.upper }
         ensures { IfSome result (IsAsked self.now) }
     {
         if limits.rounds() == 0 || self.upper <= self.least {
@@ -331,7 +335,7 @@ impl Run {
 
 /// A beam from a sequence, where it has a width.
 fn beam(from: Origin, below: Option<u64>, width: u32, work: u64) -> Option<Task>
-    ensures { (run : Run) → IfSome result (IsAsked run) }
+    ensures { (run : Run) → run.lower < run.upper → IfSome result (IsAsked run) }
 {
     if width == 0 {
         return None;

@@ -71,16 +71,20 @@ pub enum Answer {
 }
 
 impl Task {
-    /// Whether this may become of the task: a proof within its budget, or a smaller makespan than its threshold, of a
-    /// search; a sequence of a beam or of rounds.
+    /// Whether this may become of the task: within its budget a proof, or a smaller makespan than its threshold, of a
+    /// search; or that it was over; a sequence of a beam or of rounds.
     pub(crate) fn may_become(&self, answer: &Answer) -> bool
         ensures { result ≡ may_become self.now answer.now }
     {
         match (self, answer) {
             (Task::Search { budget, .. }, Answer::Proved { directions }) => directions <= budget,
-            (Task::Search { threshold, .. }, Answer::Below { makespan, .. }) => {
-                makespan < threshold
-            }
+            (
+                Task::Search { threshold, budget },
+                Answer::Below {
+                    makespan,
+                    directions,
+                },
+            ) => makespan < threshold && directions <= budget,
             (Task::Search { .. }, Answer::Over) => true,
             (Task::Beam { .. } | Task::Rounds { .. }, Answer::Reached { .. }) => true,
             _ => false,
