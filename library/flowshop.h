@@ -27,9 +27,9 @@
  * returns, and gives what its comment says: the status, the value, the sequence, the certificate. The contracts stand
  * in crates/flow_c/src, and the numbers of the statuses in crates/flow_c/specs/Statuses.antt. Not proved are how
  * the searches of flowshop_improve, flowshop_beam and flowshop_rounds go, and so how good what they reach is, and what
- * `whole` says of a makespan above Taillard's bound; which of the tasks that a run may ask for is next; this header, the
- * tests of pointers and of the processor (library/cpu.s), the compiler, the C library, and how much time or memory a
- * call takes. */
+ * `whole` says of a makespan above Taillard's bound; which of the tasks that a run may ask for is next; this header,
+ * the tests of pointers and of the processor (library/cpu.s), the compiler, the C library, and how much time or memory
+ * a call takes. */
 #ifndef FLOWSHOP_H
 #define FLOWSHOP_H
 
