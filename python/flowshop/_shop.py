@@ -7,7 +7,6 @@ import re
 from array import array
 from contextlib import suppress
 from dataclasses import asdict, replace
-from functools import partial
 from math import perm
 from typing import (
     Any, Callable, Collection, Dict, Hashable, Iterable, List, NamedTuple, NoReturn, Optional, Tuple, Union
@@ -36,6 +35,7 @@ from ._sequences import packed_many, packed_node
 from ._spread import Map, Workers
 from ._tables import Table, read_kept, read_table
 from ._texts import Text, block_text, blocks_of, is_certificate, not_lawful, order_of, start_of, text_of, written
+from ._threads import with_stack
 from ._waiting import Progress, Token, Watch, waited, waited_for
 
 # The most bytes that a text has beside its trees or its directions.
@@ -688,9 +688,9 @@ class Shop(metaclass=Brief):
         run with a time limit raises the lower bound early, and may give another certificate also where it ends before.
         `progress` is called with a Progress, a few times a second; where it is True, a line on standard error tells the
         same. An interrupt ends the call within a second, as Interrupted, whose `result` is a certificate of the best
-        bounds so far; an error of `progress` or of the map has such a `result` too. Without a map and a time limit the
-        certificate was read by `check`. `by` is that of `makespan`. Errors are those of `improve`, and those of the
-        map.
+        bounds so far; an error of `progress` or of the map has such a `result` too. Where the run has ended, without a
+        map and a time limit, the certificate was read by `check`; one of a run that was stopped was not. `by` is that
+        of `makespan`. Errors are those of `improve`, and those of the map.
 
         A `token`, such as a threading.Event, ends the call from another thread as a time limit does, once it is set.
         A certificate of a run that was stopped has a `state`: with `resume` as such a state, a file of it
@@ -713,7 +713,7 @@ class Shop(metaclass=Brief):
             state = self._resumed(resume)
         at_once = min(4, count) if map is None else 4
         found = self._certify(state, Workers(map, count, at_once), Watch(limit, progress, token))
-        return self._read(found) if map is None and limit is None else found
+        return self._read(found) if map is None and limit is None and found.state is None else found
 
     def _begin(self, start: Optional[bytes], effort: Effort, directions: int, is_limited: bool) -> State:
         """The state of a run at its beginning, from a sequence, or from that of `neh`."""
@@ -745,9 +745,9 @@ class Shop(metaclass=Brief):
         run = Run(self._parts[:3], state.effort, state.kept)
 
         def found() -> Certificate:
-            kept = run.kept
-            goes_on = None if run.has_ended else partial(state._replace(kept=kept).written, self._parts[:3])
-            return replace(self._certificate(kept.known()), _state=goes_on)
+            has_ended, kept = run.has_ended, run.kept  # in this order: what it keeps when it ends is the last
+            written = None if has_ended else state._replace(kept=kept).written(self._parts[:3])
+            return replace(self._certificate(kept.known()), _state=written)
 
         try:
             run.search_until(watch, workers)
@@ -766,7 +766,7 @@ class Shop(metaclass=Brief):
         def write(room: TextRoom) -> None:
             self._call("run_text", known.sequence, known.lower, directions, len(directions), room)
 
-        text = written(_BESIDE + len(directions), write)
+        text = with_stack(lambda: written(_BESIDE + len(directions), write))
         return Certificate(known.lower, known.upper, jobs, text, self._named(jobs), self)
 
     def check(self, text: Text) -> Certificate:
