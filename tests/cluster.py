@@ -186,7 +186,7 @@ def follow_manual():
         equal("budgets that are cut off", budgets, [10_000, 100_000, cut[0], 10_000, 33_333, cut[1]])
         # The beam comes to a better sequence, and rounds from the start to one that has Taillard's bound.
         least = taillard_bound(SOME)
-        better = [_parts.Reached(bytes(40), makespan, makespan == least) for makespan in (upper - 1, least)]
+        better = [_parts.Reached(SOME._in_order(), makespan, makespan == least) for makespan in (upper - 1, least)]
         given = {("beam", 0, 100, 12_000_000): better[0], ("rounds", 30, 3, 1_000_000): better[1]}
         with mock.patch.object(Traced, "given", given):
             equal("what is taken", SOME.certify(**choice).upper, least)
