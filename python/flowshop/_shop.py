@@ -694,8 +694,10 @@ class Shop(metaclass=Brief):
 
         A `token`, such as a threading.Event, ends the call from another thread as a time limit does, once it is set.
         A certificate of a run that was stopped has a `state`: with `resume` as such a state, a file of it
-        (pathlib.Path), or that certificate a run goes on behind the last task that it had done, with its own numbers,
-        and comes to what it would have come to. OptionError where it is no state of a run of this shop.
+        (pathlib.Path), or that certificate a run goes on behind the last task that it had done, and comes to what it
+        would have come to. Its width, rounds, seed, work and directions are those of the state, whatever is given, and
+        so is its start: `start` and `by` are left out. OptionError where they are not, or where it is no state of a run
+        of this shop by this version.
 
         >>> certificate = shop.certify(workers=4, time_limit=60)
         >>> certificate.lower, certificate.upper
@@ -710,7 +712,7 @@ class Shop(metaclass=Brief):
         if resume is None:
             state = self._begin(self._begun(start, by), effort, most, limit is not None)
         else:
-            state = self._resumed(resume)
+            state = self._resumed(resume, start, by)
         at_once = min(4, count) if map is None else 4
         found = self._certify(state, Workers(map, count, at_once), Watch(limit, progress, token))
         return self._read(found) if map is None and limit is None and found.state is None else found
@@ -720,13 +722,15 @@ class Shop(metaclass=Brief):
         first = self._begun(None) if start is None else start
         return State(effort, directions, begun(self._parts[:3], first, directions, is_limited))
 
-    def _resumed(self, resume: Union[bytes, os.PathLike[str], Certificate]) -> State:
-        """A state whose bounds the checker has read. OptionError where it is none."""
+    def _resumed(self, resume: Union[bytes, os.PathLike[str], Certificate], start: Optional[Jobs], by: By) -> State:
+        """A state whose bounds the checker has read. OptionError where it is none, or comes with a start."""
+        if start is not None or by is not None:
+            raise refused("resume has a start of its own: leave out start and by")
         given = resume.state if isinstance(resume, Certificate) else resume
         state = state_of(self._parts[:3], b"" if given is None else text_of(given))
         known = state.kept.known()
         try:
-            found = self.check(self._certificate(known))
+            found = waited(lambda: self.check(self._certificate(known)))
         except NotLawful:
             raise refused() from None
         if (found.lower, found.upper) != (known.lower, known.upper):
