@@ -403,7 +403,8 @@ def refuse_states():
         *[(f"a sequence {place} that is none", but(4 + place, line)) for place, line in enumerate(twice)],
         *[(f"a sequence {place} that is short", but(4 + place, line[2:])) for place, line in enumerate(lists)],
         ("another shop of its size", other), ("another shop", SOME.certify(**LONG, time_limit=0).state),
-        ("one that is cut off", state[: len(state) // 2]), ("no bytes", b""), ("a run that has ended", HARD.certify(**{**LONG, "directions": 10, "work": 0})),
+        ("one that is cut off", state[: len(state) // 2]), ("no bytes", b""),
+        ("a run that has ended", HARD.certify(**{**LONG, "directions": 10, "work": 0})),
     ]:
         got = refused(HARD.certify, resume=wrong, token=token)
         wanted = "OptionError", "RESUME", 0, sentence
