@@ -172,11 +172,14 @@ def done(shop, task, start):
     return (4, whole, value, 0), sequence, b""
 
 
-def certify_by_tasks(shop, start, numbers, limited=0):
+def certify_by_tasks(shop, start, numbers, limited=0, asked=None):
     """What the tasks of a run come to, each done by its own call; and that each of them leaves bounds that are proved,
-    and asks for no more than these leave open."""
+    and asks for no more than these leave open. `asked` takes the step and the kind of each task, and whether it raises
+    the lower bound."""
     run, kept, directions = run_of(shop, start, numbers[4], limited), [start] * 3, b""
     while (task := next_of(run, numbers)).kind:
+        if asked is not None:
+            asked.append((run.step, task.kind, task.kind == 1 and task.number < run.upper))
         equal("a threshold between the bounds", task.kind != 1 or run.lower < task.number <= run.upper, True)
         equal("a budget", task.budget <= numbers[4], True)
         answer, sequence, text = done(shop, task, kept[task.origin])
@@ -184,8 +187,9 @@ def certify_by_tasks(shop, start, numbers, limited=0):
             kept = [start, sequence, kept[1]]
         elif answer[0] == 1:
             directions = text
-        equal("what is kept", check(shop, text_of(shop, kept[1], run.lower, directions)), (kept[1], run.lower, run.upper))
-    return kept[1], run.lower, run.upper, text_of(shop, kept[1], run.lower, directions)
+        text = text_of(shop, kept[1], run.lower, directions, 3_300 + len(directions))
+        equal("what is kept", check(shop, text), (kept[1], run.lower, run.upper))
+    return kept[1], run.lower, run.upper, text_of(shop, kept[1], run.lower, directions, 3_300 + len(directions))
 
 
 def parts_of(numbers):
@@ -376,7 +380,7 @@ def refuse_answers():
     # All searches may write 850 of 459 parts of a thousand directions, 1851, and half of them before step 5.
     equal("the first task", (task.kind, task.number, task.budget), (1, 13, 926))
     for answer in [(0, 0, 0, 0), (5, 0, 12, 1), (4, 0, 12, 0), (4, 1, 0, 0), (1, 0, 0, 927), (1, 0, 0, 2**64 - 1),
-                   (2, 0, 13, 1), (2, 0, 2**64 - 1, 1)]:
+                   (2, 0, 13, 1), (2, 0, 2**64 - 1, 1), (2, 0, 9, 1), (2, 0, 12, 927), (2, 0, 12, 2**64 - 1)]:
         equal(f"the answer {answer}", put_to(run, numbers, *answer), ("ANSWER", 0))
     equal("a better sequence", (put_to(run, numbers, 2, 0, 12, 1), run.lower, run.upper), (1, 10, 12))
     equal("the next task", next_of(run, numbers).number, 12)
@@ -521,6 +525,26 @@ def compare_shop(draw):
     equal("a plain check of them", plain_check(shop, text, most), (sequence, lower, upper))
 
 
+def compare_runs():
+    """Runs of all steps: by their tasks they come to what one call comes to. With a limit the lower bound is raised
+    before step 2, and else not."""
+    draw, asked, limited = random.Random(3), [], []
+    for number in range(10):
+        jobs, machines, most = draw.randint(14, 15), draw.randint(9, 10), (30_000, 200_000)[number % 2]
+        shop = jobs, machines, [draw.randint(1, 999) for _ in range(jobs * machines)]
+        start, _ = improve(shop, neh(shop)[0], 64, 200, 1, 20) if number % 2 else neh(shop)
+        numbers = 20, 9, draw.randint(1, 2_147_483_646), 1, most
+        wanted = certify(shop, start, numbers, text_room=3_300 + most)
+        equal("what a run comes to by its tasks", certify_by_tasks(shop, start, numbers, 0, asked), wanted)
+        sequence, *bounds, text = certify_by_tasks(shop, start, numbers, 1, limited)
+        equal("the text of one that is limited", check(shop, text), (sequence, *bounds))
+    met = [(1, 1, True) in tasks for tasks in (asked, limited)]
+    equal("raises before step 2", met, [False, True])
+    # Beams of both widths, rounds, raises, and the beams that look for a sequence below a number.
+    kinds = {(1, 1, False), (2, 2, False), (3, 2, False), (4, 3, False), (5, 1, True), (6, 2, False), (7, 2, False)}
+    equal("steps, and their tasks", set(asked) >= kinds | {(8, 1, True)}, True)
+
+
 def compare_parts(draw):
     """Searches of small shops and of their nodes, in parts of several budgets."""
     sizes = [(1, 3, 0), (5, 2, 1), (5, 4, 0), (6, 3, 2), (7, 5, 1), (8, 3, 0), (9, 4, 1), (12, 2, 0)]
@@ -607,6 +631,7 @@ def main():
     for _ in range(8):
         compare_parts(draw)
     compare_pictures(draw)
+    compare_runs()
     for _ in range(SHOPS):
         compare_shop(draw)
     with concurrent.futures.ThreadPoolExecutor(8) as pool:

@@ -3,6 +3,7 @@ be stopped, and say what went wrong. A word says which part is run: `local`, `da
 the commands by an executor, where other words than python3 run them; or `lost`, which does not end by itself."""
 
 import argparse
+import asyncio
 import concurrent.futures
 import contextlib
 import csv
@@ -11,6 +12,7 @@ import io
 import json
 import os
 import pathlib
+import pickle
 import pty
 import random
 import re
@@ -186,7 +188,7 @@ def follow_manual():
         equal("budgets that are cut off", budgets, [10_000, 100_000, cut[0], 10_000, 33_333, cut[1]])
         # The beam comes to a better sequence, and rounds from the start to one that has Taillard's bound.
         least = taillard_bound(SOME)
-        better = [_parts.Reached(bytes(40), makespan, makespan == least) for makespan in (upper - 1, least)]
+        better = [_parts.Reached(SOME._in_order(), makespan, makespan == least) for makespan in (upper - 1, least)]
         given = {("beam", 0, 100, 12_000_000): better[0], ("rounds", 30, 3, 1_000_000): better[1]}
         with mock.patch.object(Traced, "given", given):
             equal("what is taken", SOME.certify(**choice).upper, least)
@@ -312,7 +314,7 @@ def stopped_after(tasks, call):
 
 def resume_runs():
     """Runs that are stopped at drawn moments and gone on with, by a certificate, a state and a file of it: what is kept
-    is lawful at each, and the text is that of a run that was not stopped. States that are none."""
+    is lawful at each, and the text is that of a run that was not stopped."""
     draw, ended = random.Random(11), 0
     for shop, choice in drawn_runs():
         if choice["directions"] > 200_000:
@@ -330,25 +332,88 @@ def resume_runs():
         ended += 1
         equal(f"the text of {shop!r} with {choice}, gone on with", found.text == wanted.text, True)
     equal("that there are such runs", ended > 15, True)
+
+
+def set_token():
+    """A token that is set."""
     token = threading.Event()
     token.set()
-    begun = time.monotonic()
-    found = HARD.certify(**LONG, token=token)
-    equal("a token ends a run", (time.monotonic() - begun < 1, lawful(HARD, found), found.optimal), (True, True, False))
-    state = found.state
-    # A lower bound that is not proved, other numbers, another shop, a text that is cut off, and no state at all.
-    head, *lines = state.split(b"\n")
-    more = (HARD.bound() + 1).to_bytes(8, "little").hex().encode() + lines[2][16:]
-    for wrong in (
-        b"\n".join([head, *lines[:2], more, *lines[3:]]), state.replace(b"two", b"2").replace(b"run 1", b"run 2"),
-        b"\n".join([head, lines[0], lines[1] + b"0" * 9, *lines[2:]]), state[: len(state) // 2], b"", HARD.neh,
-        HARD.certify(**{**LONG, "directions": 10, "work": 0}), SOME.certify(**FEW, time_limit=0).state,
-    ):
-        try:
-            got = HARD.certify(resume=wrong)
-        except (flowshop.OptionError, TypeError) as error:
-            got = error.name if isinstance(error, flowshop.OptionError) else "RESUME"
-        equal(f"a state that is none: {str(wrong)[:60]}", got, "RESUME")
+    return token
+
+
+def stop_by_token():
+    """A token ends a run soon, also one that is set while the run goes on, by another thread or by a loop of asyncio;
+    what it leaves is lawful, and has a state that pickle keeps."""
+
+    def later(token):
+        threading.Timer(0.3, token.set).start()
+        return HARD.certify(**LONG, token=token)
+
+    async def by_loop(token):
+        running = asyncio.ensure_future(asyncio.to_thread(HARD.certify, **LONG, token=token))
+        await asyncio.sleep(0.3)
+        token.set()
+        return await running
+
+    for name, after, call in [
+        ("set before", 0, lambda token: HARD.certify(**LONG, token=set_token())), ("set by a thread", 0.3, later),
+        ("set by a loop", 0.3, lambda token: asyncio.run(by_loop(token))),
+    ]:
+        begun = time.monotonic()
+        found = call(threading.Event())
+        seconds = time.monotonic() - begun
+        equal(f"a run with a token {name}: {seconds:.2f} s", after <= seconds < after + 0.5, True)
+        equal(f"what a token leaves that is {name}", (lawful(HARD, found), found.optimal), (True, False))
+        kept = pickle.loads(pickle.dumps(found))
+        equal(f"its state, as pickle keeps it, {name}", (type(found.state), kept.state), (bytes, found.state))
+        further = HARD.certify(resume=kept, token=set_token())
+        equal("what goes on with it", (further.lower >= found.lower, further.upper <= found.upper), (True, True))
+    # A search that sees the stop and ends before it is looked at once more.
+    wait = _waiting.Running.wait
+    with mock.patch.object(_waiting.Running, "wait", lambda self, more=None: wait(self, 20 if more == 0 else more)):
+        found = HARD.certify(**LONG, token=set_token())
+    equal("a search that ends at the stop", (lawful(HARD, found), found.state is None), (True, False))
+
+
+def refuse_states():
+    """States that are none, and what is not given with one. Each but the last ones differs in one thing from a state
+    that is taken."""
+    token = set_token()
+    state, other = HARD.certify(**LONG, token=token).state, Shop.generate(30, 15, 8).certify(**LONG, token=token).state
+    equal("a state that is taken", lawful(HARD, HARD.certify(resume=state, token=token)), True)
+    head, named, called, numbers, *lists, directions = state.split(b"\n")
+
+    def but(place, line):
+        lines = [head, named, called, numbers, *lists, directions]
+        lines[place] = line
+        return b"\n".join(lines)
+
+    def raised(name):
+        """The numbers where the one of this name is one more."""
+        run = _library.RunNumbers.from_buffer_copy(bytes.fromhex(numbers.decode()))
+        setattr(run, name, getattr(run, name) + 1)
+        return bytes(run).hex().encode()
+
+    sentence = f"resume is no state of a run of this shop by flowshop {flowshop.__version__}"
+    twice = [b" ".join([line.split()[1], *line.split()[1:]]) for line in lists]
+    for name, wrong in [
+        ("a lower bound that is not proved", but(3, raised("lower"))), ("another upper bound", but(3, raised("upper"))),
+        ("another version", but(0, b"flowshop run 1.9.9")), ("other times", but(1, other.split(b"\n")[1])),
+        ("other numbers", but(2, called + b"0" * 9)),
+        *[(f"a sequence {place} that is none", but(4 + place, line)) for place, line in enumerate(twice)],
+        *[(f"a sequence {place} that is short", but(4 + place, line[2:])) for place, line in enumerate(lists)],
+        ("another shop of its size", other), ("another shop", SOME.certify(**LONG, time_limit=0).state),
+        ("one that is cut off", state[: len(state) // 2]), ("no bytes", b""),
+        ("a run that has ended", HARD.certify(**{**LONG, "directions": 10, "work": 0})),
+    ]:
+        got = refused(HARD.certify, resume=wrong, token=token)
+        wanted = "OptionError", "RESUME", 0, sentence
+        equal(f"a state that is none: {name}", (*got[:3], got[3].split(";")[0]) if type(got) is tuple else got, wanted)
+    equal("what is no text", refused(HARD.certify, resume=HARD.neh, token=token), TypeError)
+    for words in ({"start": HARD.neh()}, {"by": "number"}):
+        got = refused(HARD.certify, **words, resume=state, token=token)
+        wanted = "OptionError", "RESUME", 0, "resume has a start of its own: leave out start and by"
+        equal(f"a state and {[*words]}", got, wanted)
 
 
 def show_progress():
@@ -496,11 +561,20 @@ def lose_results(pool):
             except (RuntimeError, ZeroDivisionError) as error:
                 got = type(error)
         equal(f"a map with {name}", got, wanted)
-    try:
-        got = HARD.certify(**LONG, map=pool.map, progress=fails)
-    except ZeroDivisionError:
-        got = "raised"
-    equal("an error of who is told", got, "raised")
+    told = []
+
+    def fails_later(report):
+        told.append(report)
+        if report.upper < HARD.neh().value and report.lower > HARD.bound():
+            raise ZeroDivisionError
+
+    for each in (None, pool.map):
+        try:
+            got = HARD.certify(**LONG, map=each, time_limit=60, progress=fails_later)
+        except ZeroDivisionError as error:
+            got = error.result
+        bounds = told[-1].lower <= got.lower, got.upper <= told[-1].upper
+        equal("an error of who is told", (lawful(HARD, got), got.state is None, *bounds), (True, False, True, True))
     limits = [("time_limit", value) for value in (-1, "60", True)]
     for name, value in [("workers", 0), ("workers", 10_001), *limits, ("bound", -1)]:
         call = HARD.prove if name == "bound" else HARD.certify
@@ -1132,6 +1206,8 @@ def use_local():
         compare_texts(pool)
         keep_time(pool)
         resume_runs()
+        stop_by_token()
+        refuse_states()
         show_progress()
         interrupt_runs(pool)
         lose_results(pool)

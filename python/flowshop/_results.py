@@ -400,7 +400,7 @@ class Certificate(_Ordered):
     text: bytes
     names: Names = field(default=(), compare=False)
     _shop: Any = field(default=None, compare=False)
-    _state: Any = field(default=None, compare=False)
+    _state: Optional[bytes] = field(default=None, compare=False)
 
     @property
     def state(self) -> Optional[bytes]:
@@ -409,7 +409,7 @@ class Certificate(_Ordered):
         >>> shop.certify().state is None
         True
         """
-        return None if self._state is None else bytes(self._state())
+        return self._state
 
     @property
     def value(self) -> int:

@@ -6,12 +6,17 @@ from typing import NamedTuple
 from ._certify import Effort, Kept, effort_of
 from ._errors import OptionError
 from ._found import numbers_of
-from ._library import RunNumbers
+from ._library import RunNumbers, version
 from ._options import option
 from ._spread import Numbers
 
-_HEAD = b"flowshop run 1"
+# A version may have other tasks than another one.
+_HEAD = f"flowshop run {version()}".encode()
 _LINES = 7
+_NONE = (
+    f"resume is no state of a run of this shop by flowshop {version()}; `state` of a certificate gives one where its "
+    "run was stopped"
+)
 
 
 class State(NamedTuple):
@@ -22,8 +27,9 @@ class State(NamedTuple):
     kept: Kept
 
     def written(self, shop: Numbers) -> bytes:
-        """The state as bytes: a line that names its kind, the shop, the numbers of the run as it was called, where it
-        stands, the start, the best sequence, the one that was the best before it, and the directions."""
+        """The state as bytes: a line that names its kind and the version, the shop, the numbers of the run as it was
+        called, where it stands, the start, the best sequence, the one that was the best before it, and the directions.
+        """
         called = " ".join(map(str, [*self.effort, self.directions]))
         lists = [" ".join(map(str, numbers_of(each))).encode() for each in self.kept[1:4]]
         lines = [_HEAD, _named(shop), called.encode(), self.kept.numbers.hex().encode(), *lists, self.kept.directions]
@@ -58,14 +64,13 @@ def _read(shop: Numbers, state: bytes) -> State:
 
 
 def state_of(shop: Numbers, state: bytes) -> State:
-    """The state of a run of a shop. OptionError where it is none."""
+    """The state of a run of a shop by this version. OptionError where it is none."""
     try:
         return _read(shop, state)
     except (ValueError, OptionError):
         raise refused() from None
 
 
-def refused() -> OptionError:
-    """The refusal of what is no state."""
-    sentence = "resume is no state of a run of this shop; `state` of a certificate gives one where its run was stopped"
+def refused(sentence: str = _NONE) -> OptionError:
+    """The refusal of what is no state, or of what comes with one."""
     return OptionError("RESUME", 0, sentence)

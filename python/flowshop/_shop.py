@@ -7,7 +7,6 @@ import re
 from array import array
 from contextlib import suppress
 from dataclasses import asdict, replace
-from functools import partial
 from math import perm
 from typing import (
     Any, Callable, Collection, Dict, Hashable, Iterable, List, NamedTuple, NoReturn, Optional, Tuple, Union
@@ -36,6 +35,7 @@ from ._sequences import packed_many, packed_node
 from ._spread import Map, Workers
 from ._tables import Table, read_kept, read_table
 from ._texts import Text, block_text, blocks_of, is_certificate, not_lawful, order_of, start_of, text_of, written
+from ._threads import with_stack
 from ._waiting import Progress, Token, Watch, waited, waited_for
 
 # The most bytes that a text has beside its trees or its directions.
@@ -688,14 +688,16 @@ class Shop(metaclass=Brief):
         run with a time limit raises the lower bound early, and may give another certificate also where it ends before.
         `progress` is called with a Progress, a few times a second; where it is True, a line on standard error tells the
         same. An interrupt ends the call within a second, as Interrupted, whose `result` is a certificate of the best
-        bounds so far; an error of `progress` or of the map has such a `result` too. Without a map and a time limit the
-        certificate was read by `check`. `by` is that of `makespan`. Errors are those of `improve`, and those of the
-        map.
+        bounds so far; an error of `progress` or of the map has such a `result` too. Where the run has ended, without a
+        map and a time limit, the certificate was read by `check`; one of a run that was stopped was not. `by` is that
+        of `makespan`. Errors are those of `improve`, and those of the map.
 
         A `token`, such as a threading.Event, ends the call from another thread as a time limit does, once it is set.
         A certificate of a run that was stopped has a `state`: with `resume` as such a state, a file of it
-        (pathlib.Path), or that certificate a run goes on behind the last task that it had done, with its own numbers,
-        and comes to what it would have come to. OptionError where it is no state of a run of this shop.
+        (pathlib.Path), or that certificate a run goes on behind the last task that it had done, and comes to what it
+        would have come to. Its width, rounds, seed, work and directions are those of the state, whatever is given, and
+        so is its start: `start` and `by` are left out. OptionError where they are not, or where it is no state of a run
+        of this shop by this version.
 
         >>> certificate = shop.certify(workers=4, time_limit=60)
         >>> certificate.lower, certificate.upper
@@ -710,23 +712,25 @@ class Shop(metaclass=Brief):
         if resume is None:
             state = self._begin(self._begun(start, by), effort, most, limit is not None)
         else:
-            state = self._resumed(resume)
+            state = self._resumed(resume, start, by)
         at_once = min(4, count) if map is None else 4
         found = self._certify(state, Workers(map, count, at_once), Watch(limit, progress, token))
-        return self._read(found) if map is None and limit is None else found
+        return self._read(found) if map is None and limit is None and found.state is None else found
 
     def _begin(self, start: Optional[bytes], effort: Effort, directions: int, is_limited: bool) -> State:
         """The state of a run at its beginning, from a sequence, or from that of `neh`."""
         first = self._begun(None) if start is None else start
         return State(effort, directions, begun(self._parts[:3], first, directions, is_limited))
 
-    def _resumed(self, resume: Union[bytes, os.PathLike[str], Certificate]) -> State:
-        """A state whose bounds the checker has read. OptionError where it is none."""
+    def _resumed(self, resume: Union[bytes, os.PathLike[str], Certificate], start: Optional[Jobs], by: By) -> State:
+        """A state whose bounds the checker has read. OptionError where it is none, or comes with a start."""
+        if start is not None or by is not None:
+            raise refused("resume has a start of its own: leave out start and by")
         given = resume.state if isinstance(resume, Certificate) else resume
         state = state_of(self._parts[:3], b"" if given is None else text_of(given))
         known = state.kept.known()
         try:
-            found = self.check(self._certificate(known))
+            found = waited(lambda: self.check(self._certificate(known)))
         except NotLawful:
             raise refused() from None
         if (found.lower, found.upper) != (known.lower, known.upper):
@@ -745,9 +749,9 @@ class Shop(metaclass=Brief):
         run = Run(self._parts[:3], state.effort, state.kept)
 
         def found() -> Certificate:
-            kept = run.kept
-            goes_on = None if run.has_ended else partial(state._replace(kept=kept).written, self._parts[:3])
-            return replace(self._certificate(kept.known()), _state=goes_on)
+            has_ended, kept = run.has_ended, run.kept  # in this order: what it keeps when it ends is the last
+            written = None if has_ended else state._replace(kept=kept).written(self._parts[:3])
+            return replace(self._certificate(kept.known()), _state=written)
 
         try:
             run.search_until(watch, workers)
@@ -766,7 +770,7 @@ class Shop(metaclass=Brief):
         def write(room: TextRoom) -> None:
             self._call("run_text", known.sequence, known.lower, directions, len(directions), room)
 
-        text = written(_BESIDE + len(directions), write)
+        text = with_stack(lambda: written(_BESIDE + len(directions), write))
         return Certificate(known.lower, known.upper, jobs, text, self._named(jobs), self)
 
     def check(self, text: Text) -> Certificate:

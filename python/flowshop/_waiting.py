@@ -29,7 +29,7 @@ PATIENCE = 0.5
 @dataclass(frozen=True)
 class Progress(Bounded):
     """How far `certify` has come: the step, 1 to 8, that docs/manual.md counts; the bounds so far; how many directions
-    its searches have written; and how many seconds it has taken.
+    its searches have written; and how many seconds it has taken. Of a run that goes on with a state both count from 0.
 
     >>> reports = []
     >>> certificate = shop.certify(progress=reports.append)
@@ -276,7 +276,8 @@ class Watch:
                     self._tell(state(self._seconds()))
             self._stop.set()
             if running.wait(0):
-                running.result()
+                with suppress(Stopped):  # it saw the stop just now
+                    running.result()
         except BaseException:
             self._stop.set()
             if self._lines:
