@@ -8,7 +8,7 @@
 #include <stdlib.h>
 #include <string.h>
 
-enum { JOBS = 20, MACHINES = 20, SEED = 479340445, MOST = 1000000 };
+enum { JOBS = 20, MACHINES = 20, SEED = 479340445, MOST = 10000000 };
 
 static volatile sig_atomic_t stopped;
 
@@ -29,7 +29,7 @@ int main(int count, char **words) {
     static uint16_t rest[JOBS * (JOBS + 4)], kept[3][JOBS], sequence[JOBS]; /* the start, the best, the one before it */
     const long most = count > 1 ? strtol(words[1], NULL, 10) : 1000000;
     const flowshop_shop shop = {JOBS, MACHINES, times, JOBS * MACHINES};
-    const flowshop_effort effort = {64, 100, 1, 100};
+    const flowshop_effort effort = {1024, 1000, 1, 1000};
     size_t length = 0;
     flowshop_reached reached = {kept[0], JOBS, 0, 0};
     flowshop_run_state run;
