@@ -52,12 +52,16 @@ fn type_of(words: &str) -> String {
     }
 }
 
-/// A declaration of C, as `const uint32_t *times`, as Rust has it.
+/// A declaration of C, as `const uint32_t *times` or `uint64_t inner[11]`, as Rust has it.
 fn declared(words: &str) -> String {
     let spread = spaced(&words.replace('*', "* "));
-    match spread.rsplit_once(' ') {
-        Some((kind, name)) => format!("{name}: {}", type_of(kind)),
-        None => String::new(),
+    let (kind, name) = match spread.rsplit_once(' ') {
+        Some((kind, name)) => (type_of(kind), name),
+        None => return String::new(),
+    };
+    match name.trim_end_matches(']').split_once('[') {
+        Some((name, count)) => format!("{name}: [{kind}; {count}]"),
+        None => format!("{name}: {kind}"),
     }
 }
 
@@ -160,7 +164,7 @@ fn names_are_those_of_the_header() {
     }
     assert_eq!(count, header.matches("case FLOWSHOP_").count());
     assert!(count > 30);
-    assert_eq!(flowshop_status_name(4), "?");
+    assert_eq!(flowshop_status_name(5), "?");
 }
 
 #[test]
