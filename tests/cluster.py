@@ -121,10 +121,10 @@ def compare_texts(pool):
 
 
 class Traced:
-    """In the place of shared searches: what is asked of them. No search proves anything, and beams and rounds come to
-    nothing but what `given` has for their words."""
+    """In the place of shared searches: what is asked of them. Searches, beams and rounds come to nothing but what
+    `given` has for their words; then these give their start back, whose makespan is `value`."""
 
-    asked, given = [], {}
+    asked, given, value = [], {}, SOME.neh().value
     at_once = 1
 
     def __init__(self, *_):
@@ -137,16 +137,14 @@ class Traced:
         pass
 
     def prove(self, number, budget):
-        """A search that is over its budget."""
+        """A search."""
         self.asked.append((number, budget))
-        return _spread.Found(_parts.OVER, budget)
+        return self.given.get((number, budget), _spread.Found(_parts.OVER, budget))
 
     def reached(self, name, start, *words):
         """A beam, or rounds."""
         self.asked.append((name, *words))
-        if self.asked[-1] in self.given:
-            return self.given[self.asked[-1]]
-        return _parts.Reached(start, SOME.neh().value, False)
+        return self.given.get((name, *words), _parts.Reached(start, self.value, False))
 
     def ahead(self, call):
         """A call, later."""
@@ -158,31 +156,140 @@ def taillard_bound(shop):
     return _parts.Instance(*shop._parts[:3]).run(shop._in_order(), 1, False).least
 
 
+# The numbers of runs that are followed: all of them have 12,000,000 steps for a beam.
+FOLLOWED = {"width": 100, "rounds": 30, "seed": 3, "work": 17, "directions": 10_000_000, "map": map}
+
+
+def halves(lesser, greater):
+    """The beams of step 7 that come to nothing: the middle replaces the lesser number."""
+    while greater - lesser > 1:
+        lesser += (greater - lesser) // 2
+        yield "beam", lesser, 25, 6_000_000
+
+
+def proved(directions):
+    """A search that proves its number."""
+    return _spread.Found(_parts.PROVED, directions, b"+" * directions)
+
+
+def below(directions, makespan):
+    """A search that finds a sequence."""
+    return _spread.Found(_parts.BELOW, directions, b"", SOME._in_order(), makespan)
+
+
+def follow(name, shop, given, wanted, bounds, value=SOME.neh().value):
+    """Compares a run of a shop that finds what is given with the tasks and the bounds of docs/manual.md."""
+    with mock.patch.multiple(Traced, given=given, value=value), mock.patch.object(_certify, "Spread", Traced):
+        found = shop.certify(**FOLLOWED)
+    equal(f"the tasks of a run with {name}", Traced.asked, wanted)
+    equal(f"the bounds of a run with {name}", (found.lower, found.upper), bounds)
+
+
+def follow_starts():
+    """Runs in which no better sequence is looked for in the steps 2 to 4."""
+    # The first job alone takes 27, which is Taillard's bound, and so does the order 2, 1 of neh; the bound of the two
+    # ends is 10, of each machine. All searches have 850 of 456 parts of 10,000,000 directions, of which four fifths are
+    # more than 10,000,000. So this is the whole budget, and 333,333 its thirtieth. It does not suffice below 27, so
+    # no search is made there again.
+    shop = Shop.from_jobs([[9, 9, 9], [0, 0, 1]])
+    wanted = [(27, 10_000_000), (11, 10_000), (11, 333_333), ("beam", 11, 800, 48_000_000)]
+    wanted += [("beam", middle, 25, 6_000_000) for middle in (19, 23, 25, 26)]
+    follow("a start that has Taillard's bound", shop, {}, [*wanted, (11, 1_000_000)], (10, 27), 27)
+    # The first beam drops nothing, and comes to a better sequence. Of 13,076,923 directions the first two searches use
+    # up 110,266, so that 10,000,000 are left, and behind the search with these 2,966,524. The thirtieth and the tenth
+    # of the whole budget are less. Below the best makespan 10,000,000 did not suffice.
+    lower, upper = SOME.bound(), SOME.neh().value
+    beam = "beam", 0, 16, 12_000_000
+    wanted = [
+        *[(upper, 10_000), (upper, 100_000), beam, (upper - 1, 10_000_000)],
+        *[(lower + 1, 10_000), (lower + 1, 333_333), ("beam", lower + 1, 800, 48_000_000)],
+        *[*halves(lower + 1, upper - 1), (lower + 1, 1_000_000)],
+    ]
+    given = {beam: _parts.Reached(SOME._in_order(), upper - 1, True)}
+    follow("a beam that drops nothing", SOME, given, wanted, (lower, upper - 1))
+
+
+def follow_better():
+    """Runs that find better sequences."""
+    # The next search of step 3 has the same budget. Both runs of rounds follow, as in improve, since the best sequence
+    # is not the start. Of the half of 13,076,923 directions that the steps 1 to 4 have, 5,267,491 are left behind
+    # step 3, and of all 11,462,353 behind step 5.
+    lower, upper = SOME.bound(), SOME.neh().value
+    beams = [("beam", 0, 16, 12_000_000), ("beam", 0, 100, 12_000_000)]
+    given = {
+        beams[1]: _parts.Reached(SOME._in_order(), upper - 10, False), (upper - 10, 10_000): below(40, upper - 12),
+        (upper - 12, 100_000): below(50_000, upper - 15),
+    }
+    wanted = [
+        *[(upper, 10_000), (upper, 100_000), *beams, (upper - 10, 10_000), (upper - 12, 10_000)],
+        *[(upper - 12, 100_000), (upper - 15, 100_000), (upper - 15, 1_000_000)],
+        *[("rounds", 30, 3, 1_000_000), ("rounds", 30, 3, 4_000_000)],
+        *[(lower + 1, 10_000), (lower + 1, 333_333), ("beam", lower + 1, 800, 48_000_000)],
+        *[*halves(lower + 1, upper - 15), (upper - 15, 10_000_000), (lower + 1, 1_000_000)],
+    ]
+    follow("better sequences in step 3", SOME, given, wanted, (lower, upper - 15))
+    # The first beam of step 7 finds a sequence, whose makespan replaces the greater number.
+    middle = (lower + 1 + upper) // 2
+    beam, given = ("beam", middle, 25, 6_000_000), _parts.Reached(SOME._in_order(), middle - 9, False)
+    wanted = [
+        *[(upper, 10_000), (upper, 100_000), *beams, (upper, 1_000_000), ("rounds", 30, 3, 4_000_000)],
+        *[(lower + 1, 10_000), (lower + 1, 333_333), ("beam", lower + 1, 800, 48_000_000), beam],
+        *[*halves(lower + 1, middle - 9), (middle - 9, 10_000_000), (lower + 1, 1_000_000)],
+    ]
+    follow("a better sequence in step 7", SOME, {beam: given}, wanted, (lower, middle - 9))
+
+
+def follow_raises():
+    """Raises of the lower bound in step 5, and in step 8 with what follows there."""
+    lower, upper = SOME.bound(), SOME.neh().value
+    first = [(upper, 10_000), (upper, 100_000), ("beam", 0, 16, 12_000_000), ("beam", 0, 100, 12_000_000)]
+    first += [(upper, 1_000_000), ("rounds", 30, 3, 4_000_000)]
+    # The distances are 1, 2, 4 and 8. The search at 15 is over its budget, so the next distance is half of 15 - 7, and
+    # then half of 11 - 7. From 9 it is at most half of 11 - 9, and between 9 and 10 no number is left. Step 5 has
+    # 11,966,524 directions, and uses up 364,797. The search below the best makespan uses up 10,000,133, so that
+    # 1,601,594 are left for step 8.
+    given = {(lower + more, 10_000): proved(100) for more in (1, 3, 7, 9)}
+    wanted = [
+        *[*first, *[(lower + more, 10_000) for more in (1, 3, 7, 15, 11, 9, 10)], (lower + 10, 333_333)],
+        *[("beam", lower + 10, 800, 48_000_000), *halves(lower + 10, upper)],
+        *[(upper, 10_000_000), (lower + 10, 1_000_000)],
+    ]
+    follow("raises in step 5", SOME, given, wanted, (lower + 9, upper))
+    # Behind step 7 there are 1,622,792 directions. At 1 and 3 the number is proved, and below 7 there is a sequence
+    # with 6. The distance is then half of 7 - 3, which is less than 8. The search at 5 is over its budget, so the next
+    # distance is half of 5 - 3, and 620,560 directions are left. Step 6 is made once more. Below the new makespan no
+    # search was made, so one has the directions that are left, 433 fewer.
+    given = {(lower + 1, 1_000_000): proved(500), (lower + 3, 1_000_000): proved(500)}
+    given.update({(lower + 7, 1_000_000): below(700, lower + 6), (lower + 4, 620_560): proved(300)})
+    wanted = [
+        *[*first, (lower + 1, 10_000), (lower + 1, 333_333), ("beam", lower + 1, 800, 48_000_000)],
+        *[*halves(lower + 1, upper), (upper, 10_000_000)],
+        *[(lower + more, 1_000_000) for more in (1, 3, 7, 5)], (lower + 4, 620_560),
+        *[("beam", lower + 5, 800, 48_000_000), (lower + 6, 620_127)],
+    ]
+    follow("raises in step 8", SOME, given, wanted, (lower + 4, lower + 6))
+
+
 def follow_manual():
     """The searches of a run that comes to nothing, with their budgets, and its beams and rounds, with their steps, by
     docs/manual.md. Some numbers, for 20 jobs on 10 machines and 10,000,000 directions: all searches have 850 of 650
     parts of these, 13,076,923, of which each takes 20 x 20 / 3 = 133 more than it writes; of 17,000,000 steps beams
     have 12,000,000."""
     upper, lower = SOME.neh().value, SOME.bound()
-    halves, missed = [], lower + 1
-    while upper - missed > 1:
-        missed += (upper - missed) // 2
-        halves.append(("beam", missed, 25, 6_000_000))
     wanted = [
         *[(upper, 10_000), (upper, 100_000), ("beam", 0, 16, 12_000_000), ("beam", 0, 100, 12_000_000)],
         *[(upper, 1_000_000), ("rounds", 30, 3, 4_000_000)],
-        *[(lower + 1, 10_000), (lower + 1, 333_333), ("beam", lower + 1, 800, 48_000_000), *halves],
-        *[(upper, 10_000_000), (lower + 1, 1_000_000)],
+        *[(lower + 1, 10_000), (lower + 1, 333_333), ("beam", lower + 1, 800, 48_000_000)],
+        *[*halves(lower + 1, upper), (upper, 10_000_000), (lower + 1, 1_000_000)],
     ]
-    choice = {"width": 100, "rounds": 30, "seed": 3, "work": 17, "directions": 10_000_000, "map": map}
     with mock.patch.object(_certify, "Spread", Traced):
-        SOME.certify(**choice)
+        SOME.certify(**FOLLOWED)
         equal("the searches of a run", Traced.asked, wanted)
-        SOME.certify(**choice, time_limit=1000)
+        SOME.certify(**FOLLOWED, time_limit=1000)
         early = [*wanted[:2], (lower + 1, 10_000), *wanted[2:6], (lower + 1, 100_000), *wanted[6:]]
         equal("the searches of a run with a time limit", Traced.asked, early)
         # Of a million all searches have 1,307,693, and those of steps 1 to 4 half of them, which the third one uses up.
-        SOME.certify(**{**choice, "directions": 1_000_001})
+        SOME.certify(**{**FOLLOWED, "directions": 1_000_001})
         budgets = [budget for _, budget, *more in Traced.asked if not more]
         cut = [653_847 - 110_000 - 2 * 133, 653_846 - 43_333 - 2 * 133]
         equal("budgets that are cut off", budgets, [10_000, 100_000, cut[0], 10_000, 33_333, cut[1]])
@@ -191,7 +298,7 @@ def follow_manual():
         better = [_parts.Reached(SOME._in_order(), makespan, makespan == least) for makespan in (upper - 1, least)]
         given = {("beam", 0, 100, 12_000_000): better[0], ("rounds", 30, 3, 1_000_000): better[1]}
         with mock.patch.object(Traced, "given", given):
-            equal("what is taken", SOME.certify(**choice).upper, least)
+            equal("what is taken", SOME.certify(**FOLLOWED).upper, least)
         rounds = [words for words in Traced.asked if words[0] == "rounds"]
         equal("rounds after that", rounds, [("rounds", 30, 3, 1_000_000)])
     long = Shop.from_jobs([[9, 9, 9], [1, 1, 1]])
@@ -1202,7 +1309,8 @@ def use_local():
     with concurrent.futures.ProcessPoolExecutor(2, **deaf) as pool:
         list(pool.map(first, range(4)))
         compare_searches()
-        follow_manual()
+        for part in (follow_manual, follow_starts, follow_better, follow_raises):
+            part()
         compare_texts(pool)
         keep_time(pool)
         resume_runs()
