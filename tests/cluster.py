@@ -482,39 +482,46 @@ def stop_by_token():
     equal("a search that ends at the stop", (lawful(HARD, found), found.state is None), (True, False))
 
 
-def refuse_states():
-    """States that are none, and what is not given with one. Each but the last ones differs in one thing from a state
-    that is taken."""
-    token = set_token()
-    state, other = HARD.certify(**LONG, token=token).state, Shop.generate(30, 15, 8).certify(**LONG, token=token).state
-    equal("a state that is taken", lawful(HARD, HARD.certify(resume=state, token=token)), True)
+def wrong_states(state, other):
+    """States that are none, each with what it is. Most differ in one thing from a state that is taken; the other one is
+    of another shop of its size."""
     head, named, called, numbers, *lists, directions = state.split(b"\n")
 
     def but(place, line):
+        """The state with another line."""
         lines = [head, named, called, numbers, *lists, directions]
         lines[place] = line
         return b"\n".join(lines)
 
-    def raised(name):
-        """The numbers where the one of this name is one more."""
+    for name in ("lower", "upper"):
         run = _library.RunNumbers.from_buffer_copy(bytes.fromhex(numbers.decode()))
         setattr(run, name, getattr(run, name) + 1)
-        return bytes(run).hex().encode()
-
-    sentence = f"resume is no state of a run of this shop by flowshop {flowshop.__version__}"
-    twice = [b" ".join([line.split()[1], *line.split()[1:]]) for line in lists]
-    for name, wrong in [
-        ("a lower bound that is not proved", but(3, raised("lower"))), ("another upper bound", but(3, raised("upper"))),
+        yield f"a bound that is not proved, {name}", but(3, bytes(run).hex().encode())
+    for place, line in enumerate(lists):
+        yield f"a sequence {place} with a job twice", but(4 + place, b" ".join([line.split()[1], *line.split()[1:]]))
+        yield f"a sequence {place} that is short", but(4 + place, line[2:])
+    yield from [
         ("another version", but(0, b"flowshop run 1.9.9")), ("other times", but(1, other.split(b"\n")[1])),
-        ("other numbers", but(2, called + b"0" * 9)),
-        *[(f"a sequence {place} that is none", but(4 + place, line)) for place, line in enumerate(twice)],
-        *[(f"a sequence {place} that is short", but(4 + place, line[2:])) for place, line in enumerate(lists)],
-        ("another shop of its size", other), ("another shop", SOME.certify(**LONG, time_limit=0).state),
-        ("one that is cut off", state[: len(state) // 2]), ("no bytes", b""),
+        ("other numbers", but(2, called + b"0" * 9)), ("another shop of its size", other),
+        ("another shop", SOME.certify(**LONG, time_limit=0).state), ("no bytes", b""),
+        ("one that is cut off", state[: len(state) // 2]),
         ("a run that has ended", HARD.certify(**{**LONG, "directions": 10, "work": 0})),
-    ]:
+    ]
+
+
+def refuse_states():
+    """A state that is taken, those that are none, and what is not given with one."""
+    token = set_token()
+    state, other = (shop.certify(**LONG, token=token).state for shop in (HARD, Shop.generate(30, 15, 8)))
+    check, readers = Shop.check, []
+    with mock.patch.object(Shop, "check", lambda *words: readers.append(threading.get_ident()) or check(*words)):
+        found = HARD.certify(resume=state, token=token)
+    equal("a state that is taken", lawful(HARD, found), True)
+    # The checker reads the state alone, and in a thread that an interrupt leaves.
+    equal("who reads it", [reader == threading.get_ident() for reader in readers], [False])
+    wanted = "OptionError", "RESUME", 0, f"resume is no state of a run of this shop by flowshop {flowshop.__version__}"
+    for name, wrong in wrong_states(state, other):
         got = refused(HARD.certify, resume=wrong, token=token)
-        wanted = "OptionError", "RESUME", 0, sentence
         equal(f"a state that is none: {name}", (*got[:3], got[3].split(";")[0]) if type(got) is tuple else got, wanted)
     equal("what is no text", refused(HARD.certify, resume=HARD.neh, token=token), TypeError)
     for words in ({"start": HARD.neh()}, {"by": "number"}):
@@ -652,7 +659,7 @@ def lose_worker():
 
 
 def lose_results(pool):
-    """Maps that are none: results that are missing, or in another order; and errors of a map and of a caller."""
+    """Maps that are none: results that are missing, or in another order; and errors of a map. Numbers that are none."""
 
     def fails(*_):
         raise ZeroDivisionError
@@ -668,20 +675,6 @@ def lose_results(pool):
             except (RuntimeError, ZeroDivisionError) as error:
                 got = type(error)
         equal(f"a map with {name}", got, wanted)
-    told = []
-
-    def fails_later(report):
-        told.append(report)
-        if report.upper < HARD.neh().value and report.lower > HARD.bound():
-            raise ZeroDivisionError
-
-    for each in (None, pool.map):
-        try:
-            got = HARD.certify(**LONG, map=each, time_limit=60, progress=fails_later)
-        except ZeroDivisionError as error:
-            got = error.result
-        bounds = told[-1].lower <= got.lower, got.upper <= told[-1].upper
-        equal("an error of who is told", (lawful(HARD, got), got.state is None, *bounds), (True, False, True, True))
     limits = [("time_limit", value) for value in (-1, "60", True)]
     for name, value in [("workers", 0), ("workers", 10_001), *limits, ("bound", -1)]:
         call = HARD.prove if name == "bound" else HARD.certify
@@ -692,6 +685,24 @@ def lose_results(pool):
     ]:
         got = refused(lambda: HARD.prove(5000, front=front, back=back))
         equal(f"the node {front}, {back}", got, ("NotASequence", "JOB" if place == 2 else "TWICE", place, sentence))
+
+
+def lose_progress(pool):
+    """An error of who is told how far a run has come leaves the bounds so far."""
+    told = []
+
+    def fails(report):
+        told.append(report)
+        if report.upper < HARD.neh().value and report.lower > HARD.bound():
+            raise ZeroDivisionError
+
+    for each in (None, pool.map):
+        try:
+            got = HARD.certify(**LONG, map=each, time_limit=60, progress=fails)
+        except ZeroDivisionError as error:
+            got = error.result
+        bounds = told[-1].lower <= got.lower, got.upper <= told[-1].upper
+        equal("an error of who is told", (lawful(HARD, got), got.state is None, *bounds), (True, False, True, True))
 
 
 def use_command():
@@ -1319,6 +1330,7 @@ def use_local():
         show_progress()
         interrupt_runs(pool)
         lose_results(pool)
+        lose_progress(pool)
     for part in (lose_worker, stop_threads, use_eight_threads, use_command, use_odd_names, keep_links_and_pipes,
                  keep_streams, refuse_words, use_terminal, stop_command, stop_at_pipes, write_to_full_pipes,
                  restore_handler, kill_command, end_writing, use_page):
