@@ -22,8 +22,8 @@ from ._errors import counted, found_in
 from ._found import Below, Over, Proved, numbers_of, part_of
 from ._headings import length_of
 from ._labels import Unit, label_lines, unit_of
-from ._library import BoundsRoom, EffortNumbers, Plan, ReachedRoom, Refused, ShopNumbers, SpansRoom, TextRoom
-from ._library import byref, call, size, u16, u32, u64
+from ._library import BoundsRoom, EffortNumbers, Plan, ReachedRoom, Refused, RunNumbers, ShopNumbers, SpansRoom
+from ._library import TextRoom, byref, call, size, u16, u32, u64
 from ._options import MOST_TREES, OF_PARTS, STATED, function_of, option, scale_of, time_limit_of, token_of, workers_of
 from ._page import MOST_BARS, Facts, page
 from ._parts import OVER, PROVED, Instance, PackedPart, Pieces, Rooms, parts_of
@@ -718,9 +718,10 @@ class Shop(metaclass=Brief):
         return self._read(found) if map is None and limit is None and found.state is None else found
 
     def _begin(self, start: Optional[bytes], effort: Effort, directions: int, is_limited: bool) -> State:
-        """The state of a run at its beginning, from a sequence, or from that of `neh`."""
-        first = self._begun(None) if start is None else start
-        return State(effort, directions, begun(self._parts[:3], first, directions, is_limited))
+        """The state of a run at its beginning, from a sequence or that of `neh`. NotASequence where it is none."""
+        first, run = self._begun(None) if start is None else start, RunNumbers()
+        self._call("run", first, directions, int(is_limited), run)
+        return State(effort, directions, begun(run, first))
 
     def _resumed(self, resume: Union[bytes, os.PathLike[str], Certificate], start: Optional[Jobs], by: By) -> State:
         """A state whose bounds the checker has read. OptionError where it is none, or comes with a start."""
@@ -750,8 +751,8 @@ class Shop(metaclass=Brief):
 
         def found() -> Certificate:
             has_ended, kept = run.has_ended, run.kept  # in this order: what it keeps when it ends is the last
-            written = None if has_ended else state._replace(kept=kept).written(self._parts[:3])
-            return replace(self._certificate(kept.known()), _state=written)
+            goes_on = None if has_ended else state._replace(kept=kept).written(self._parts[:3])
+            return replace(self._certificate(kept.known()), _state=goes_on)
 
         try:
             run.search_until(watch, workers)
