@@ -688,16 +688,15 @@ class Shop(metaclass=Brief):
         run with a time limit raises the lower bound early, and may give another certificate also where it ends before.
         `progress` is called with a Progress, a few times a second; where it is True, a line on standard error tells the
         same. An interrupt ends the call within a second, as Interrupted, whose `result` is a certificate of the best
-        bounds so far; an error of `progress` or of the map has such a `result` too. Where the run has ended, without a
-        map and a time limit, the certificate was read by `check`; one of a run that was stopped was not. `by` is that
-        of `makespan`. Errors are those of `improve`, and those of the map.
+        bounds so far; an error of `progress` or of the map has such a `result` too. Without a map and a time limit
+        `check` has read the certificate of a run that ends, not of one that is stopped. `by` is that of `makespan`.
+        Errors are those of `improve`, and those of the map.
 
         A `token`, such as a threading.Event, ends the call from another thread as a time limit does, once it is set.
         A certificate of a run that was stopped has a `state`: with `resume` as such a state, a file of it
         (pathlib.Path), or that certificate a run goes on behind the last task that it had done, and comes to what it
-        would have come to. Its width, rounds, seed, work and directions are those of the state, whatever is given, and
-        so is its start: `start` and `by` are left out. OptionError where they are not, or where it is no state of a run
-        of this shop by this version.
+        would have come to. Start, width, rounds, seed, work and directions are those of the state. OptionError where
+        `start` or `by` is given too, or where it is no state of a run of this shop by this version.
 
         >>> certificate = shop.certify(workers=4, time_limit=60)
         >>> certificate.lower, certificate.upper
