@@ -121,10 +121,10 @@ def compare_texts(pool):
 
 
 class Traced:
-    """In the place of shared searches: what is asked of them. No search proves anything, and beams and rounds come to
-    nothing but what `given` has for their words."""
+    """In the place of shared searches: what is asked of them. Searches, beams and rounds come to nothing but what
+    `given` has for their words; then these give their start back, whose makespan is `value`."""
 
-    asked, given = [], {}
+    asked, given, value = [], {}, SOME.neh().value
     at_once = 1
 
     def __init__(self, *_):
@@ -137,16 +137,14 @@ class Traced:
         pass
 
     def prove(self, number, budget):
-        """A search that is over its budget."""
+        """A search."""
         self.asked.append((number, budget))
-        return _spread.Found(_parts.OVER, budget)
+        return self.given.get((number, budget), _spread.Found(_parts.OVER, budget))
 
     def reached(self, name, start, *words):
         """A beam, or rounds."""
         self.asked.append((name, *words))
-        if self.asked[-1] in self.given:
-            return self.given[self.asked[-1]]
-        return _parts.Reached(start, SOME.neh().value, False)
+        return self.given.get((name, *words), _parts.Reached(start, self.value, False))
 
     def ahead(self, call):
         """A call, later."""
@@ -158,31 +156,140 @@ def taillard_bound(shop):
     return _parts.Instance(*shop._parts[:3]).run(shop._in_order(), 1, False).least
 
 
+# The numbers of runs that are followed: all of them have 12,000,000 steps for a beam.
+FOLLOWED = {"width": 100, "rounds": 30, "seed": 3, "work": 17, "directions": 10_000_000, "map": map}
+
+
+def halves(lesser, greater):
+    """The beams of step 7 that come to nothing: the middle replaces the lesser number."""
+    while greater - lesser > 1:
+        lesser += (greater - lesser) // 2
+        yield "beam", lesser, 25, 6_000_000
+
+
+def proved(directions):
+    """A search that proves its number."""
+    return _spread.Found(_parts.PROVED, directions, b"+" * directions)
+
+
+def below(directions, makespan):
+    """A search that finds a sequence."""
+    return _spread.Found(_parts.BELOW, directions, b"", SOME._in_order(), makespan)
+
+
+def follow(name, shop, given, wanted, bounds, value=SOME.neh().value):
+    """Compares a run of a shop that finds what is given with the tasks and the bounds of docs/manual.md."""
+    with mock.patch.multiple(Traced, given=given, value=value), mock.patch.object(_certify, "Spread", Traced):
+        found = shop.certify(**FOLLOWED)
+    equal(f"the tasks of a run with {name}", Traced.asked, wanted)
+    equal(f"the bounds of a run with {name}", (found.lower, found.upper), bounds)
+
+
+def follow_starts():
+    """Runs in which no better sequence is looked for in the steps 2 to 4."""
+    # The first job alone takes 27, which is Taillard's bound, and so does the order 2, 1 of neh; the bound of the two
+    # ends is 10, of each machine. All searches have 850 of 456 parts of 10,000,000 directions, of which four fifths are
+    # more than 10,000,000. So this is the whole budget, and 333,333 its thirtieth. It does not suffice below 27, so
+    # no search is made there again.
+    shop = Shop.from_jobs([[9, 9, 9], [0, 0, 1]])
+    wanted = [(27, 10_000_000), (11, 10_000), (11, 333_333), ("beam", 11, 800, 48_000_000)]
+    wanted += [("beam", middle, 25, 6_000_000) for middle in (19, 23, 25, 26)]
+    follow("a start that has Taillard's bound", shop, {}, [*wanted, (11, 1_000_000)], (10, 27), 27)
+    # The first beam drops nothing, and comes to a better sequence. Of 13,076,923 directions the first two searches use
+    # up 110,266, so that 10,000,000 are left, and behind the search with these 2,966,524. The thirtieth and the tenth
+    # of the whole budget are less. Below the best makespan 10,000,000 did not suffice.
+    lower, upper = SOME.bound(), SOME.neh().value
+    beam = "beam", 0, 16, 12_000_000
+    wanted = [
+        *[(upper, 10_000), (upper, 100_000), beam, (upper - 1, 10_000_000)],
+        *[(lower + 1, 10_000), (lower + 1, 333_333), ("beam", lower + 1, 800, 48_000_000)],
+        *[*halves(lower + 1, upper - 1), (lower + 1, 1_000_000)],
+    ]
+    given = {beam: _parts.Reached(SOME._in_order(), upper - 1, True)}
+    follow("a beam that drops nothing", SOME, given, wanted, (lower, upper - 1))
+
+
+def follow_better():
+    """Runs that find better sequences."""
+    # The next search of step 3 has the same budget. Both runs of rounds follow, as in improve, since the best sequence
+    # is not the start. Of the half of 13,076,923 directions that the steps 1 to 4 have, 5,267,491 are left behind
+    # step 3, and of all 11,462,353 behind step 5.
+    lower, upper = SOME.bound(), SOME.neh().value
+    beams = [("beam", 0, 16, 12_000_000), ("beam", 0, 100, 12_000_000)]
+    given = {
+        beams[1]: _parts.Reached(SOME._in_order(), upper - 10, False), (upper - 10, 10_000): below(40, upper - 12),
+        (upper - 12, 100_000): below(50_000, upper - 15),
+    }
+    wanted = [
+        *[(upper, 10_000), (upper, 100_000), *beams, (upper - 10, 10_000), (upper - 12, 10_000)],
+        *[(upper - 12, 100_000), (upper - 15, 100_000), (upper - 15, 1_000_000)],
+        *[("rounds", 30, 3, 1_000_000), ("rounds", 30, 3, 4_000_000)],
+        *[(lower + 1, 10_000), (lower + 1, 333_333), ("beam", lower + 1, 800, 48_000_000)],
+        *[*halves(lower + 1, upper - 15), (upper - 15, 10_000_000), (lower + 1, 1_000_000)],
+    ]
+    follow("better sequences in step 3", SOME, given, wanted, (lower, upper - 15))
+    # The first beam of step 7 finds a sequence, whose makespan replaces the greater number.
+    middle = (lower + 1 + upper) // 2
+    beam, given = ("beam", middle, 25, 6_000_000), _parts.Reached(SOME._in_order(), middle - 9, False)
+    wanted = [
+        *[(upper, 10_000), (upper, 100_000), *beams, (upper, 1_000_000), ("rounds", 30, 3, 4_000_000)],
+        *[(lower + 1, 10_000), (lower + 1, 333_333), ("beam", lower + 1, 800, 48_000_000), beam],
+        *[*halves(lower + 1, middle - 9), (middle - 9, 10_000_000), (lower + 1, 1_000_000)],
+    ]
+    follow("a better sequence in step 7", SOME, {beam: given}, wanted, (lower, middle - 9))
+
+
+def follow_raises():
+    """Raises of the lower bound in step 5, and in step 8 with what follows there."""
+    lower, upper = SOME.bound(), SOME.neh().value
+    first = [(upper, 10_000), (upper, 100_000), ("beam", 0, 16, 12_000_000), ("beam", 0, 100, 12_000_000)]
+    first += [(upper, 1_000_000), ("rounds", 30, 3, 4_000_000)]
+    # The distances are 1, 2, 4 and 8. The search at 15 is over its budget, so the next distance is half of 15 - 7, and
+    # then half of 11 - 7. From 9 it is at most half of 11 - 9, and between 9 and 10 no number is left. Step 5 has
+    # 11,966,524 directions, and uses up 364,797. The search below the best makespan uses up 10,000,133, so that
+    # 1,601,594 are left for step 8.
+    given = {(lower + more, 10_000): proved(100) for more in (1, 3, 7, 9)}
+    wanted = [
+        *[*first, *[(lower + more, 10_000) for more in (1, 3, 7, 15, 11, 9, 10)], (lower + 10, 333_333)],
+        *[("beam", lower + 10, 800, 48_000_000), *halves(lower + 10, upper)],
+        *[(upper, 10_000_000), (lower + 10, 1_000_000)],
+    ]
+    follow("raises in step 5", SOME, given, wanted, (lower + 9, upper))
+    # Behind step 7 there are 1,622,792 directions. At 1 and 3 the number is proved, and below 7 there is a sequence
+    # with 6. The distance is then half of 7 - 3, which is less than 8. The search at 5 is over its budget, so the next
+    # distance is half of 5 - 3, and 620,560 directions are left. Step 6 is made once more. Below the new makespan no
+    # search was made, so one has the directions that are left, 433 fewer.
+    given = {(lower + 1, 1_000_000): proved(500), (lower + 3, 1_000_000): proved(500)}
+    given.update({(lower + 7, 1_000_000): below(700, lower + 6), (lower + 4, 620_560): proved(300)})
+    wanted = [
+        *[*first, (lower + 1, 10_000), (lower + 1, 333_333), ("beam", lower + 1, 800, 48_000_000)],
+        *[*halves(lower + 1, upper), (upper, 10_000_000)],
+        *[(lower + more, 1_000_000) for more in (1, 3, 7, 5)], (lower + 4, 620_560),
+        *[("beam", lower + 5, 800, 48_000_000), (lower + 6, 620_127)],
+    ]
+    follow("raises in step 8", SOME, given, wanted, (lower + 4, lower + 6))
+
+
 def follow_manual():
     """The searches of a run that comes to nothing, with their budgets, and its beams and rounds, with their steps, by
     docs/manual.md. Some numbers, for 20 jobs on 10 machines and 10,000,000 directions: all searches have 850 of 650
     parts of these, 13,076,923, of which each takes 20 x 20 / 3 = 133 more than it writes; of 17,000,000 steps beams
     have 12,000,000."""
     upper, lower = SOME.neh().value, SOME.bound()
-    halves, missed = [], lower + 1
-    while upper - missed > 1:
-        missed += (upper - missed) // 2
-        halves.append(("beam", missed, 25, 6_000_000))
     wanted = [
         *[(upper, 10_000), (upper, 100_000), ("beam", 0, 16, 12_000_000), ("beam", 0, 100, 12_000_000)],
         *[(upper, 1_000_000), ("rounds", 30, 3, 4_000_000)],
-        *[(lower + 1, 10_000), (lower + 1, 333_333), ("beam", lower + 1, 800, 48_000_000), *halves],
-        *[(upper, 10_000_000), (lower + 1, 1_000_000)],
+        *[(lower + 1, 10_000), (lower + 1, 333_333), ("beam", lower + 1, 800, 48_000_000)],
+        *[*halves(lower + 1, upper), (upper, 10_000_000), (lower + 1, 1_000_000)],
     ]
-    choice = {"width": 100, "rounds": 30, "seed": 3, "work": 17, "directions": 10_000_000, "map": map}
     with mock.patch.object(_certify, "Spread", Traced):
-        SOME.certify(**choice)
+        SOME.certify(**FOLLOWED)
         equal("the searches of a run", Traced.asked, wanted)
-        SOME.certify(**choice, time_limit=1000)
+        SOME.certify(**FOLLOWED, time_limit=1000)
         early = [*wanted[:2], (lower + 1, 10_000), *wanted[2:6], (lower + 1, 100_000), *wanted[6:]]
         equal("the searches of a run with a time limit", Traced.asked, early)
         # Of a million all searches have 1,307,693, and those of steps 1 to 4 half of them, which the third one uses up.
-        SOME.certify(**{**choice, "directions": 1_000_001})
+        SOME.certify(**{**FOLLOWED, "directions": 1_000_001})
         budgets = [budget for _, budget, *more in Traced.asked if not more]
         cut = [653_847 - 110_000 - 2 * 133, 653_846 - 43_333 - 2 * 133]
         equal("budgets that are cut off", budgets, [10_000, 100_000, cut[0], 10_000, 33_333, cut[1]])
@@ -191,7 +298,7 @@ def follow_manual():
         better = [_parts.Reached(SOME._in_order(), makespan, makespan == least) for makespan in (upper - 1, least)]
         given = {("beam", 0, 100, 12_000_000): better[0], ("rounds", 30, 3, 1_000_000): better[1]}
         with mock.patch.object(Traced, "given", given):
-            equal("what is taken", SOME.certify(**choice).upper, least)
+            equal("what is taken", SOME.certify(**FOLLOWED).upper, least)
         rounds = [words for words in Traced.asked if words[0] == "rounds"]
         equal("rounds after that", rounds, [("rounds", 30, 3, 1_000_000)])
     long = Shop.from_jobs([[9, 9, 9], [1, 1, 1]])
@@ -375,39 +482,46 @@ def stop_by_token():
     equal("a search that ends at the stop", (lawful(HARD, found), found.state is None), (True, False))
 
 
-def refuse_states():
-    """States that are none, and what is not given with one. Each but the last ones differs in one thing from a state
-    that is taken."""
-    token = set_token()
-    state, other = HARD.certify(**LONG, token=token).state, Shop.generate(30, 15, 8).certify(**LONG, token=token).state
-    equal("a state that is taken", lawful(HARD, HARD.certify(resume=state, token=token)), True)
+def wrong_states(state, other):
+    """States that are none, each with what it is. Most differ in one thing from a state that is taken; the other one is
+    of another shop of its size."""
     head, named, called, numbers, *lists, directions = state.split(b"\n")
 
     def but(place, line):
+        """The state with another line."""
         lines = [head, named, called, numbers, *lists, directions]
         lines[place] = line
         return b"\n".join(lines)
 
-    def raised(name):
-        """The numbers where the one of this name is one more."""
+    for name in ("lower", "upper"):
         run = _library.RunNumbers.from_buffer_copy(bytes.fromhex(numbers.decode()))
         setattr(run, name, getattr(run, name) + 1)
-        return bytes(run).hex().encode()
-
-    sentence = f"resume is no state of a run of this shop by flowshop {flowshop.__version__}"
-    twice = [b" ".join([line.split()[1], *line.split()[1:]]) for line in lists]
-    for name, wrong in [
-        ("a lower bound that is not proved", but(3, raised("lower"))), ("another upper bound", but(3, raised("upper"))),
+        yield f"a bound that is not proved, {name}", but(3, bytes(run).hex().encode())
+    for place, line in enumerate(lists):
+        yield f"a sequence {place} with a job twice", but(4 + place, b" ".join([line.split()[1], *line.split()[1:]]))
+        yield f"a sequence {place} that is short", but(4 + place, line[2:])
+    yield from [
         ("another version", but(0, b"flowshop run 1.9.9")), ("other times", but(1, other.split(b"\n")[1])),
-        ("other numbers", but(2, called + b"0" * 9)),
-        *[(f"a sequence {place} that is none", but(4 + place, line)) for place, line in enumerate(twice)],
-        *[(f"a sequence {place} that is short", but(4 + place, line[2:])) for place, line in enumerate(lists)],
-        ("another shop of its size", other), ("another shop", SOME.certify(**LONG, time_limit=0).state),
-        ("one that is cut off", state[: len(state) // 2]), ("no bytes", b""),
+        ("other numbers", but(2, called + b"0" * 9)), ("another shop of its size", other),
+        ("another shop", SOME.certify(**LONG, time_limit=0).state), ("no bytes", b""),
+        ("one that is cut off", state[: len(state) // 2]),
         ("a run that has ended", HARD.certify(**{**LONG, "directions": 10, "work": 0})),
-    ]:
+    ]
+
+
+def refuse_states():
+    """A state that is taken, those that are none, and what is not given with one."""
+    token = set_token()
+    state, other = (shop.certify(**LONG, token=token).state for shop in (HARD, Shop.generate(30, 15, 8)))
+    check, readers = Shop.check, []
+    with mock.patch.object(Shop, "check", lambda *words: readers.append(threading.get_ident()) or check(*words)):
+        found = HARD.certify(resume=state, token=token)
+    equal("a state that is taken", lawful(HARD, found), True)
+    # The checker reads the state alone, and in a thread that an interrupt leaves.
+    equal("who reads it", [reader == threading.get_ident() for reader in readers], [False])
+    wanted = "OptionError", "RESUME", 0, f"resume is no state of a run of this shop by flowshop {flowshop.__version__}"
+    for name, wrong in wrong_states(state, other):
         got = refused(HARD.certify, resume=wrong, token=token)
-        wanted = "OptionError", "RESUME", 0, sentence
         equal(f"a state that is none: {name}", (*got[:3], got[3].split(";")[0]) if type(got) is tuple else got, wanted)
     equal("what is no text", refused(HARD.certify, resume=HARD.neh, token=token), TypeError)
     for words in ({"start": HARD.neh()}, {"by": "number"}):
@@ -545,7 +659,7 @@ def lose_worker():
 
 
 def lose_results(pool):
-    """Maps that are none: results that are missing, or in another order; and errors of a map and of a caller."""
+    """Maps that are none: results that are missing, or in another order; and errors of a map. Numbers that are none."""
 
     def fails(*_):
         raise ZeroDivisionError
@@ -561,20 +675,6 @@ def lose_results(pool):
             except (RuntimeError, ZeroDivisionError) as error:
                 got = type(error)
         equal(f"a map with {name}", got, wanted)
-    told = []
-
-    def fails_later(report):
-        told.append(report)
-        if report.upper < HARD.neh().value and report.lower > HARD.bound():
-            raise ZeroDivisionError
-
-    for each in (None, pool.map):
-        try:
-            got = HARD.certify(**LONG, map=each, time_limit=60, progress=fails_later)
-        except ZeroDivisionError as error:
-            got = error.result
-        bounds = told[-1].lower <= got.lower, got.upper <= told[-1].upper
-        equal("an error of who is told", (lawful(HARD, got), got.state is None, *bounds), (True, False, True, True))
     limits = [("time_limit", value) for value in (-1, "60", True)]
     for name, value in [("workers", 0), ("workers", 10_001), *limits, ("bound", -1)]:
         call = HARD.prove if name == "bound" else HARD.certify
@@ -585,6 +685,24 @@ def lose_results(pool):
     ]:
         got = refused(lambda: HARD.prove(5000, front=front, back=back))
         equal(f"the node {front}, {back}", got, ("NotASequence", "JOB" if place == 2 else "TWICE", place, sentence))
+
+
+def lose_progress(pool):
+    """An error of who is told how far a run has come leaves the bounds so far."""
+    told = []
+
+    def fails(report):
+        told.append(report)
+        if report.upper < HARD.neh().value and report.lower > HARD.bound():
+            raise ZeroDivisionError
+
+    for each in (None, pool.map):
+        try:
+            got = HARD.certify(**LONG, map=each, time_limit=60, progress=fails)
+        except ZeroDivisionError as error:
+            got = error.result
+        bounds = told[-1].lower <= got.lower, got.upper <= told[-1].upper
+        equal("an error of who is told", (lawful(HARD, got), got.state is None, *bounds), (True, False, True, True))
 
 
 def use_command():
@@ -1202,7 +1320,8 @@ def use_local():
     with concurrent.futures.ProcessPoolExecutor(2, **deaf) as pool:
         list(pool.map(first, range(4)))
         compare_searches()
-        follow_manual()
+        for part in (follow_manual, follow_starts, follow_better, follow_raises):
+            part()
         compare_texts(pool)
         keep_time(pool)
         resume_runs()
@@ -1211,6 +1330,7 @@ def use_local():
         show_progress()
         interrupt_runs(pool)
         lose_results(pool)
+        lose_progress(pool)
     for part in (lose_worker, stop_threads, use_eight_threads, use_command, use_odd_names, keep_links_and_pipes,
                  keep_streams, refuse_words, use_terminal, stop_command, stop_at_pipes, write_to_full_pipes,
                  restore_handler, kill_command, end_writing, use_page):

@@ -33,7 +33,8 @@ def call_package():
     search_by_package()
     found = SHOP.certify(START, **FEW, directions=20_000, workers=2)
     print(found, SHOP.check(found), SHOP.bound(), SHOP.makespan(found), SHOP.schedule(found), repr(SHOP.gantt(found)))
-    print(SHOP.improve(START, **FEW), SHOP.neh(), repr(SHOP.report(found, title="greatest")))
+    stopped = SHOP.certify(resume=SHOP.certify(START, time_limit=0), time_limit=0)
+    print(SHOP.improve(START, **FEW), SHOP.neh(), repr(SHOP.report(found, title="greatest")), stopped.state is None)
     print(refused(SHOP.solve, START, budget=1_000))
     with new_folder() as folder:
         SHOP.write(folder / "shop")

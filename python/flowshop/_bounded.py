@@ -11,8 +11,7 @@ class Bounded(metaclass=Brief):
 
     @property
     def gap(self) -> float:
-        """How far apart the bounds are, as a part of the upper one: (upper - lower) / upper, and 0.0 where they are
-        equal.
+        """How far apart the bounds are: (upper - lower) / upper, and 0.0 where they are equal.
 
         >>> shop.neh().lower, shop.neh().upper, round(shop.neh().gap, 3)
         (10, 13, 0.231)

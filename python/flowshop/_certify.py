@@ -197,9 +197,9 @@ class Run:
             self._put(run, AnswerNumbers(REACHED, 0, run.upper, 0))
 
 
-def begun(shop: Numbers, start: bytes, directions: int, is_limited: bool) -> Kept:
+def begun(run: RunNumbers, start: bytes) -> Kept:
     """What a run keeps at its beginning."""
-    return Kept(bytes(Instance(*shop).run(start, directions, is_limited)), start, start, start, b"")
+    return Kept(bytes(run), start, start, start, b"")
 
 
 def _words(task: TaskNumbers) -> _Words:

@@ -18,8 +18,7 @@ def numbers_of(jobs: bytes) -> Numbers:
 
 @dataclass(frozen=True, repr=False)
 class Proved(metaclass=Brief):
-    """A bound that is proved: no sequence has a smaller makespan. `directions` are those of line 5 of a two-ended
-    certificate.
+    """A bound that is proved: no sequence has a smaller makespan. `directions` are line 5 of a two-ended certificate.
 
     >>> shop.prove(12).directions
     b'++'
@@ -34,8 +33,7 @@ class Proved(metaclass=Brief):
 
 @dataclass(frozen=True, repr=False)
 class Below(Start):
-    """The first sequence of a search whose makespan, `value`, is below the bound. It is a Start. `directions` are those
-    that the search wrote before it.
+    """The first sequence of a search whose makespan, `value`, is below the bound: a Start. `directions` came before it.
 
     >>> shop.prove(13)
     Below(makespan 12: 3, 1, 2)
@@ -92,8 +90,7 @@ def part_of(packed: PackedPart) -> Part:
 class Over(metaclass=Brief):
     """A search that is over its budget: its first directions, as many as the budget, and the parts that are left, in
     order. What a search of a part comes to does not depend on the others. So the directions of the parts, one after
-    the other behind these, are those of the whole search, and a sequence below the bound is the first one that they
-    come to.
+    the other behind these, are those of the whole search, and so is the first sequence below the bound.
 
     >>> found = shop.prove(12, budget=1)
     >>> nodes = [node for part in found.parts for node in part.nodes()]

@@ -54,9 +54,8 @@ class _Ordered(Bounded):
         return [job - 1 for job in self.sequence]
 
     def plot(self, ax: Any = None) -> Any:
-        """The timetable of the sequence as a Gantt chart of matplotlib, in `ax`, or in a figure of its own. Gives the
-        axes. ImportError where there is no matplotlib, FlowshopError where the result comes from another process or
-        from a text, and so has no shop.
+        """The timetable of the sequence as a Gantt chart of matplotlib, in `ax` or a figure of its own. Gives the axes.
+        ImportError where there is no matplotlib, FlowshopError where a pickle or a text gave this without its shop.
 
         >>> shop.neh().plot().get_title()  # doctest: +SKIP
         'makespan 13'
@@ -303,8 +302,7 @@ class Picture(str, metaclass=BriefABC):
         return f"Picture({self.partition('<title>')[2].partition('</title>')[0]})"
 
     def save(self, path: Path) -> None:
-        """Writes the text to a file. OSError where that fails, OptionError where the file has the suffix of another
-        format, as .png.
+        """Writes the text to a file. OSError where that fails, OptionError where its suffix is another one, as .png.
 
         >>> shop.gantt([2, 1, 3]).save("schedule.svg")
         """
@@ -333,8 +331,7 @@ class Report(str, metaclass=BriefABC):
         return f"Report({html.unescape(self._title())})"
 
     def save(self, path: Path) -> None:
-        """Writes the page to a file. OSError where that fails, OptionError where the file has the suffix of another
-        format, as .pdf.
+        """Writes the page to a file. OSError where that fails, OptionError where its suffix is another one, as .pdf.
 
         >>> shop.report([2, 1, 3]).save("schedule.html")
         """

@@ -22,8 +22,8 @@ from ._errors import counted, found_in
 from ._found import Below, Over, Proved, numbers_of, part_of
 from ._headings import length_of
 from ._labels import Unit, label_lines, unit_of
-from ._library import BoundsRoom, EffortNumbers, Plan, ReachedRoom, Refused, ShopNumbers, SpansRoom, TextRoom
-from ._library import byref, call, size, u16, u32, u64
+from ._library import BoundsRoom, EffortNumbers, Plan, ReachedRoom, Refused, RunNumbers, ShopNumbers, SpansRoom
+from ._library import TextRoom, byref, call, size, u16, u32, u64
 from ._options import MOST_TREES, OF_PARTS, STATED, function_of, option, scale_of, time_limit_of, token_of, workers_of
 from ._page import MOST_BARS, Facts, page
 from ._parts import OVER, PROVED, Instance, PackedPart, Pieces, Rooms, parts_of
@@ -688,16 +688,15 @@ class Shop(metaclass=Brief):
         run with a time limit raises the lower bound early, and may give another certificate also where it ends before.
         `progress` is called with a Progress, a few times a second; where it is True, a line on standard error tells the
         same. An interrupt ends the call within a second, as Interrupted, whose `result` is a certificate of the best
-        bounds so far; an error of `progress` or of the map has such a `result` too. Where the run has ended, without a
-        map and a time limit, the certificate was read by `check`; one of a run that was stopped was not. `by` is that
-        of `makespan`. Errors are those of `improve`, and those of the map.
+        bounds so far; an error of `progress` or of the map has such a `result` too. Without a map and a time limit
+        `check` has read the certificate of a run that ends, not of one that is stopped. `by` is that of `makespan`.
+        Errors are those of `improve`, and those of the map.
 
         A `token`, such as a threading.Event, ends the call from another thread as a time limit does, once it is set.
         A certificate of a run that was stopped has a `state`: with `resume` as such a state, a file of it
         (pathlib.Path), or that certificate a run goes on behind the last task that it had done, and comes to what it
-        would have come to. Its width, rounds, seed, work and directions are those of the state, whatever is given, and
-        so is its start: `start` and `by` are left out. OptionError where they are not, or where it is no state of a run
-        of this shop by this version.
+        would have come to. Start, width, rounds, seed, work and directions are those of the state. OptionError where
+        `start` or `by` is given too, or where it is no state of a run of this shop by this version.
 
         >>> certificate = shop.certify(workers=4, time_limit=60)
         >>> certificate.lower, certificate.upper
@@ -718,9 +717,10 @@ class Shop(metaclass=Brief):
         return self._read(found) if map is None and limit is None and found.state is None else found
 
     def _begin(self, start: Optional[bytes], effort: Effort, directions: int, is_limited: bool) -> State:
-        """The state of a run at its beginning, from a sequence, or from that of `neh`."""
-        first = self._begun(None) if start is None else start
-        return State(effort, directions, begun(self._parts[:3], first, directions, is_limited))
+        """The state of a run at its beginning, from a sequence or that of `neh`. NotASequence where it is none."""
+        first, run = self._begun(None) if start is None else start, RunNumbers()
+        self._call("run", first, directions, int(is_limited), run)
+        return State(effort, directions, begun(run, first))
 
     def _resumed(self, resume: Union[bytes, os.PathLike[str], Certificate], start: Optional[Jobs], by: By) -> State:
         """A state whose bounds the checker has read. OptionError where it is none, or comes with a start."""
@@ -750,8 +750,8 @@ class Shop(metaclass=Brief):
 
         def found() -> Certificate:
             has_ended, kept = run.has_ended, run.kept  # in this order: what it keeps when it ends is the last
-            written = None if has_ended else state._replace(kept=kept).written(self._parts[:3])
-            return replace(self._certificate(kept.known()), _state=written)
+            goes_on = None if has_ended else state._replace(kept=kept).written(self._parts[:3])
+            return replace(self._certificate(kept.known()), _state=goes_on)
 
         try:
             run.search_until(watch, workers)
