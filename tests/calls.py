@@ -380,7 +380,7 @@ def refuse_answers():
     # All searches may write 850 of 459 parts of a thousand directions, 1851, and half of them before step 5.
     equal("the first task", (task.kind, task.number, task.budget), (1, 13, 926))
     for answer in [(0, 0, 0, 0), (5, 0, 12, 1), (4, 0, 12, 0), (4, 1, 0, 0), (1, 0, 0, 927), (1, 0, 0, 2**64 - 1),
-                   (2, 0, 13, 1), (2, 0, 2**64 - 1, 1), (2, 0, 9, 1), (2, 0, 12, 927), (2, 0, 12, 2**64 - 1)]:
+                   (2, 0, 13, 1), (2, 0, 2**64 - 1, 1), (2, 0, 12, 927), (2, 0, 12, 2**64 - 1)]:
         equal(f"the answer {answer}", put_to(run, numbers, *answer), ("ANSWER", 0))
     equal("a better sequence", (put_to(run, numbers, 2, 0, 12, 1), run.lower, run.upper), (1, 10, 12))
     equal("the next task", next_of(run, numbers).number, 12)
