@@ -1,6 +1,5 @@
 -- Runs of `certify`, task by task: what is asked for, and what an answer changes.
 use Rattle.std.specs.Prelude.{ℕ, ◌≡◌, ◌⊎◌, Bool, false, true, cond, nat_eq, Option, Some, None, ◌∷◌, [], List, length, not}
-use Rattle.std.specs.Option.{option_map}
 use Rattle.flow_shop.specs.Shop.{Shop}
 use Rattle.flow_shop.specs.Paths.{span}
 use Rattle.flow_shop.specs.Refusals.{first_fault}

@@ -1,4 +1,3 @@
-use Rattle.std.specs.Prelude.{◌≡◌, ◌≤◌}
 use Rattle.flow_certify.specs.internal.Keeping.{IsLater}
 use Rattle.flow_certify.proofs.bounds.certify.Given as goal
 

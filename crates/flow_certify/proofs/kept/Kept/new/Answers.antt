@@ -1,4 +1,4 @@
-use Rattle.std.proofs.Common.{rules, ◌≡◌}
+use Rattle.std.proofs.Common.{rules}
 use Rattle.flow_certify.proofs.Empty.{proves-bound}
 use Rattle.flow_certify.proofs.kept.Kept.new.Goals as goal
 
