@@ -112,7 +112,7 @@ enum flowshop_status {
     /* The number of a certificate is not within its limits. */
     FLOWSHOP_DIRECTIONS = 37, /* the directions are not 1 to 1000000000 */
 
-    FLOWSHOP_ANSWER = 38, /* what is said of the task of a run is no answer to it */
+    FLOWSHOP_ANSWER = 38, /* a run is told what is no answer to a task that it may ask for */
 
     /* The shop and the options have no plan. */
     FLOWSHOP_PLAN_DEPTH = 40, /* the depth is above the number of jobs */
@@ -508,12 +508,13 @@ FLOWSHOP_CALL flowshop_outcome flowshop_run(const flowshop_shop *shop, const uin
 FLOWSHOP_CALL flowshop_outcome flowshop_run_next(flowshop_run_state *run, const flowshop_effort *effort,
                                                  flowshop_task *task) FLOWSHOP_NOEXCEPT;
 
-/* Tells a run what became of the task that is next. `better` becomes 1 where the sequence of the answer is to be kept
- * as the best one, else 0. Nothing tests that the answer is true: the bounds of the run are proved where it is what
- * flowshop_prove, flowshop_beam or flowshop_rounds gave for this task. More directions than the budget of a search, or
- * a sequence that is not below its number, are no answer to it.
- * Faults in order: WIDTH, ROUNDS, SEED, WORK; ANSWER. */
-FLOWSHOP_CALL flowshop_outcome flowshop_run_put(flowshop_run_state *run, const flowshop_effort *effort,
+/* Tells a run what became of the task that it asked for last. `better` becomes 1 where the sequence of the answer is to
+ * be kept as the best one, else 0. Nothing tests that the answer is true: the bounds of the run are proved where it is
+ * what flowshop_prove, flowshop_beam or flowshop_rounds gave for this task. A search for a number that is not above the
+ * lower bound and at most the upper one is no task; more directions than the budget of a search, or a sequence that is
+ * not below its number, are no answer to it.
+ * Fault: ANSWER. */
+FLOWSHOP_CALL flowshop_outcome flowshop_run_put(flowshop_run_state *run, const flowshop_task *task,
                                                 const flowshop_answer *answer, uint32_t *better) FLOWSHOP_NOEXCEPT;
 
 /* The two-ended certificate of a sequence, with its makespan, and of a lower bound and directions. Nothing tests that

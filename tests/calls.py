@@ -143,10 +143,10 @@ def next_of(run, numbers):
     return refused[0] or tasks[0]
 
 
-def put_to(run, numbers, *answer):
+def put_to(run, task, *answer):
     """Whether a sequence becomes the best one, or why an answer is refused; then nothing changes."""
     better, before = Room(U32, 1, is_slice=False), bytes(run)
-    refused = call("run_put", run, Effort(*numbers[:4]), Answer(*answer), better)
+    refused = call("run_put", run, task, Answer(*answer), better)
     equal("a run after an answer", bytes(run) == before, bool(refused))
     return refused or better.taken(1)[0]
 
@@ -183,7 +183,7 @@ def certify_by_tasks(shop, start, numbers, limited=0, asked=None):
         equal("a threshold between the bounds", task.kind != 1 or run.lower < task.number <= run.upper, True)
         equal("a budget", task.budget <= numbers[4], True)
         answer, sequence, text = done(shop, task, kept[task.origin])
-        if put_to(run, numbers, *answer):
+        if put_to(run, task, *answer):
             kept = [start, sequence, kept[1]]
         elif answer[0] == 1:
             directions = text
@@ -368,26 +368,32 @@ def refuse_rooms():
 
 
 def refuse_answers():
-    """What no run takes: numbers that are not within their limits, and answers to other tasks than the one at hand."""
-    for names in (("width", "rounds", "seed", "work"), ("directions",)):
-        for wanted, numbers in refusals.wrong_numbers(names):
-            values, run = [*numbers.values()], run_of(SHOP, START)
-            makes = [lambda: next_of(run, values), lambda: put_to(run, values, 9, 0, 0, 0)]
-            for make in makes if len(values) > 1 else [lambda: run_of(SHOP, START, *values)]:
-                equal(f"a run with the numbers {values}", make(), (wanted.upper(), 0))
+    """What no run takes: numbers that are not within their limits, answers to other tasks than the one at hand, and
+    tasks that it may not ask for."""
+    for wanted, numbers in refusals.wrong_numbers(("width", "rounds", "seed", "work")):
+        equal(f"the task of {numbers}", next_of(run_of(SHOP, START), [*numbers.values()]), (wanted.upper(), 0))
+    for wanted, numbers in refusals.wrong_numbers(("directions",)):
+        equal(f"a run of {numbers}", run_of(SHOP, START, *numbers.values()), (wanted.upper(), 0))
     numbers, run = (16, 9, 1, 1), run_of(SHOP, START)
-    task = next_of(run, numbers)
+    first = next_of(run, numbers)
     # All searches may write 850 of 459 parts of a thousand directions, 1851, and half of them before step 5.
-    equal("the first task", (task.kind, task.number, task.budget), (1, 13, 926))
+    equal("the first task", (first.kind, first.number, first.budget), (1, 13, 926))
     for answer in [(0, 0, 0, 0), (5, 0, 12, 1), (4, 0, 12, 0), (4, 1, 0, 0), (1, 0, 0, 927), (1, 0, 0, 2**64 - 1),
                    (2, 0, 13, 1), (2, 0, 2**64 - 1, 1), (2, 0, 12, 927), (2, 0, 12, 2**64 - 1)]:
-        equal(f"the answer {answer}", put_to(run, numbers, *answer), ("ANSWER", 0))
-    equal("a better sequence", (put_to(run, numbers, 2, 0, 12, 1), run.lower, run.upper), (1, 10, 12))
-    equal("the next task", next_of(run, numbers).number, 12)
-    equal("a proof", (put_to(run, numbers, 1, 0, 0, 2), run.lower, run.upper), (0, 12, 12))
-    equal("no task more", next_of(run, numbers).kind, 0)
+        equal(f"the answer {answer}", put_to(run, first, *answer), ("ANSWER", 0))
+    for task in [Task(), Task(4), Task(1, 0, 10, 1), Task(1, 0, 14, 1), Task(1, 0, 13, 1001), Task(2, 3), Task(3, 3),
+                 Task(3, 0, rounds=RoundsOptions(100_000_001, 1)), Task(3, 0, rounds=RoundsOptions(1, 0))]:
+        for answer in [(1, 0, 0, 1), (2, 0, 9, 1), (3, 0, 0, 0), (4, 0, 12, 0)]:
+            equal(f"the answer {answer} to {task.kind}", put_to(run, task, *answer), ("ANSWER", 0))
+    equal("a better sequence", (put_to(run, first, 2, 0, 12, 1), run.lower, run.upper), (1, 10, 12))
+    equal("a task of the bounds before it", put_to(run, first, 1, 0, 0, 2), ("ANSWER", 0))
+    task = next_of(run, numbers)
+    equal("the next task", task.number, 12)
+    equal("a proof", (put_to(run, task, 1, 0, 0, 2), run.lower, run.upper), (0, 12, 12))
+    task = next_of(run, numbers)
+    equal("no task more", task.kind, 0)
     for answer in [(1, 0, 0, 0), (2, 0, 0, 0), (3, 0, 0, 0), (4, 0, 0, 0)]:
-        equal(f"the answer {answer} to no task", put_to(run, numbers, *answer), ("ANSWER", 0))
+        equal(f"the answer {answer} to no task", put_to(run, task, *answer), ("ANSWER", 0))
 
 
 def refuse_null_pointers():
@@ -398,7 +404,8 @@ def refuse_null_pointers():
         lambda: generate(3, 3, 1), lambda: block(b"one\n1 1 0 0 0\ntimes\n5\n", 1), lambda: makespan(SHOP, START),
         lambda: makespans(SHOP, START + START), lambda: timetable(SHOP, START), lambda: picture(SHOP, START, 5_000),
         lambda: neh(SHOP), lambda: improve(SHOP, START), lambda: check(SHOP, refusals.LEAST), lambda: solve(SHOP, START),
-        lambda: certify(SHOP, START), lambda: next_of(run, numbers), lambda: put_to(run, numbers, 3, 0, 0, 0),
+        lambda: certify(SHOP, START), lambda: next_of(run, numbers),
+        lambda: put_to(run, Task(1, 0, 13, 1), 3, 0, 0, 0),
         lambda: text_of(SHOP, START, 10, b""), lambda: prove(SHOP, 13), lambda: beam(SHOP, START),
         lambda: rounds(SHOP, START),
     ):

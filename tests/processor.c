@@ -12,6 +12,7 @@ static const flowshop_effort EFFORT = {16, 10, 1, 1};
 static const flowshop_plan PLAN = {0, 1000, 1};
 static const flowshop_beam_options BEAM = {0, 16, 1000000};
 static const flowshop_rounds_options ROUNDS = {10, 1, 1000000};
+static const flowshop_task TASK = {FLOWSHOP_TASK_SEARCH, 0, 12, 1, {0, 0, 0}, {0, 0, 0}};
 static const flowshop_answer ANSWER = {FLOWSHOP_OVER, 0, 0, 0};
 static const char BLOCK[] = "one\n2 2 5 9 8\ntimes\n1 14\n75 46\n";
 static const char CERTIFICATE[] = "flowshop two-ended 1\n3 3\n12 12\n3 1 2\n-+\nend\n";
@@ -79,7 +80,7 @@ int main(void) {
     MAKE(run, &SHOP, START, 3, 1000, 0, &rooms.run);
     run = rooms.run;
     MAKE(run_next, &rooms.run, &EFFORT, &rooms.task);
-    MAKE(run_put, &rooms.run, &EFFORT, &ANSWER, &rooms.better);
+    MAKE(run_put, &rooms.run, &TASK, &ANSWER, &rooms.better);
     MAKE(run_text, &SHOP, START, 3, 10, certificate, 0, &rooms.text);
     MAKE(beam, &SHOP, START, 3, &BEAM, &rooms.reached);
     MAKE(rounds, &SHOP, START, 3, &ROUNDS, &rooms.reached);

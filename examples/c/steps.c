@@ -62,7 +62,7 @@ int main(int count, char **words) {
             answer.whole = reached.whole;
             answer.makespan = reached.makespan;
         }
-        done(flowshop_run_put(&run, &effort, &answer, &better));
+        done(flowshop_run_put(&run, &task, &answer, &better));
         if (better) {
             memcpy(kept[2], kept[1], sizeof kept[1]);
             memcpy(kept[1], sequence, sizeof kept[1]);
@@ -70,6 +70,7 @@ int main(int count, char **words) {
             memcpy(directions, found, length = answer.directions);
         }
         printf("step %" PRIu32 ": least makespan %" PRIu64 " to %" PRIu64 "\n", run.step, run.lower, run.upper);
+        fflush(stdout);
     }
     flowshop_text text = {bytes, sizeof bytes, 0};
     done(flowshop_run_text(&shop, kept[1], JOBS, run.lower, directions, length, &text));

@@ -149,17 +149,11 @@ class Run:
         call("run_next", run, self._effort, task)
         return task
 
-    def _put(self, run: RunNumbers, answer: AnswerNumbers) -> bool:
-        """Tells a run what became of its task. Whether the sequence of the answer becomes the best one."""
-        better = u32()
-        call("run_put", run, self._effort, answer, byref(better))
-        return better.value == 1
-
     def _search(self, task: TaskNumbers) -> None:
         """Searches below a number, and keeps what is found."""
         found = self._spread.prove(task.number, task.budget)
         self._writing, self._written = 0, self._written + found.written
-        better = self._put(self._run, AnswerNumbers(found.kind, 0, found.makespan, found.written))
+        better = _put(self._run, task, AnswerNumbers(found.kind, 0, found.makespan, found.written))
         self._keep(found.sequence if better else None, found.directions if found.kind == PROVED else None)
 
     def _keep(self, sequence: Optional[bytes], directions: Optional[bytes]) -> None:
@@ -180,7 +174,7 @@ class Run:
             self._begun = {}
             self._begin()
         reached = self._begun.pop(key)()
-        better = self._put(self._run, AnswerNumbers(REACHED, int(reached.whole), reached.makespan, 0))
+        better = _put(self._run, task, AnswerNumbers(REACHED, int(reached.whole), reached.makespan, 0))
         self._keep(reached.sequence if better else None, None)
 
     def _begin(self) -> None:
@@ -194,12 +188,19 @@ class Run:
             words, start = _words(task), self._origin(task)
             name, *options = words
             self._begun[words, start] = self._spread.ahead(partial(self._spread.reached, name, start, *options))
-            self._put(run, AnswerNumbers(REACHED, 0, run.upper, 0))
+            _put(run, task, AnswerNumbers(REACHED, 0, run.upper, 0))
 
 
 def begun(run: RunNumbers, start: bytes) -> Kept:
     """What a run keeps at its beginning."""
     return Kept(bytes(run), start, start, start, b"")
+
+
+def _put(run: RunNumbers, task: TaskNumbers, answer: AnswerNumbers) -> bool:
+    """Tells a run what became of a task that it asked for. Whether the sequence of the answer becomes the best one."""
+    better = u32()
+    call("run_put", run, task, answer, byref(better))
+    return better.value == 1
 
 
 def _words(task: TaskNumbers) -> _Words:

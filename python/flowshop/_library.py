@@ -192,7 +192,7 @@ CALLS: Dict[str, List[Any]] = {
     "certify": [*_ON_SHOP, out(EffortNumbers), u32, out(BoundsRoom), out(TextRoom)],
     "run": [*_ON_SHOP, u32, u32, out(RunNumbers)],
     "run_next": [out(RunNumbers), out(EffortNumbers), out(TaskNumbers)],
-    "run_put": [out(RunNumbers), out(EffortNumbers), out(AnswerNumbers), out(u32)],
+    "run_put": [out(RunNumbers), out(TaskNumbers), out(AnswerNumbers), out(u32)],
     "run_text": [*_ON_SHOP, u64, data, size, out(TextRoom)],
     "prove": [out(ShopNumbers), out(NodeLists), u64, out(PartRooms)],
     "beam": [*_ON_SHOP, out(BeamOptions), out(ReachedRoom)],

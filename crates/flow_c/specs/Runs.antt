@@ -1,10 +1,12 @@
 -- Runs of `certify`, task by task: what is asked for, and what an answer changes.
-use Rattle.std.specs.Prelude.{ℕ, ◌≡◌, ◌⊎◌, Bool, false, true, cond, nat_eq, Option, Some, None, ◌∷◌, [], List, length, not}
+use Rattle.std.specs.Prelude.{ℕ, ◌≡◌, ◌&&◌, Bool, false, true, cond, nat_eq, Option, Some, None, ◌∷◌, [], List, length}
+use Rattle.std.specs.Prelude.{not}
+use Rattle.std.specs.Option.{option_map}
 use Rattle.flow_shop.specs.Shop.{Shop}
 use Rattle.flow_shop.specs.Paths.{span}
 use Rattle.flow_shop.specs.Refusals.{first_fault}
 use Rattle.flow_check.specs.TwoEnded.{two_ended_text}
-use Rattle.flow_certify.specs.Tasks.{HasSameBounds, IsAnswered, IsAsked, may_become}
+use Rattle.flow_certify.specs.Tasks.{HasSameBounds, IsAnswered, IsAsked, may_ask, may_become}
 use Rattle.flow_certify.specs.declared.run.Run.{Run}
 use Rattle.flow_certify.specs.declared.task.Task.{Task}
 use Rattle.flow_certify.specs.declared.task.Task.TheVariants as task
@@ -14,9 +16,11 @@ use Rattle.flow_certify.specs.declared.task.Answer.{Answer}
 use Rattle.flow_certify.specs.declared.task.Answer.TheVariants.{Proved, Below, Over, Reached}
 use Rattle.flow_c.specs.Certify.{directions_fault}
 use Rattle.flow_c.specs.Faults.{makespan_fault, room_fault, shop_of}
+use Rattle.flow_improve.specs.Effort as effort
 use Rattle.flow_improve.specs.declared.effort.EffortFault.{EffortFault}
+use Rattle.flow_improve.specs.declared.effort.RunLimits.{RunLimits}
+use Rattle.flow_improve.specs.declared.two_ended.BeamLimits.{BeamLimits}
 use Rattle.flow_c.specs.declared.fault.Fault.{Fault}
-use Rattle.flow_c.specs.declared.fault.Fault.TheVariants.{Effort, NoAnswer}
 use Rattle.flow_c.specs.declared.run.TaskNumbers.{TaskNumbers}
 use Rattle.flow_c.specs.declared.run.AnswerNumbers.{AnswerNumbers}
 use Rattle.flow_c.specs.declared.shop.ShopNumbers.{ShopNumbers}
@@ -101,26 +105,54 @@ pub record IsNext (old new : Run) (numbers : TaskNumbers) : Type 0 where
   pub bounds : HasSameBounds old new
   pub tasks : new.tasks ≡ old.tasks
 
--- the answer that numbers say is taken: a run with these bounds may ask for a task that it fits, and has it answered
-pub record IsPut (old new : Run) (numbers : AnswerNumbers) (better : Bool) : Type 0 where
-  pub answer : Answer
-  pub said : answer_of numbers ≡ Some answer
-  pub asking : Run
-  pub bounds : HasSameBounds old asking
-  pub tasks : asking.tasks ≡ old.tasks
-  pub task : Task
-  pub asked : IsAsked asking task
-  pub becomes : may_become task answer ≡ true
-  pub answered : IsAnswered asking new task answer better
+-- the sequence of a number, from which a beam or rounds begin
+abbrev pub origin_of : ℕ → Option Origin
+origin_of number =
+    cond (nat_eq number 0) (Some Start)
+    (cond (nat_eq number 1) (Some Best) (cond (nat_eq number 2) (Some Before) None))
 
--- no answer: the numbers say none; or a run with these bounds may ask for a task that it does not fit
-abbrev pub IsNoAnswer : Run → AnswerNumbers → Type 0
-IsNoAnswer old numbers =
-    (answer_of numbers ≡ None)
-    ⊎ ((asking : Run) × (task : Task) × (answer : Answer) × HasSameBounds old asking × IsAsked asking task
-    × (answer_of numbers ≡ Some answer) × (may_become task answer ≡ false))
+-- how far a beam goes, as numbers say it
+abbrev pub beam_of : TaskNumbers → BeamLimits
+beam_of numbers = record {
+  below = cond (nat_eq numbers.beam.number 0) None (Some numbers.beam.number);
+  width = numbers.beam.width;
+  work = numbers.beam.steps;
+}
 
--- why no answer is taken: the numbers of the effort are refused; or it is none to the task that is next
-abbrev pub IsPutFault : Option EffortFault → Run → AnswerNumbers → Fault → Type 0
-IsPutFault (Some of_effort) old numbers fault = fault ≡ Effort of_effort
-IsPutFault None old numbers fault = (fault ≡ NoAnswer) × IsNoAnswer old numbers
+-- when rounds end, as numbers say it, where these have no fault
+abbrev pub rounds_of : Option EffortFault → TaskNumbers → Option RunLimits
+rounds_of None numbers = Some (record {
+  rounds = numbers.rounds.rounds;
+  seed = numbers.rounds.seed;
+  work = numbers.rounds.steps;
+})
+rounds_of (Some fault) numbers = None
+
+-- rounds from a sequence, where there are both
+abbrev pub rounds_from : Option Origin → Option RunLimits → Option Task
+rounds_from None limits = None
+rounds_from (Some from) None = None
+rounds_from (Some from) (Some limits) = Some (task.Rounds from limits)
+
+-- the task that numbers say, where it is one that is to be answered
+abbrev pub task_of : TaskNumbers → Option Task
+task_of numbers =
+    cond (nat_eq numbers.kind 1) (Some (task.Search numbers.number numbers.budget))
+    (cond (nat_eq numbers.kind 2)
+    (option_map (λ from. task.Beam from (beam_of numbers)) (origin_of numbers.from))
+    (cond (nat_eq numbers.kind 3)
+    (rounds_from (origin_of numbers.from)
+    (rounds_of (effort.run_fault numbers.rounds.rounds numbers.rounds.seed) numbers))
+    None))
+
+-- whether an answer to a task is taken: there are both, the run may ask for the task, and this may become of it
+abbrev pub is_taken : Run → Option Task → Option Answer → Bool
+is_taken run None answer = false
+is_taken run (Some asked) None = false
+is_taken run (Some asked) (Some answer) = may_ask run asked && may_become asked answer
+
+-- the run after an answer to a task
+abbrev pub IsPut : Run → Run → Option Task → Option Answer → Bool → Type 0
+IsPut old new None answer better = ⊥
+IsPut old new (Some asked) None better = ⊥
+IsPut old new (Some asked) (Some answer) better = IsAnswered old new asked answer better

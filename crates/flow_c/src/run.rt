@@ -1,7 +1,7 @@
 //! A run of `certify`, task by task.
 
 ghost use Rattle.std.specs.Prelude.{◌≡◌, ◌⊎◌, ◌+◌, ◌≤◌, min, nat_eq, Bool, cond, None, [], length, drop};
-ghost use Rattle.std.specs.Prelude.{IfOk, OnOk, IfErr, OnErr};
+ghost use Rattle.std.specs.Prelude.{true, false, IfOk, OnOk, IfErr, IsSomeAnd};
 ghost use Rattle.std.specs.Option.{option_map};
 ghost use Rattle.flow_shop.specs.Paths.{span};
 ghost use Rattle.flow_shop.specs.Ends.{end_bound};
@@ -10,11 +10,11 @@ ghost use Rattle.flow_certify.specs.Signs.{most_signs};
 ghost use Rattle.flow_c.specs.Statuses.{number, done, memory};
 ghost use Rattle.flow_c.specs.Faults.{shop_of, numbers_fault, fault_of_effort, IsFaultOf, IsDone, HasFault, Reports};
 ghost use Rattle.flow_c.specs.Rooms.{IsSameRoom, text_in};
-ghost use Rattle.flow_c.specs.Runs.{IsNext, IsPut, IsPutFault, answer_of, kept_text, origin_number, run_fault};
-ghost use Rattle.flow_c.specs.Runs.{task_numbers, text_fault};
+ghost use Rattle.flow_c.specs.Runs.{IsNext, IsPut, answer_of, beam_of, is_taken, kept_text, origin_number, origin_of};
+ghost use Rattle.flow_c.specs.Runs.{rounds_of, run_fault, task_numbers, task_of, text_fault};
+ghost use Rattle.flow_improve.specs.Effort as effort;
 ghost use Rattle.flow_c.specs.internal.Around.{behind};
-ghost use Rattle.flow_c.specs.declared.fault.Fault.{Fault};
-ghost use Rattle.flow_c.specs.declared.fault.Fault.TheVariants.{Effort};
+ghost use Rattle.flow_c.specs.declared.fault.Fault.TheVariants.{Effort, NoAnswer};
 
 use crate::beam::BeamOptions;
 use crate::certify::{around, most_of, put};
@@ -27,6 +27,7 @@ use crate::shop::ShopNumbers;
 use crate::text::TextRoom;
 use flow_certify::{Answer, Origin, Run, Task};
 use flow_check::Bounds;
+use flow_improve::{BeamLimits, RunLimits};
 use flow_shop::{Sequence, makespan};
 use flow_text::MemorySink;
 use std::alloc::Global;
@@ -62,6 +63,63 @@ pub struct AnswerNumbers {
     pub makespan: u64,
     /// How many directions a search wrote.
     pub directions: u64,
+}
+
+/// The sequence of this number from which a beam or rounds begin.
+fn origin_of(number: u32) -> Option<Origin>
+    ensures { result ≡ origin_of number }
+{
+    match number {
+        0 => Some(Origin::Start),
+        1 => Some(Origin::Best),
+        2 => Some(Origin::Before),
+        _ => None,
+    }
+}
+
+impl TaskNumbers {
+    /// How far the beam goes.
+    fn beam_limits(&self) -> BeamLimits
+        ensures { result ≡ beam_of self.now }
+    {
+        BeamLimits {
+            below: if self.beam.number == 0 {
+                None
+            } else {
+                Some(self.beam.number)
+            },
+            width: self.beam.width,
+            work: self.beam.steps,
+        }
+    }
+
+    /// When the rounds end, where the numbers are within their limits.
+    fn run_limits(&self) -> Option<RunLimits>
+        ensures { result ≡ rounds_of (effort.run_fault self.now.rounds.rounds self.now.rounds.seed) self.now }
+    {
+        RunLimits::new(self.rounds.rounds, self.rounds.seed, self.rounds.steps).ok()
+    }
+
+    /// The task, where the numbers say one that is to be answered.
+    fn task(&self) -> Option<Task>
+        ensures { result ≡ task_of self.now }
+    {
+        match self.kind {
+            1 => Some(Task::Search {
+                threshold: self.number,
+                budget: self.budget,
+            }),
+            2 => Some(Task::Beam {
+                from: origin_of(self.from)?,
+                limits: self.beam_limits(),
+            }),
+            3 => Some(Task::Rounds {
+                from: origin_of(self.from)?,
+                limits: self.run_limits()?,
+            }),
+            _ => None,
+        }
+    }
 }
 
 impl AnswerNumbers {
@@ -216,48 +274,45 @@ pub extern "C" fn flowshop_run_next(
     }
 }
 
-/// Takes what became of the task that is next. Returns whether its sequence becomes the best one.
-fn take(run: &mut Run, effort: &EffortNumbers, answer: &AnswerNumbers) -> Result<bool, Fault>
-    ensures put { IfOk result (IsPut run.old run.new answer.now) }
-    ensures accepted { OnOk result (fault_of_effort effort.now ≡ None) }
-    ensures refused { IfErr result (IsPutFault (fault_of_effort effort.now) run.old answer.now) }
-    ensures kept { OnErr result (run.new ≡ run.old) }
+/// Takes what became of a task. Returns whether its sequence becomes the best one; `None` where it is not taken, and
+/// then nothing changes.
+fn take(run: &mut Run, task: &TaskNumbers, answer: &AnswerNumbers) -> Option<bool>
+    ensures taken { is_taken run.old (task_of task.now) (answer_of answer.now) ≡ true →
+        IsSomeAnd result (IsPut run.old run.new (task_of task.now) (answer_of answer.now)) }
+    ensures refused { is_taken run.old (task_of task.now) (answer_of answer.now) ≡ false →
+        (result ≡ None) × (run.new ≡ run.old) }
 {
-    let effort = effort.effort()?;
-    let answer = answer.answer().ok_or(Fault::NoAnswer)?;
-    let mut next = *run;
-    let task = next.next(&effort);
-    let better = next.put(&task, &answer).ok_or(Fault::NoAnswer)?;
-    *run = next;
-    Ok(better)
+    let task = task.task()?;
+    let answer = answer.answer()?;
+    run.put(&task, &answer)
 }
 
-/// Takes what became of the task that is next. `better` becomes 1 where its sequence becomes the best one, or else 0.
+/// Takes what became of a task that the run asked for. `better` becomes 1 where its sequence becomes the best one, or
+/// else 0.
 #[unsafe(no_mangle)]
 pub extern "C" fn flowshop_run_put(
     run: &mut Run,
-    effort: &EffortNumbers,
+    task: &TaskNumbers,
     answer: &AnswerNumbers,
     better: &mut u32,
 ) -> Outcome
-    ensures put { result.status ≡ done →
-        (is_better : Bool) × IsPut run.old run.new answer.now is_better × (better.new ≡ cond is_better 1 0) }
-    ensures accepted { result.status ≡ done → fault_of_effort effort.now ≡ None }
-    ensures status { IsDone result ⊎ ((fault : Fault)
-        × IsPutFault (fault_of_effort effort.now) run.old answer.now fault × HasFault fault result) }
-    ensures kept { (result.status ≡ done) ⊎ ((run.new ≡ run.old) × (better.new ≡ better.old)) }
+    ensures taken { is_taken run.old (task_of task.now) (answer_of answer.now) ≡ true → IsDone result
+        × ((is_better : Bool) × IsPut run.old run.new (task_of task.now) (answer_of answer.now) is_better
+        × (better.new ≡ cond is_better 1 0)) }
+    ensures refused { is_taken run.old (task_of task.now) (answer_of answer.now) ≡ false →
+        HasFault NoAnswer result × (run.new ≡ run.old) × (better.new ≡ better.old) }
 {
-    match take(run, effort, answer) {
-        Ok(is_better) => {
+    match take(run, task, answer) {
+        Some(is_better) => {
             *better = if is_better { 1 } else { 0 };
             Outcome::done()
         }
-        Err(fault) => Outcome::refused(fault),
+        None => Outcome::refused(Fault::NoAnswer),
     }
 }
 
-/// The text of a sequence with its makespan and of a lower bound, with no directions, where there is room for it with so
-/// many.
+/// The text of a sequence with its makespan and of a lower bound, with no directions, where there is room for it with
+/// these.
 fn text_of(
     alloc: Global,
     shop: &ShopNumbers,

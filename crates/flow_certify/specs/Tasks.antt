@@ -22,6 +22,15 @@ IsAsked run (Beam from limits) = run.lower < run.upper
 IsAsked run (Rounds from limits) = run.lower < run.upper
 IsAsked run End = (run.upper ≤ run.lower) ⊎ (acts ≤ run.act) ⊎ (run.tasks ≡ 0)
 
+-- whether an answer to a task is taken, as far as its bounds tell: of a search above the lower bound, up to the upper
+-- one, within the greatest budget; of a beam or of rounds
+abbrev pub may_ask : Run → Task → Bool
+may_ask run (Search threshold budget) =
+    nat_lt run.lower threshold && nat_le threshold run.upper && nat_le budget run.fund.most
+may_ask run (Beam from limits) = true
+may_ask run (Rounds from limits) = true
+may_ask run End = false
+
 -- two runs have the same bounds, and the same greatest budget
 pub record HasSameBounds (before after : Run) : Type 0 where
   pub lower : after.lower ≡ before.lower

@@ -1,12 +1,12 @@
 //! A run of `certify`, as numbers: which task is next, and what an answer changes.
 
 ghost use Rattle.std.specs.Prelude.{◌≡◌, ◌↔◌, ◌<◌, ◌≤◌, min, cond, true, false, None, [], length};
-ghost use Rattle.std.specs.Prelude.{IfSome, IsSomeAnd, IsTrue};
+ghost use Rattle.std.specs.Prelude.{◌&&◌, IfSome, IsSomeAnd, IsTrue};
 ghost use Rattle.flow_shop.specs.Paths.{span};
 ghost use Rattle.flow_shop.specs.Ends.{end_bound};
 ghost use Rattle.flow_bound.specs.Taillard.{taillard_bound};
 ghost use Rattle.flow_certify.specs.Signs.{most_signs};
-ghost use Rattle.flow_certify.specs.Tasks.{IsAnswered, IsAsked, HasSameBounds, may_become};
+ghost use Rattle.flow_certify.specs.Tasks.{IsAnswered, IsAsked, HasSameBounds, may_ask, may_become};
 
 use crate::acts::{ACTS, Act, WHOLE};
 use crate::budgets::{Budget, Fund};
@@ -226,17 +226,31 @@ impl Run {
         }
     }
 
-    /// Takes what became of the task that is next. Returns whether the sequence that was reached becomes the best one;
-    /// `None` where this is no answer to the task, and then nothing changes.
+    /// Takes what became of a task that the run asked for. Returns whether the sequence that was reached becomes the
+    /// best one; `None` where the run may not ask for such a task, or this is no answer to it, and then nothing changes.
     pub fn put(&mut self, task: &Task, answer: &Answer) -> Option<bool>
-        ensures accepted { may_become task.now answer.now ≡ true →
+        ensures accepted { (may_ask self.old task.now && may_become task.now answer.now) ≡ true →
             IsSomeAnd result (IsAnswered self.old self.new task.now answer.now) }
-        ensures refused { may_become task.now answer.now ≡ false → (result ≡ None) × (self.new ≡ self.old) }
+        ensures refused { (may_ask self.old task.now && may_become task.now answer.now) ≡ false →
+            (result ≡ None) × (self.new ≡ self.old) }
     {
-        if !task.may_become(answer) {
+        if !self.may_ask(task) || !task.may_become(answer) {
             return None;
         }
         Some(self.answered(task, answer))
+    }
+
+    /// Whether an answer to this task is taken, as far as the bounds tell.
+    fn may_ask(&self, task: &Task) -> bool
+        ensures { result ≡ may_ask self.now task.now }
+    {
+        match task {
+            Task::Search { threshold, budget } => {
+                self.lower < *threshold && *threshold <= self.upper && *budget <= self.fund.most
+            }
+            Task::Beam { .. } | Task::Rounds { .. } => true,
+            Task::End => false,
+        }
     }
 
     /// The same of an answer that may be given.

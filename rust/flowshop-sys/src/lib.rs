@@ -124,7 +124,7 @@ statuses! {
     FLOWSHOP_WORK = 36;
     /// The directions are not 1 to 1000000000.
     FLOWSHOP_DIRECTIONS = 37;
-    /// What is said of the task of a run is no answer to it.
+    /// A run is told what is no answer to a task that it may ask for.
     FLOWSHOP_ANSWER = 38;
     /// The depth is above the number of jobs.
     FLOWSHOP_PLAN_DEPTH = 40;
@@ -465,10 +465,10 @@ extern "C" {
         effort: *const flowshop_effort,
         task: *mut flowshop_task,
     ) -> flowshop_outcome;
-    /// Tells a run what became of the task that is next.
+    /// Tells a run what became of the task that it asked for last.
     pub fn flowshop_run_put(
         run: *mut flowshop_run_state,
-        effort: *const flowshop_effort,
+        task: *const flowshop_task,
         answer: *const flowshop_answer,
         better: *mut u32,
     ) -> flowshop_outcome;
