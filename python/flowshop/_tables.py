@@ -1,5 +1,6 @@
 """Tables of times as they are given: lists of rows, arrays, buffers and frames."""
 
+import os
 import re
 from array import array
 from decimal import Decimal
@@ -47,7 +48,7 @@ class Frame(Protocol):
 _NAME = re.compile(r"is the text ['\"][^\d.,+-]")
 # The code of a signed number of so many bytes.
 _SIGNED = {1: "b", 2: "h", 4: "i", 8: "q"}
-Table = Union[Iterable[Iterable[Union[SupportsIndex, Real, Decimal]]], Array, Frame, memoryview]
+Table = Union[Iterable[Iterable[Union[SupportsIndex, float, Real, Decimal]]], Array, Frame, memoryview]
 
 
 class Contents(NamedTuple):
@@ -186,7 +187,8 @@ def _rows_of(given: _Given) -> List[List[Any]]:
             return [[values[line, column] for column in columns] for line in lines]
         rows = _list_of(values.tolist() if hasattr(values, "tolist") else values)
     except (TypeError, NotImplementedError):  # also of a buffer of numbers that memoryview does not read
-        raise NotAShop("COUNT", 0, f"a table has a list for each row, and this is {shown(values)}") from None
+        advice = "; read_table takes the path of a file" if isinstance(values, (str, os.PathLike)) else ""
+        raise NotAShop("COUNT", 0, f"a table has a list for each row, and this is {shown(values)}{advice}") from None
     for number, row in enumerate(rows, 1):
         try:
             rows[number - 1] = row if isinstance(row, list) else _list_of(row)
