@@ -19,6 +19,7 @@ import shutil
 import sys
 import threading
 import time
+import types
 import xml.etree.ElementTree
 from unittest import mock
 
@@ -222,6 +223,13 @@ def test_names():
         columns = [list(column) for column in zip(*ROWS)]
         got = refused(lambda names=names: Shop.from_jobs(columns, machine_names=names))
         equal(f"machines with the names {names!r}", got, (*wanted[:3], sentence.replace("job", "machine")))
+    labelled = types.SimpleNamespace(values=ROWS, index=["a", ["b"], "c"], columns=["Cut", "Weld", ("Paint", {})])
+    sentence = "the name of {} is {}, and has to be text or a whole number".format
+    got = refused(lambda: Shop.from_jobs(labelled))
+    equal("a label that is a list", got, ("NotAShop", "NAME", 2, sentence("job 2", "['b']")))
+    labelled.index = ["a", "b", "c"]
+    got = refused(lambda: Shop.from_jobs(labelled))
+    equal("a label with a dict", got, ("NotAShop", "NAME", 3, sentence("machine 3", "('Paint', {})")))
     if numpy is not None:
         for names, wanted in ((numpy.array([5, 6, 7]), int), (numpy.array(["a", "b", "c"]), str)):
             got = Shop.from_jobs(ROWS, job_names=names).job_names

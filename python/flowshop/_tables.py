@@ -125,8 +125,13 @@ def _name(kind: str, number: int, name: Any) -> Hashable:
             return index(name)
     except TypeError:
         pass
+    raise _no_name(kind, number, name)
+
+
+def _no_name(kind: str, number: int, name: Any) -> NotAShop:
+    """The refusal of a name."""
     sentence = f"the name of {kind} {number} is {shown(name)}, and has to be text or a whole number"
-    raise NotAShop("NAME", number, sentence)
+    return NotAShop("NAME", number, sentence)
 
 
 def _given_names(kind: str, names: Any) -> Optional[Names]:
@@ -268,7 +273,13 @@ def _packed_buffer(given: _Given) -> Optional[Tuple[int, int, bytes]]:
 
 
 def _tested(kind: str, count: int, names: Optional[Names]) -> Optional[Names]:
-    """The names of the jobs or of the machines; None where they are the numbers from 1."""
+    """The names of the jobs or of the machines; None where they are the numbers from 1. Those that are labels of a frame
+    may be of any type that can be hashed."""
+    for number, name in enumerate(names or (), 1):
+        try:
+            hash(name)
+        except TypeError:
+            raise _no_name(kind, number, name) from None
     if names is not None and len(names) != count:
         sentence = f"the table has {counted(count, kind)}, and {kind}_names has {counted(len(names), 'name')}"
         raise NotAShop("COUNT", 0, sentence)
