@@ -271,6 +271,9 @@ LISTS = [
     (None, [3, 1, 2], "name", [3, 1, 2]),
     (None, [3, 1, 2], "number", [3, 1, 2]),
     (None, ["Bed"], None, ("JOB", 1, "place 1 of the sequence is 'Bed', and has to be a job number from 1 to 3")),
+    (None, [3, 1.0, 2], None,
+     ("JOB", 2, "place 2 of the sequence is 1.0, and has to be a job number from 1 to 3; convert the list to int")),
+    (None, [3, 1.5, 2], None, ("JOB", 2, "place 2 of the sequence is 1.5, and has to be a job number from 1 to 3")),
 ]
 
 
@@ -414,6 +417,8 @@ WRONG_CERTIFICATES = [
      f"'lower' of the text is True; {GIVES.format('Certificate')}"),
     ((CERTIFICATE % '""').replace("e\": [2", "e\": [2.5"), "JSON", 0,
      "'sequence' of the text has something that is no whole number"),
+    ((CERTIFICATE % '""').replace("13", "0"), "JSON", 0, "the text has the bounds 11 to 0, between which no makespan"),
+    ((CERTIFICATE % '""').replace("11", "-1"), "JSON", 0, "the text has the bounds -1 to 13, between which no makespan"),
 ]
 
 
