@@ -418,7 +418,7 @@ WRONG_CERTIFICATES = [
     ((CERTIFICATE % '""').replace("e\": [2", "e\": [2.5"), "JSON", 0,
      "'sequence' of the text has something that is no whole number"),
     ((CERTIFICATE % '""').replace("13", "0"), "JSON", 0, "the text has the bounds 11 to 0, between which no makespan"),
-    ((CERTIFICATE % '""').replace("11", "-1"), "JSON", 0, "the text has the bounds -1 to 13, between which no makespan"),
+    ((CERTIFICATE % '""').replace("11", "-1"), "JSON", 0, "the text has the bounds -1 to 13, between which no makesp"),
 ]
 
 

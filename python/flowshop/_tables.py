@@ -273,8 +273,8 @@ def _packed_buffer(given: _Given) -> Optional[Tuple[int, int, bytes]]:
 
 
 def _tested(kind: str, count: int, names: Optional[Names]) -> Optional[Names]:
-    """The names of the jobs or of the machines; None where they are the numbers from 1. Those that are labels of a frame
-    may be of any type that can be hashed."""
+    """The names of the jobs or of the machines; None where they are the numbers from 1. Labels of a frame may be of any
+    type that can be hashed."""
     for number, name in enumerate(names or (), 1):
         try:
             hash(name)
