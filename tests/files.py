@@ -380,8 +380,9 @@ def limited(words, folder):
     with subprocess.Popen([sys.executable, "-c", code], stdout=subprocess.PIPE, stderr=subprocess.DEVNULL) as endless:
         status, line, kilobytes, _ = measured(words, folder, stdin=endless.stdout)
         endless.stdout.close()
-    said = "/dev/(zero|stdin) has more than 16,777,216 bytes, and a (benchmark text|sequence) has at most so many$"
-    got = status, bool(re.search(said, line)), kilobytes < 80_000
+    what = "(benchmark text|sequence)"
+    said = f"flowshop: /dev/(zero|stdin) has more than 16,777,216 bytes, and a {what} has at most so many"
+    got = status, bool(re.fullmatch(said, line)), kilobytes < 80_000
     equal(f"{words}: {line} in {kilobytes} kB", got, (1, True, True))
 
 

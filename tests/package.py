@@ -458,7 +458,7 @@ def refuse_labels():
     words = ", or other words in this line"
     as_here = f"and has to begin as '{unit}', with a tab before the name of each"
     divide = "and this number has to divide 1,000,000, as 1, 4 or 10"
-    unknown = "has names of jobs, and the unit of the times is not known; write it here, as docs/formats.md says, or"
+    unknown = f"has names of jobs, and the unit of the times is not known; write it here, as '{unit}', or"
     for first, second, line, sentence in [  # of the longest the first words
         ("jobs\tShelf", f"{unit}\tCut", 1, f"has 1 name, and the block has 2 jobs{of_jobs}{words}"),
         (f"{jobs}\tBed", f"{unit}\tCut", 1, f"has 3 names, and the block has 2 jobs{of_jobs}{words}"),
@@ -537,7 +537,10 @@ def no_tables():
         (Shop.from_jobs, [1, 2], "COUNT", (1, 1), "row 1 is 1, and has to be a list of times"),
         (Shop.from_jobs, ["12"], "COUNT", (1, 1), "row 1 is '12', and has to be a list of times"),
         (Shop.from_jobs, 5, "COUNT", 0, "a table has a list for each row, and this is 5"),
-        (Shop.from_jobs, "a.csv", "COUNT", 0, "a table has a list for each row, and this is 'a.csv'"),
+        (Shop.from_jobs, "a.csv", "COUNT", 0,
+         "a table has a list for each row, and this is 'a.csv'; read_table takes the path of a file"),
+        (Shop.from_machines, pathlib.Path("a"), "COUNT", 0,
+         "a table has a list for each row, and this is PosixPath('a'); read_table takes the path of a file"),
         (Shop.from_jobs, [{1: 5, 2: 6}], "COUNT", (1, 1), "row 1 is {1: 5, 2: 6}, and has to be a list of times"),
         (Shop.from_machines, [[1, 2], {3, 4}], "COUNT", (2, 1), "row 2 is {3, 4}, and has to be a list of times"),
         (Shop.from_jobs, {1: [5]}, "COUNT", 0, "a table has a list for each row, and this is {1: [5]}"),

@@ -2,12 +2,14 @@
 rest. tests/package.py runs the parts."""
 
 import array
+import ast
 import csv
 import datetime
 import decimal
 import fractions
 import json
 import os
+import pathlib
 import pickle
 import pydoc
 import random
@@ -17,6 +19,7 @@ import shutil
 import sys
 import threading
 import time
+import types
 import xml.etree.ElementTree
 from unittest import mock
 
@@ -55,6 +58,8 @@ CELLS = [
     (1e-7, f"is 1e-07, of type float, {UNIT}"),
     (float("inf"), f"is inf, of type float, {UNIT}"),
     (1e6, "is 1000000.0, and has to be from 0 to 999,999"),
+    (1e300, "is 1e+300, and has to be from 0 to 999,999"),
+    (decimal.Decimal("-1e300"), "is Decimal('-1E+300'), and has to be from 0 to 999,999"),
     (-3.0, "is -3.0, and has to be from 0 to 999,999"),
     (True, TRUTH),
     (3 + 0j, f"is (3+0j), of type complex, {WHOLE}"),
@@ -128,6 +133,7 @@ def arrays():
         ("a matrix", numpy.matrix(ROWS), None),
         ("lengths of time over a unit", seconds / numpy.timedelta64(1, "s"), None),
         ("truth values", numpy.array(ROWS, dtype=bool), f"{at} {TRUTH}"),
+        ("rows of truth values", [numpy.array([True, False])], f"{at} {TRUTH}"),
         ("complex", numpy.array(ROWS, dtype=complex), f"{at} is (4+0j), of type complex, {WHOLE}"),
         ("lengths of time", seconds, f"{at} is '0:00:04', {LENGTH}"),
         ("short lengths of time", seconds.astype("timedelta64[ns]"), f"{at} is '0:00:04', {LENGTH}"),
@@ -217,6 +223,13 @@ def test_names():
         columns = [list(column) for column in zip(*ROWS)]
         got = refused(lambda names=names: Shop.from_jobs(columns, machine_names=names))
         equal(f"machines with the names {names!r}", got, (*wanted[:3], sentence.replace("job", "machine")))
+    labelled = types.SimpleNamespace(values=ROWS, index=["a", ["b"], "c"], columns=["Cut", "Weld", ("Paint", {})])
+    sentence = "the name of {} is {}, and has to be text or a whole number".format
+    got = refused(lambda: Shop.from_jobs(labelled))
+    equal("a label that is a list", got, ("NotAShop", "NAME", 2, sentence("job 2", "['b']")))
+    labelled.index = ["a", "b", "c"]
+    got = refused(lambda: Shop.from_jobs(labelled))
+    equal("a label with a dict", got, ("NotAShop", "NAME", 3, sentence("machine 3", "('Paint', {})")))
     if numpy is not None:
         for names, wanted in ((numpy.array([5, 6, 7]), int), (numpy.array(["a", "b", "c"]), str)):
             got = Shop.from_jobs(ROWS, job_names=names).job_names
@@ -258,6 +271,9 @@ LISTS = [
     (None, [3, 1, 2], "name", [3, 1, 2]),
     (None, [3, 1, 2], "number", [3, 1, 2]),
     (None, ["Bed"], None, ("JOB", 1, "place 1 of the sequence is 'Bed', and has to be a job number from 1 to 3")),
+    (None, [3, 1.0, 2], None,
+     ("JOB", 2, "place 2 of the sequence is 1.0, and has to be a job number from 1 to 3; convert the list to int")),
+    (None, [3, 1.5, 2], None, ("JOB", 2, "place 2 of the sequence is 1.5, and has to be a job number from 1 to 3")),
 ]
 
 
@@ -401,6 +417,8 @@ WRONG_CERTIFICATES = [
      f"'lower' of the text is True; {GIVES.format('Certificate')}"),
     ((CERTIFICATE % '""').replace("e\": [2", "e\": [2.5"), "JSON", 0,
      "'sequence' of the text has something that is no whole number"),
+    ((CERTIFICATE % '""').replace("13", "0"), "JSON", 0, "the text has the bounds 11 to 0, between which no makespan"),
+    ((CERTIFICATE % '""').replace("11", "-1"), "JSON", 0, "the text has the bounds -1 to 13, between which no makesp"),
 ]
 
 
@@ -478,6 +496,18 @@ def test_help():
     equal("what help has too much", [name for name in ("casefold", "with_traceback", "zfill") if name in page], [])
     equal("that help is short", page.count("\n") < 1200, True)
     equal("that objects have all names", {"casefold", "save"} <= set(dir(SHOP.gantt([1, 2, 3]))), True)
+    texts = [re.sub(r"[\s|]+", " ", page), *said_texts()]
+    named = [found for text in texts for found in re.findall(r"(?:docs|examples|library)/[\w.]+.{0,13}", text)]
+    equal("files that no wheel has", [each for each in named if not each.endswith(" in the clone")], [])
+
+
+def said_texts():
+    """The texts in the code of the package, but for those that describe it."""
+    for path in pathlib.Path(flowshop.__file__).parent.glob("*.py"):
+        nodes = list(ast.walk(ast.parse(path.read_text())))
+        describe = {id(node.value) for node in nodes if isinstance(node, ast.Expr)}
+        texts = [node for node in nodes if isinstance(node, ast.Constant) and isinstance(node.value, str)]
+        yield from (node.value for node in texts if id(node) not in describe)
 
 
 def in_one_call(shop, lists, number, budget):
@@ -566,13 +596,15 @@ def test_time_limits():
 
 
 def test_workers():
-    """-1 stands for all processors."""
+    """-1 and None stand for all processors."""
     processors = len(os.sched_getaffinity(0))
-    equal("all processors", _options.workers_of(-1), processors)
-    equal("a certificate by all processors", SHOP.certify(workers=-1), SHOP.certify())
-    for count in (0, -2, None, 1.5, "2"):
+    for count in (-1, None):
+        equal(f"all processors, {count}", _options.workers_of(count), processors)
+        equal(f"a certificate by all processors, {count}", SHOP.certify(workers=count), SHOP.certify())
+    for count, shown in [(0, "0"), (-2, "-2"), (10_001, "10,001"), (1.5, "1.5"), ("2", "'2'")]:
         got = refused(lambda count=count: SHOP.certify(workers=count))
-        equal(f"{count!r} workers", got[:2], ("OptionError", "WORKERS"))
+        sentence = f"workers is {shown}, and has to be a whole number from 1 to 10,000, or -1 for one of each processor"
+        equal(f"{shown} workers", got, ("OptionError", "WORKERS", 0, sentence))
     with new_folder() as folder:
         Shop.generate(3, 3, 1).write(folder / "shop.txt")
         run = command("certify", folder / "shop.txt", "--out", folder, "--workers", "-1")

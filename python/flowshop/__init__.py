@@ -1,7 +1,7 @@
 """Exact permutation flow shops: makespans, starting sequences, least makespans, and certificates of them.
 
 A shop has jobs 1 to n and machines 1 to m. Every machine takes the jobs in one common order, each job visits machine 1
-first, and the makespan is when the last job leaves the last machine. The calls are those of library/flowshop.h, whose
+first, and the makespan is when the last job leaves the last machine. The calls are those of the library for C, whose
 results are proved. This package is tested: it hands numbers and texts to them and back, and makes the steps of
 `certify`. Whatever makes a certificate, Shop.check is a proved call. Calls let other threads run.
 

@@ -13,6 +13,8 @@ from ._library import MOST_TIME
 _PARTS = 10**12
 # The scales that a refusal may name.
 _SCALES: List[int] = [10**digits for digits in range(1, 7)]
+# What the types of truth values are called, of Python and of numpy.
+_TRUTH = ("bool", "bool_")
 Fault = Tuple[int, int, str]
 
 
@@ -29,15 +31,17 @@ def is_missing(value: Any) -> bool:
 def number_of(value: Any, scale: int) -> Optional[int]:
     """The whole number that a value comes to, multiplied by a scale. None where it is none, or is no number; a truth
     value is none."""
-    if isinstance(value, bool):
+    if type(value).__name__ in _TRUTH:
         return None
     try:
         return index(value) * scale
     except TypeError:
         pass
     try:
-        if not isinstance(value, (Real, Decimal)) or abs(float(value)) > 1e18:
+        if not isinstance(value, (Real, Decimal)):
             return None
+        if abs(float(value)) > 1e18:  # its digits may be too many to be read
+            return int(float(value)) * scale
         exact = Fraction(str(value)) * scale
     except (TypeError, ValueError, ArithmeticError):  # it is not finite, or a length of time
         return None
@@ -59,7 +63,7 @@ def _not_whole(value: Any) -> str:
     if isinstance(value, str):
         advice = "convert it to int, or give names as job_names or as the labels of a frame"
         return f"is the text {shown(value)}, and has to be a whole number; {advice}"
-    if kind in ("bool", "bool_"):
+    if kind in _TRUTH:
         return f"is {value}, and has to be a whole number; convert the table to int where True stands for 1"
     if hasattr(value, "total_seconds") or kind == "timedelta64":
         advice = "divide the table by what one unit is, as datetime.timedelta(minutes=1)"

@@ -14,7 +14,7 @@ _CONTROLS = re.compile(r"[\x00-\x1f\x7f-\x9f\u2028-\u202e\u2066-\u2069\ud800-\ud
 class FlowshopError(ValueError, metaclass=Brief):
     """What was refused, and why: the base of all errors of this package.
 
-    `str` of it is a sentence with the value at fault and its limit. `name` is that of a status of library/flowshop.h,
+    `str` of it is a sentence with the value at fault and its limit. `name` is that of a status of the library for C,
     without FLOWSHOP_, or of a word that the library does not have, as UNIT or PATH. `place` is where the fault is:
     (row, column) of a table; the place in a sequence, or (number of the sequence, place) where there are many; the line
     of a text; which tree, counted from 0; else 0.

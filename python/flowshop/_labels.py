@@ -107,7 +107,7 @@ def read_labels(
     if not lines[1].lstrip(" \t\r").startswith(_BEGIN):
         if has_names and len(job_names) == jobs and all(job_names):
             why = f"line {first.number} has names of jobs, and the unit of the times is not known"
-            advice = f"write it here, as docs/formats.md says, or other words in line {first.number}"
+            advice = f"write it here, as {_EXAMPLE}, or other words in line {first.number}"
             raise second.fault(f"is {shown(lines[1])}: {why}; {advice}")
         return None, None, Unit()
     unit = _unit(second, form)

@@ -58,10 +58,15 @@ def scale_of(value: SupportsIndex) -> int:
     raise OptionError("SCALE", 0, sentence)
 
 
-def workers_of(value: SupportsIndex) -> int:
-    """How many workers there are; -1 stands for one of each processor that this process may use. OptionError where it
-    is no such number."""
-    return len(os.sched_getaffinity(0)) if value == -1 else option("workers", value, OF_PARTS)
+def workers_of(value: Optional[SupportsIndex]) -> int:
+    """How many workers there are; -1 and None stand for one of each processor that this process may use. OptionError
+    where it is no such number."""
+    if value is None or value == -1:
+        return len(os.sched_getaffinity(0))
+    try:
+        return option("workers", value, OF_PARTS)
+    except OptionError as error:
+        raise OptionError(error.name, 0, f"{error}, or -1 for one of each processor") from None
 
 
 def time_limit_of(value: Any) -> Optional[float]:

@@ -61,7 +61,7 @@ class Plan(metaclass=Brief):
         after: Union[Plan, Path, None] = None,
         now: Optional[str] = None,
         time_limit: Optional[float] = TIME_LIMIT,
-        workers: int = -1,
+        workers: Optional[int] = -1,
         **words: Any,
     ) -> Plan:
         """The plan of a table, as `read_table` takes it, with its words. `start` is the date, or the date and the time,
@@ -263,7 +263,7 @@ class Earlier:
 class Effort:
     """How long a search may take, and how many share it."""
 
-    def __init__(self, time_limit: Optional[float], workers: int) -> None:
+    def __init__(self, time_limit: Optional[float], workers: Optional[int]) -> None:
         self.time_limit, self.workers = time_limit_of(time_limit), workers
 
 

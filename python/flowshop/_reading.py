@@ -108,10 +108,10 @@ def read_table(table: Any, **words: Given) -> Shop:
     """The shop of a table with a row for each job and a column for each machine, with its names and its unit: of the
     file of a spreadsheet (CSV with any separator, a matrix with blanks, JSON as a list of rows or of objects, or a
     workbook, where the package openpyxl is there), of a frame as that of pandas, or of a list of rows with their names.
-    Decimals become whole by the least scale. What is in doubt is settled by words, as `skip="Qty"`; docs/tables.md has
-    them. Those that the commands `plan` and `shop` have kept beside the table are taken too. NotATable with all that is
-    in doubt or wrong, TextError where the file is no table, OSError where it is not read, OptionError where a word is
-    none.
+    Decimals become whole by the least scale. What is in doubt is settled by words, as `skip="Qty"`, which are options
+    of the command `shop` too. Those that the commands `plan` and `shop` have kept beside the table are also taken.
+    NotATable with all that is in doubt or wrong, TextError where the file is no table, OSError where it is not read,
+    OptionError where a word is none.
 
     >>> read_table([["Order", "Saw", "Drill"], ["Shelf", 3.5, 7], ["Door", 1, 2.25]])
     Shop(2 jobs: Shelf, Door; 2 machines: Saw, Drill)

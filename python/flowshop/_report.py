@@ -54,12 +54,11 @@ def _picked(path: str, index: Optional[str]) -> Shop:
     return Shop._picked(path, choose)[0][1].shop
 
 
-def _order(shop: Shop, path: Optional[str]) -> Jobs:
-    """The sequence in a file, or its text as that of a certificate, which is not checked yet; or else a certificate
-    that is searched for."""
-    if path is None:
+def _order(shop: Shop, text: Optional[bytes]) -> Jobs:
+    """The sequence in a text, or that as one of a certificate, which is not checked yet; or else a certificate that is
+    searched for."""
+    if text is None:
         return shop.certify(work=100, directions=1_000_000)
-    text = order_of(path)
     if is_certificate(text):
         return Certificate(0, 0, (), text)
     return shop._attained(*sequence_of(text))
@@ -78,8 +77,9 @@ def run(options: argparse.Namespace) -> int:
         refuse_read(options.out, ((options.shop, "shop"), (text, "certificate or the sequence")), "report")
     shop = _picked(options.shop, index)
     title = options.title or f"Schedule of {options.shop}{f', block {index}' if index not in (None, '1') else ''}"
+    given = None if text is None else order_of(text)
     try:
-        report = shop.report(_order(shop, text), start=options.start, unit=options.unit, title=title)
+        report = shop.report(_order(shop, given), start=options.start, unit=options.unit, title=title)
     except (NotASequence, NotLawful, TextError) as error:
         raise found_in(text, error) from None
     if options.out is None:

@@ -484,4 +484,8 @@ class Certificate(_Ordered):
         sequence, names = tuple(found["sequence"]), tuple(found["names"])
         if not {*map(type, sequence)} <= {int}:
             raise NotLawful("JSON", 0, "'sequence' of the text has something that is no whole number")
-        return cls(found["lower"], found["upper"], sequence, found["text"].encode("latin-1", "replace"), names)
+        lower, upper = found["lower"], found["upper"]
+        if not 0 <= lower <= upper:
+            sentence = f"the text has the bounds {shown(lower)} to {shown(upper)}, between which no makespan lies"
+            raise NotLawful("JSON", 0, sentence)
+        return cls(lower, upper, sequence, found["text"].encode("latin-1", "replace"), names)

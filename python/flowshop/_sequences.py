@@ -184,7 +184,8 @@ def _strange(jobs: Sequence[Any], count: int) -> NotASequence:
     if isinstance(job, int):
         return _no_job(place, job, jobs, count)
     sentence = f"place {place} of the sequence is {shown(job)}, and has to be a job number from 1 to {count}"
-    return NotASequence("JOB", place, sentence)
+    is_whole = isinstance(job, float) and job.is_integer()
+    return NotASequence("JOB", place, f"{sentence}; convert the list to int" if is_whole else sentence)
 
 
 def _no_job(place: int, job: Any, jobs: Iterable[Any], count: int) -> NotASequence:

@@ -149,7 +149,7 @@ class Shop(metaclass=Brief):
     @classmethod
     def read(cls, path: Path) -> List[Block]:
         """All blocks of a benchmark text in a file, in their order. A shop has the names and the unit that the label
-        lines of its block have in the form of docs/formats.md, as examples/from_csv.awk writes them. OSError where the
+        lines of its block have in the form in which `write` and the command `shop` write them. OSError where the
         file is not read, TextError with the first fault of the text and its line, or with the first label line that has
         names or the unit, and not all of that form, or where the file has more than 16,777,216 bytes.
 
@@ -667,7 +667,7 @@ class Shop(metaclass=Brief):
         seed: int = 1,
         work: int = 8500,
         directions: int = 100_000_000,
-        workers: int = 1,
+        workers: Optional[int] = 1,
         map: Optional[Map] = None,
         time_limit: Optional[float] = None,
         progress: Union[bool, Callable[[Progress], object], None] = None,
@@ -681,7 +681,7 @@ class Shop(metaclass=Brief):
         have, the longer the searches take where they do not find the least makespan. The other numbers are those of
         `improve`. With the numbers left out a call may take a minute and a half.
 
-        Searches for directions are shared by so many `workers`, 1 to 10,000, or -1 for one of each processor, which are
+        Searches for directions are shared by so many `workers`, 1 to 10,000, or one of each processor for -1 or None:
         threads; or by those of a `map`, such as that of a pool of processes, where `workers` says how many there are,
         if it is known. The certificate is the same for any number of workers and any map. After `time_limit` seconds it
         is one of the best bounds so far; with few seconds, less `work` and fewer `directions` may give better ones. A

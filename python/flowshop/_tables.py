@@ -1,5 +1,6 @@
 """Tables of times as they are given: lists of rows, arrays, buffers and frames."""
 
+import os
 import re
 from array import array
 from decimal import Decimal
@@ -47,7 +48,7 @@ class Frame(Protocol):
 _NAME = re.compile(r"is the text ['\"][^\d.,+-]")
 # The code of a signed number of so many bytes.
 _SIGNED = {1: "b", 2: "h", 4: "i", 8: "q"}
-Table = Union[Iterable[Iterable[Union[SupportsIndex, Real, Decimal]]], Array, Frame, memoryview]
+Table = Union[Iterable[Iterable[Union[SupportsIndex, float, Real, Decimal]]], Array, Frame, memoryview]
 
 
 class Contents(NamedTuple):
@@ -124,8 +125,13 @@ def _name(kind: str, number: int, name: Any) -> Hashable:
             return index(name)
     except TypeError:
         pass
+    raise _no_name(kind, number, name)
+
+
+def _no_name(kind: str, number: int, name: Any) -> NotAShop:
+    """The refusal of a name."""
     sentence = f"the name of {kind} {number} is {shown(name)}, and has to be text or a whole number"
-    raise NotAShop("NAME", number, sentence)
+    return NotAShop("NAME", number, sentence)
 
 
 def _given_names(kind: str, names: Any) -> Optional[Names]:
@@ -186,7 +192,8 @@ def _rows_of(given: _Given) -> List[List[Any]]:
             return [[values[line, column] for column in columns] for line in lines]
         rows = _list_of(values.tolist() if hasattr(values, "tolist") else values)
     except (TypeError, NotImplementedError):  # also of a buffer of numbers that memoryview does not read
-        raise NotAShop("COUNT", 0, f"a table has a list for each row, and this is {shown(values)}") from None
+        advice = "; read_table takes the path of a file" if isinstance(values, (str, os.PathLike)) else ""
+        raise NotAShop("COUNT", 0, f"a table has a list for each row, and this is {shown(values)}{advice}") from None
     for number, row in enumerate(rows, 1):
         try:
             rows[number - 1] = row if isinstance(row, list) else _list_of(row)
@@ -266,7 +273,13 @@ def _packed_buffer(given: _Given) -> Optional[Tuple[int, int, bytes]]:
 
 
 def _tested(kind: str, count: int, names: Optional[Names]) -> Optional[Names]:
-    """The names of the jobs or of the machines; None where they are the numbers from 1."""
+    """The names of the jobs or of the machines; None where they are the numbers from 1. Labels of a frame may be of any
+    type that can be hashed."""
+    for number, name in enumerate(names or (), 1):
+        try:
+            hash(name)
+        except TypeError:
+            raise _no_name(kind, number, name) from None
     if names is not None and len(names) != count:
         sentence = f"the table has {counted(count, kind)}, and {kind}_names has {counted(len(names), 'name')}"
         raise NotAShop("COUNT", 0, sentence)
