@@ -833,6 +833,8 @@ STARTS = [
     ("1 2 3\n\n2 1 9\n3 2 1", 1, "order, line 3: place 3 of the sequence is 9, and the jobs are 1 to 3\n"),
     ("1 2 3\n2 1\n3 2 1", 1, "order, line 2: the sequence has 2 jobs, and the shop has 3; each job stands in it"),
     ("1 2 3\n3;2;1\n3 2 1", 1, "order: line 2 is '3;2;1', and has to be that of a certificate, such as"),
+    ("1 2 3\nmakespan 14\n2 1 3\n3 2 1", 1, "order: line 1 is '1 2 3', and has to be that of a certificate, such as "
+     "'flowshop two-ended 1', or the line 'sequence 1 2 3', since words follow\n"),
     ("sequence 2 1 3\nmakespan 13\n1 2 3\nsequence 3 1 2\n\nmakespan 11", 1,
      "order: line 6 says that the makespan is 11, and that of these jobs is 12\n"),
 ]
