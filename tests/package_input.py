@@ -840,6 +840,17 @@ STARTS = [
 ]
 
 
+def start_from_column(lines, spans):
+    """The sequences that a table has of the certificates of three shops are starts, as they stand there."""
+    called(main, "certify", "shops", "--out", "all", *NO_WORK, "--csv", "table")
+    with open("table", newline="") as file, open("column", "w") as starts:
+        column = [row["sequence"] for row in csv.DictReader(file)]
+        starts.write("\n".join(column))
+    run = called(main, "certify", "shops", "--starts", "column", "--out", "again", *NO_WORK)
+    got = [line.split()[5] for line in run[1].splitlines()[1:-1]]
+    equal("the starts of a column", (column, got), (lines, [*map(str, spans)]))
+
+
 def test_starts():
     """Starts of several blocks, in one file or in a folder: the makespan of each start stays where there is no work."""
     with new_folder(is_here=True) as folder:
@@ -860,6 +871,7 @@ def test_starts():
             run = called(main, "certify", "shops", "--starts", starts, "--out", "all", *words, *NO_WORK)
             got = [line.split()[5] for line in run[1].splitlines()[1:-1]]
             equal(f"the starts of {starts} with {words}", (run[0], got), (0, [*map(str, wanted)]))
+        start_from_column(lines, spans)
         shutil.copytree(folder / "all", folder / "some")
         (folder / "some" / "shops.2.certificate").write_text(lines[0])
         (folder / "some" / "shops.3.certificate").unlink()
