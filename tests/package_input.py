@@ -948,8 +948,23 @@ def test_gaps():
             equal(f"gap with {words}", (run[0], run[2][: len(said) + 10]), (status, f"flowshop: {said}"))
 
 
+def test_gaps_of_one_block():
+    """Where one block is named, and there are several sequences, a line says that all are compared with that block."""
+    with new_folder(is_here=True) as folder:
+        SHOP.write(folder / "one", lower=9, upper=13)
+        (folder / "two").write_text((folder / "one").read_text() * 2)
+        both = "block 2: all 2 sequences are compared with its bounds\n"
+        for name, text, words, said in [
+            ("two", "2 1 3\n3 1 2\n", ["--blocks", "2"], both), ("two", "2 1 3\n3 1 2\n", [], ""),
+            ("two", "3 1 2\n", ["--blocks", "2"], ""), ("one", "2 1 3\n3 1 2\n", [], ""),
+        ]:
+            (folder / "order").write_text(text)
+            run = called(main, "gap", name, "order", *words)
+            equal(f"what is said of {text!r} for {name} with {words}", (run[0], run[2]), (0, said))
+
+
 PARTS = [
     test_cells, test_scales, test_arrays, test_frames, test_names, test_sequences_by_name, test_results_as_arrays,
     test_bounds, test_json, test_plots, test_help, test_pieces, test_time_limits, test_workers, test_lost, test_files,
-    test_tables, test_sums, test_meter, test_starts, test_gaps,
+    test_tables, test_sums, test_meter, test_starts, test_gaps, test_gaps_of_one_block,
 ]
