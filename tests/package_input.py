@@ -722,11 +722,12 @@ def test_files():
 # No search makes anything of a start with so little.
 NO_WORK = ["--width", "0", "--rounds", "0", "--work", "0", "--directions", "1"]
 COLUMNS = "file block seed jobs machines lower upper gap optimal kind directions sequence cpu_seconds seconds sha256"
-ODD_NAME = r"[50%] _a&b#{1}$~^\<|>*.txt"
+ODD_NAME = r"[50%] _a&b#{1}$~^\<|>*''--.txt"
 # How a sign of a name is written for LaTeX, as books on it have it.
 OF_LATEX = {
     **{f"\\{sign}": sign for sign in "&%$#_{}"}, r"\textbackslash{}": "\\", r"\textasciitilde{}": "~",
     r"\textasciicircum{}": "^", r"\textless{}": "<", r"\textgreater{}": ">", r"\textbar{}": "|", "{[}": "[", "{*}": "*",
+    r"\/": "", "$-$": "-",
 }
 
 
@@ -743,6 +744,8 @@ def rows_of_latex(text):
     left = {re.sub(signs, "", cell) for row in cells for cell in row}
     own = re.compile(r"[&%$#_{}~^\\<>|]|^[\[*]")
     equal("signs that LaTeX reads as its own", [cell for cell in left if own.search(cell)], [])
+    joined = re.compile(r"--|''|``|,,|[?!]`|^-")  # they become a dash, or a sign of another kind
+    equal("signs that LaTeX joins", [cell for row in cells for cell in row if joined.search(cell)], [])
     equal("how many cells rows have", {len(row) for row in cells}, {len(columns)})
     return [[re.sub(signs, lambda found: OF_LATEX[found[0]], cell) for cell in row] for row in cells]
 
@@ -753,6 +756,24 @@ def row_wanted(path, text, block, number, seed):
     gap = f"{fractions.Fraction(100 * (upper - lower), upper).__float__():.3f}"
     sizes = [len(block[0]), len(block)]
     return [path, number, seed, *sizes, lower, upper, gap, lower == upper, "two-ended 1", len(text.split("\n")[4])]
+
+
+def sums_of_times(rows):
+    """The sums of the times that rows of CSV show."""
+    return [f"{float(sum(map(fractions.Fraction, times))):.3f}" for times in list(zip(*rows))[12:14]]
+
+
+def test_sums():
+    """Sums are those of the times that are shown. Where one is not known, as of an earlier run, its sum is not."""
+    with new_folder(is_here=True) as folder, mock.patch.object(_meter.Meter, "seconds", return_value=0.0004):
+        SHOP.write(folder / "one")
+        (folder / "three").write_text((folder / "one").read_text() * 3)
+        for blocks, times, wanted in [("2-3", ["0.000"] * 2, "0.000"), ("all", ["0.000", "-", "-"], "-")]:
+            run = called(main, "certify", "three", "--blocks", blocks, *NO_WORK, "--latex", "table")
+            *rows, last = [line.split() for line in run[1].splitlines()[1:]]
+            equal(f"the times of the blocks {blocks}", ([row[9] for row in rows], last[4]), (times, wanted))
+            sums = rows_of_latex((folder / "table").read_text())[-1]
+            equal("the sum for LaTeX", sums[11], wanted.strip("-"))
 
 
 def test_tables():
@@ -786,10 +807,9 @@ def test_tables():
         proved = sum(row[8] for row in wanted)
         equal("that some is proved, and some is not", 0 < proved < 3, True)
         sums = ["sum", "3", *[""] * 6, str(proved), "", str(sum(row[10] for row in wanted))]
-        times = [sum(float(row[place]) for row in rows) for place in (12, 13)]
-        equal("the sums", (last[:11], [abs(float(it) - time) < 0.01 for it, time in zip(last[11:], times)]),
-              (sums, [True, True]))
-        equal("the sums that are printed", run[1].splitlines()[-1].split()[:4], ["sum", "3", str(proved), sums[-1]])
+        equal("the sums", last, [*sums, *sums_of_times(rows)])
+        wanted = ["sum", "3", str(proved), sums[-1], *sums_of_times(rows)]
+        equal("the sums that are printed", run[1].splitlines()[-1].split(), wanted)
         for words, said in [
             (["--latex", "one"], "--latex is one, a file that is no table of this command"),
             (["--csv", "n", "--latex", "./n"], "--latex and --csv are one file, ./n; give each a file of its own"),
@@ -845,9 +865,22 @@ STARTS = [
     ("1 2 3\n\n2 1 9\n3 2 1", 1, "order, line 3: place 3 of the sequence is 9, and the jobs are 1 to 3\n"),
     ("1 2 3\n2 1\n3 2 1", 1, "order, line 2: the sequence has 2 jobs, and the shop has 3; each job stands in it"),
     ("1 2 3\n3;2;1\n3 2 1", 1, "order: line 2 is '3;2;1', and has to be that of a certificate, such as"),
+    ("1 2 3\nmakespan 14\n2 1 3\n3 2 1", 1, "order: line 1 is '1 2 3', and has to be that of a certificate, such as "
+     "'flowshop two-ended 1', or the line 'sequence 1 2 3', since words follow\n"),
     ("sequence 2 1 3\nmakespan 13\n1 2 3\nsequence 3 1 2\n\nmakespan 11", 1,
      "order: line 6 says that the makespan is 11, and that of these jobs is 12\n"),
 ]
+
+
+def start_from_column(lines, spans):
+    """The sequences that a table has of the certificates of three shops are starts, as they stand there."""
+    called(main, "certify", "shops", "--out", "all", *NO_WORK, "--csv", "table")
+    with open("table", newline="") as file, open("column", "w") as starts:
+        column = [row["sequence"] for row in csv.DictReader(file)]
+        starts.write("\n".join(column))
+    run = called(main, "certify", "shops", "--starts", "column", "--out", "again", *NO_WORK)
+    got = [line.split()[5] for line in run[1].splitlines()[1:-1]]
+    equal("the starts of a column", (column, got), (lines, [*map(str, spans)]))
 
 
 def test_starts():
@@ -870,6 +903,7 @@ def test_starts():
             run = called(main, "certify", "shops", "--starts", starts, "--out", "all", *words, *NO_WORK)
             got = [line.split()[5] for line in run[1].splitlines()[1:-1]]
             equal(f"the starts of {starts} with {words}", (run[0], got), (0, [*map(str, wanted)]))
+        start_from_column(lines, spans)
         shutil.copytree(folder / "all", folder / "some")
         (folder / "some" / "shops.2.certificate").write_text(lines[0])
         (folder / "some" / "shops.3.certificate").unlink()
@@ -946,8 +980,23 @@ def test_gaps():
             equal(f"gap with {words}", (run[0], run[2][: len(said) + 10]), (status, f"flowshop: {said}"))
 
 
+def test_gaps_of_one_block():
+    """Where one block is named, and there are several sequences, a line says that all are compared with that block."""
+    with new_folder(is_here=True) as folder:
+        SHOP.write(folder / "one", lower=9, upper=13)
+        (folder / "two").write_text((folder / "one").read_text() * 2)
+        both = "block 2: all 2 sequences are compared with its bounds\n"
+        for name, text, words, said in [
+            ("two", "2 1 3\n3 1 2\n", ["--blocks", "2"], both), ("two", "2 1 3\n3 1 2\n", [], ""),
+            ("two", "3 1 2\n", ["--blocks", "2"], ""), ("one", "2 1 3\n3 1 2\n", [], ""),
+        ]:
+            (folder / "order").write_text(text)
+            run = called(main, "gap", name, "order", *words)
+            equal(f"what is said of {text!r} for {name} with {words}", (run[0], run[2]), (0, said))
+
+
 PARTS = [
     test_cells, test_scales, test_arrays, test_frames, test_names, test_sequences_by_name, test_results_as_arrays,
     test_bounds, test_json, test_plots, test_help, test_pieces, test_time_limits, test_workers, test_lost, test_files,
-    test_tables, test_meter, test_starts, test_gaps,
+    test_tables, test_sums, test_meter, test_starts, test_gaps, test_gaps_of_one_block,
 ]

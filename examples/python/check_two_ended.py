@@ -19,7 +19,7 @@ class Fault(Exception):
 
 
 def read_shop(text: bytes, index: int) -> Shop:
-    """For each job its times, one for each machine."""
+    """For each job its times, one for each machine. IndexError where there is no such block."""
     groups: List[List[int]] = []  # of numbers, each after a line that begins with no digit: head, times, head, ..
     for line in text.split(b"\n"):
         line = line.strip(b" \t\r")
@@ -27,6 +27,8 @@ def read_shop(text: bytes, index: int) -> Shop:
             groups[-1] += map(int, line.split())
         elif line:
             groups.append([])
+    if index < 1:
+        raise IndexError
     jobs, times = groups[2 * index - 2][0], groups[2 * index - 1]
     return [times[job::jobs] for job in range(jobs)]
 
@@ -106,13 +108,15 @@ def check(shop: Shop, text: bytes) -> Tuple[int, int, List[int]]:
 
 def main(file: str, index: str, text: str) -> int:
     """Prints what the check says, and gives the status."""
-    if int(index) < 1:
-        print("refused index", file=sys.stderr)
-        return 1
     with open(file, "rb") as opened:
-        shop = read_shop(opened.read(), int(index))
+        shops = opened.read()
     with open(text, "rb") as opened:
         read = opened.read()
+    try:
+        shop = read_shop(shops, int(index))
+    except IndexError:
+        print("refused index", file=sys.stderr)
+        return 1
     try:
         lower, upper, _ = check(shop, read)
     except Fault as fault:

@@ -78,6 +78,8 @@ def run(options: argparse.Namespace) -> int:
     bounds = [_bounds(work, folder is not None) for work in works]
     table, lines = Table(_GAPS, options.files, options, sys.stdout), Lines(sys.stderr)
     of_work = {work.block: each for work, each in zip(works, bounds)}
+    if options.blocks != "all" and len(works) == 1 < len(given):  # the file may have one for each block
+        lines.keep(f"block {works[0].block}: all {len(given)} sequences are compared with its bounds")
     for work, (lower, upper) in zip(works, bounds):
         if lower is None and upper is None:
             lines.keep(f"block {work.block} states no bounds; --certificates names a folder that has some")

@@ -12,7 +12,7 @@ from typing import Collection, Dict, Iterable, List, NamedTuple, Optional, Seque
 from ._errors import OptionError, readable
 from ._options import LIMITS, option
 from ._results import Certificate
-from ._rows import OTHER, Form, Row, columns, is_other, is_replaced, tables_of, words_of_tables
+from ._rows import OTHER, Form, Row, columns, is_other, is_replaced, rounded, tables_of, words_of_tables
 from ._saving import names_folder, save, stream_of, target_of
 from ._shop import Block, Shop
 
@@ -39,9 +39,10 @@ class Work(NamedTuple):
 
 
 def _sums(rows: Sequence[Row]) -> Row:
-    """The last line of a table: how many blocks there are, how many of them are proved, and what adds up."""
+    """The last line of a table: how many blocks there are, how many of them are proved, and what adds up, where it is
+    known of each block. Seconds are added as they are shown."""
     added = {name: columns(rows, name) for name in ("directions", "cpu_seconds", "seconds")}
-    sums = {name: sum(known) if known else None for name, known in added.items()}
+    sums = {name: sum(map(rounded, known)) if len(known) == len(rows) else None for name, known in added.items()}
     return {"file": "sum", "block": len(rows), "optimal": sum(columns(rows, "optimal")), **sums}
 
 

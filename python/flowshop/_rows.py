@@ -5,6 +5,7 @@ import csv
 import errno
 import json
 import os
+import re
 from typing import Any, Callable, Dict, List, NamedTuple, Sequence, TextIO, Tuple
 
 from ._errors import readable
@@ -22,6 +23,8 @@ _ESCAPED = str.maketrans({
     "^": r"\textasciicircum{}", "<": r"\textless{}", ">": r"\textgreater{}", "|": r"\textbar{}", '"': r"\char34{}",
     "[": "{[}", "*": "{*}",  # behind the end of a line they would be words of it
 })
+# What LaTeX joins with the sign behind it.
+_JOINED = re.compile(r"([-'`,])(?=\1)|[?!](?=`)")
 
 
 class Form(NamedTuple):
@@ -47,6 +50,11 @@ def columns(rows: Sequence[Row], name: str) -> List[Any]:
     return [row[name] for row in rows if row[name] is not None]
 
 
+def rounded(value: Any) -> Any:
+    """A value as tables have it: three decimals of a number that is not whole."""
+    return round(value, 3) if isinstance(value, float) else value
+
+
 def _cell(value: Any) -> str:
     """A value as text: three decimals, and nothing where it is not known."""
     if value is None:
@@ -69,8 +77,15 @@ def _csv(form: Form, rows: Sequence[Row]) -> str:
 
 def _json(form: Form, rows: Sequence[Row]) -> str:
     """The table as JSON: an object in each line."""
-    rounded = [{name: round(it, 3) if isinstance(it, float) else it for name, it in row.items()} for row in rows]
-    return "[\n" + ",\n".join(json.dumps({name: row[name] for name in form.names}) for row in rounded) + "\n]\n"
+    objects = (json.dumps({name: rounded(row[name]) for name in form.names}) for row in rows)
+    return "[\n" + ",\n".join(objects) + "\n]\n"
+
+
+def _latex_cell(value: Any) -> str:
+    """A value for LaTeX. A number below 0 has a minus, and no two signs of a text become another one, as `--` would."""
+    if isinstance(value, float):
+        return _cell(value).replace("-", "$-$")
+    return _JOINED.sub(r"\g<0>\/", readable(_cell(value)).translate(_ESCAPED))
 
 
 def _latex(form: Form, rows: Sequence[Row]) -> str:
@@ -80,7 +95,7 @@ def _latex(form: Form, rows: Sequence[Row]) -> str:
     head = "".join("r" if is_number and name != "file" else "l" for is_number, name in zip(numbers, names))
 
     def line(cells: Sequence[Any]) -> str:
-        return " & ".join(readable(_cell(cell)).translate(_ESCAPED) for cell in cells) + r" \\"
+        return " & ".join(map(_latex_cell, cells)) + r" \\"
 
     last = form.last(rows)
     body = [line(names), r"\hline", *(line([row[name] for name in names]) for row in rows), r"\hline"]

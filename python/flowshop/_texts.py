@@ -210,8 +210,11 @@ def start_of(text: bytes) -> Tuple[List[int], Optional[int], int]:
     try:
         return sequence_of(text)
     except TextError as error:
-        is_none = error.place and not _SEQUENCE.match(text.lstrip(b" \t\r\n"))
+        first = text.lstrip(b" \t\r\n").partition(b"\n")[0]
+        is_none = error.place and not _SEQUENCE.match(first)
         advice = ", or the numbers of the jobs alone, as '3 1 2 ..'" if is_none else ""
+        if _PLAIN.fullmatch(first):
+            advice = ", since words follow"
         raise TextError(error.name, error.place, f"{error}{advice}") from None
 
 
