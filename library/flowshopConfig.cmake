@@ -1,12 +1,12 @@
 # For find_package(flowshop): the library as an imported target, flowshop::flowshop for the shared object and
 # flowshop::static for the archive. It stands below lib/cmake/flowshop/ of the folder that ./install wrote to, which may
-# be moved.
+# be moved. The targets are its components too, of which a project always has both.
 get_filename_component(_flowshop_prefix "${CMAKE_CURRENT_LIST_DIR}/../../.." ABSOLUTE)
 foreach(_flowshop_form IN ITEMS flowshop static)
   if(TARGET flowshop::${_flowshop_form})
     continue()
   endif()
-  if(_flowshop_form STREQUAL static)
+  if(_flowshop_form STREQUAL "static")
     add_library(flowshop::static STATIC IMPORTED)
     set(_flowshop_file libflowshop.a)
   else()
@@ -21,6 +21,12 @@ foreach(_flowshop_form IN ITEMS flowshop static)
   if(NOT EXISTS "${_flowshop_prefix}/lib/${_flowshop_file}")
     set(flowshop_FOUND FALSE)
     set(flowshop_NOT_FOUND_MESSAGE "there is no ${_flowshop_prefix}/lib/${_flowshop_file}")
+  endif()
+endforeach()
+foreach(_flowshop_form IN LISTS flowshop_FIND_COMPONENTS)
+  if(flowshop_FIND_REQUIRED_${_flowshop_form} AND NOT TARGET flowshop::${_flowshop_form})
+    set(flowshop_FOUND FALSE)
+    set(flowshop_NOT_FOUND_MESSAGE "it has no component ${_flowshop_form}")
   endif()
 endforeach()
 unset(_flowshop_prefix)

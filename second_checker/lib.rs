@@ -1,7 +1,8 @@
 //! The second checker of certificates and two-ended certificates of permutation flow shops, as a library.
 //!
 //! It was written apart from the proved checker of `flowshop`, by the same authors, from the rules of the texts alone,
-//! in plain safe Rust. It is not proved.
+//! in plain safe Rust. It is not proved. A check calls itself once for each job of a list: with 800 jobs it needs 1.5 MB
+//! of stack. Threads of the standard library have 2 MB.
 //!
 //! ```
 //! use second_checker::{Fault, Shop};

@@ -20,9 +20,9 @@
 //! what is proved of each. This crate only hands over numbers, and is tested. Bad input is an [`Error`], and nothing
 //! panics on it.
 //!
-//! A call runs on the thread that makes it, until it ends; any number of threads may make calls. A thread needs 128 kB
-//! of stack for them, whatever the shop is; those of the standard library have 2 MB. With less the process ends, as
-//! where any stack of Rust overflows.
+//! A call runs on the thread that makes it, until it ends; any number of threads may make calls. A call needs 128 kB of
+//! stack beside what its thread has used, whatever the shop is; threads of the standard library have 2 MB. With less
+//! the process ends, as where any stack of Rust overflows.
 
 #![deny(missing_docs, unsafe_code)]
 

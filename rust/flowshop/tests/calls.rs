@@ -351,7 +351,7 @@ fn stacks_that_are_too_small() {
         assert!(thread.spawn(|| three().makespan([1, 2, 3])).unwrap().join().unwrap().is_ok());
         return;
     }
-    for (bytes, is_enough) in [(32_768, false), (98_304, false), (262_144, true)] {
+    for (bytes, is_enough) in [(32_768, false), (131_072, false), (196_608, true)] {
         let words = ["--exact", "stacks_that_are_too_small"];
         let test = std::env::current_exe().unwrap();
         let run = std::process::Command::new(test).args(words).env(variable, bytes.to_string()).output().unwrap();
