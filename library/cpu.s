@@ -97,6 +97,10 @@ is_null:
         entry flowshop_run_next, %rdi, %rsi, %rdx
         entry flowshop_run_put, %rdi, %rsi, %rdx, %rcx
         entry_with_text flowshop_run_text, %rdi, 8(%rdi), %rsi, %r8
+        entry flowshop_search, %rsi, %rcx
+        entry flowshop_search_give, %rdi, %rsi, %rcx
+        entry flowshop_search_put, %rdi, %rsi, %r8, %r9
+        entry flowshop_search_found, %rdi, %rsi, %rdx
         entry flowshop_prove, %rdi, 8(%rdi), %rsi, (%rsi), 16(%rsi), %rcx, (%rcx), 16(%rcx), 32(%rcx)
         entry flowshop_beam, %rdi, 8(%rdi), %rsi, %rcx, %r8, (%r8)
         entry flowshop_rounds, %rdi, 8(%rdi), %rsi, %rcx, %r8, (%r8)

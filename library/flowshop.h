@@ -304,6 +304,43 @@ typedef struct flowshop_answer {
     uint64_t directions; /* how many a search wrote */
 } flowshop_answer;
 
+/* What is known of a place of a search that is shared. */
+enum flowshop_state {
+    FLOWSHOP_WAITS = 0, /* it waits to be given */
+    FLOWSHOP_GIVEN = 1, /* it is given to a worker */
+    FLOWSHOP_SEARCHED = 2, /* its directions are written, and what is left of it stands behind it */
+    FLOWSHOP_AT_SEQUENCE = 3, /* a sequence below the number comes behind its directions */
+    FLOWSHOP_DROPPED = 4 /* it stands behind such a sequence, and counts for nothing */
+};
+
+/* A place of a search that is shared: parts that stand one after the other, and that one worker searches. The caller
+ * only reads it. */
+typedef struct flowshop_place {
+    uint64_t written; /* how many directions were written there */
+    uint64_t next; /* one more than the place behind it; 0 where it is the last one */
+    uint32_t state; /* FLOWSHOP_WAITS to FLOWSHOP_DROPPED */
+    uint32_t zero; /* 0 */
+} flowshop_place;
+
+/* Where a search stands that is shared. With its places, which the caller keeps too, it can be copied, kept in a file,
+ * and gone on with. The caller only reads it. */
+typedef struct flowshop_search_state {
+    uint64_t budget; /* the most directions */
+    uint64_t written; /* how many directions were written at the places in order */
+    uint64_t settled; /* how many of them stand before the first place that waits or is given */
+    uint64_t front; /* one more than that place; 0 where there is none */
+    uint64_t open; /* how many places wait or are given */
+    uint64_t places; /* how many places there are */
+    uint64_t reached; /* one more than the place at a sequence; 0 where there is none */
+} flowshop_search_state;
+
+/* What became of a place that was given. */
+typedef struct flowshop_searched {
+    uint64_t written; /* how many directions were written there */
+    uint32_t left; /* how many places are left behind these; it counts for nothing where a sequence was reached */
+    uint32_t reached; /* 0; else a sequence below the number comes behind these directions */
+} flowshop_searched;
+
 /* The node of two empty lists: its sequences are all of the shop. */
 static inline flowshop_node flowshop_root(void) {
     static const uint16_t none = 0;
@@ -473,6 +510,37 @@ FLOWSHOP_CALL flowshop_outcome flowshop_certify(const flowshop_shop *shop, const
  * (of sequence); ROOM (of rest). */
 FLOWSHOP_CALL flowshop_outcome flowshop_prove(const flowshop_shop *shop, const flowshop_node *node, uint64_t number,
                                               flowshop_part *part) FLOWSHOP_NOEXCEPT;
+
+/* Begins a search that is shared, of at most so many directions. It keeps the order of its parts, whoever searches them
+ * and whenever they end; it does not know the shop. A place stands for some parts of flowshop_prove, one after the
+ * other: place 0 for the node of the search. The caller keeps the parts of each place, and the directions that were
+ * written there. Joined in order, from place 0 by `next`, these are the directions of the search.
+ * Fault: ROOM (of places). */
+FLOWSHOP_CALL flowshop_outcome flowshop_search(uint64_t budget, flowshop_place *places, size_t places_count,
+                                               flowshop_search_state *search) FLOWSHOP_NOEXCEPT;
+
+/* Gives the first place in order that waits: `place` becomes one more than it; 0 where none waits. Who has it may write
+ * as many directions as the budget, less those that are settled, and one more. It can be given to another worker too. */
+FLOWSHOP_CALL flowshop_outcome flowshop_search_give(flowshop_search_state *search, flowshop_place *places,
+                                                    size_t places_count, uint64_t *place) FLOWSHOP_NOEXCEPT;
+
+/* Takes what became of a place that was given. What is left of it becomes so many places, which wait, and stand behind
+ * it in order: `first` becomes one more than the first of them, and the others have the numbers after it. Where a
+ * sequence was reached, all that stands behind it is dropped. Where the place is not given, since an answer came before
+ * or it was dropped, `first` becomes 0, and nothing else changes. ROOM says how many places there would be: make the
+ * array longer, and call again. An answer with which there were 2^64 directions or more is refused.
+ * Faults in order: ANSWER; ROOM (of places). */
+FLOWSHOP_CALL flowshop_outcome flowshop_search_put(flowshop_search_state *search, flowshop_place *places,
+                                                   size_t places_count, uint64_t place,
+                                                   const flowshop_searched *searched, uint64_t *first)
+    FLOWSHOP_NOEXCEPT;
+
+/* What a shared search came to: `found` becomes FLOWSHOP_OVER where more directions are settled than the budget; else 0
+ * where a place waits or is given; else FLOWSHOP_BELOW, where `place` becomes that at the sequence, or FLOWSHOP_PROVED.
+ * `place` becomes 0 otherwise. It is what flowshop_prove finds of the whole search, with as many directions, if the
+ * answers were what it finds of the parts. */
+FLOWSHOP_CALL flowshop_outcome flowshop_search_found(const flowshop_search_state *search, uint32_t *found,
+                                                     uint64_t *place) FLOWSHOP_NOEXCEPT;
 
 /* The best sequence of a two-ended beam search, its makespan, which is at most that of the sequence `start`, and how
  * the search ended. It makes passes of the widths 1, 2, 4 and so on, up to the width, and none that might take more

@@ -15,8 +15,9 @@ import refusals
 from counts import EXAMPLES, PROGRAM, TOP, end, new_folder
 from plain_pictures import plain_picture
 from plain_texts import Refused, bounds_line, check_two_ended, plain_blocks
-from records import LIBRARY, U8, U16, U32, U64, Answer, BeamOptions, Bounds, Effort, Node, Part, Plan, Reached, Room
-from records import RoundsOptions, Run, Spans, Task, Text, block, call, equal, given, lent, results, shop_of
+from records import LIBRARY, SIZE, U8, U16, U32, U64, Answer, BeamOptions, Bounds, Effort, Node, Part, Place, Plan
+from records import Reached, Room, RoundsOptions, Run, Searched, Spans, Task, Text, block, call, equal, given, lent
+from records import results, shop_of
 from reference import Search, of_rows, rows_of
 
 SHOPS = int(sys.argv[1]) if len(sys.argv) > 1 else 2_000
@@ -190,6 +191,93 @@ def certify_by_tasks(shop, start, numbers, limited=0, asked=None):
         text = text_of(shop, kept[1], run.lower, directions, 3_300 + len(directions))
         equal("what is kept", check(shop, text), (kept[1], run.lower, run.upper))
     return kept[1], run.lower, run.upper, text_of(shop, kept[1], run.lower, directions, 3_300 + len(directions))
+
+
+WAITS, GIVEN, SEARCHED, AT_SEQUENCE, DROPPED = range(5)
+
+
+class Shared:
+    """A search in parts, with room for so many places; and the same as a list, which has the number of each place in
+    order, its state, and how many directions were written there."""
+
+    def __init__(self, budget, room):
+        self.budget, self.room, self.count = budget, SIZE(room), 1
+        self.places, self.plain, begun = (Place * room)(), [[0, WAITS, 0]], results(records.Search)
+        self.refused = call("search", U64(budget), self.places, self.room, begun)
+        self.state = records.Search.from_buffer_copy(begun)
+
+    def give(self):
+        """The place that is given, which is the first one that waits."""
+        number = Room(U64, 1, is_slice=False)
+        equal("a place that is given", call("search_give", self.state, self.places, self.room, number), None)
+        first = next((each for each in self.plain if each[1] == WAITS), None)
+        if first:
+            first[1] = GIVEN
+        got = number.taken(1)[0]
+        equal("which place is given", got, first[0] + 1 if first else 0)
+        self.compare()
+        return got - 1
+
+    def put(self, place, written, left=0, is_reached=0):
+        """What an answer comes to: the first of the places that are left, counted from 1, 0 where it is late, or why it
+        is refused."""
+        first, before = Room(U64, 1, is_slice=False), bytes(self.places) + bytes(self.state)
+        answer = Searched(written, left, is_reached)
+        got = call("search_put", self.state, self.places, self.room, U64(place), answer, first) or first.taken(1)[0]
+        at = next((at for at, each in enumerate(self.plain) if each[:2] == [place, GIVEN]), None)
+        wanted, needed = self.count + 1, self.count + (0 if is_reached else left)
+        if at is None:
+            wanted = 0
+        elif sum(each[2] for each in self.plain) + written >= 2**64:
+            wanted = "ANSWER", 0
+        elif needed > self.room.value:
+            wanted = "ROOM", needed
+        equal(f"the answer {written}, {left}, {is_reached} of {place}", got, wanted)
+        if wanted != self.count + 1:
+            equal("a search that stays", bytes(self.places) + bytes(self.state), before)
+            return got
+        more = [] if is_reached else [[number, WAITS, 0] for number in range(self.count, needed)]
+        behind = more if is_reached else more + self.plain[at + 1 :]
+        self.plain[at:] = [[place, AT_SEQUENCE if is_reached else SEARCHED, written], *behind]
+        self.count = needed
+        self.compare()
+        return got
+
+    def compare(self):
+        """Compares the places in order, the counts, and what is found."""
+        order, number = [], 1
+        while number and len(order) <= self.count:
+            place = self.places[number - 1]
+            order.append([number - 1, place.state, place.written])
+            number = place.next
+        equal("the places in order", order, self.plain)
+        at = next((at for at, each in enumerate(self.plain) if each[1] in (WAITS, GIVEN)), len(self.plain))
+        settled, front = sum(each[2] for each in self.plain[:at]), [each[0] + 1 for each in self.plain[at:]] + [0]
+        is_open, end = [each[1] in (WAITS, GIVEN) for each in self.plain], self.plain[-1]
+        reached_ = end[0] + 1 if end[1] == AT_SEQUENCE else 0
+        written = sum(each[2] for each in self.plain)
+        wanted = [self.budget, written, settled, front[0], sum(is_open), self.count, reached_]
+        equal("the counts", [getattr(self.state, name) for name, _ in self.state._fields_], wanted)
+        kind, place = Room(U32, 1, is_slice=False), Room(U64, 1, is_slice=False)
+        equal("what is found", call("search_found", self.state, kind, place), None)
+        found = 0 if any(is_open) else 2 if reached_ else 1
+        wanted = (3, 0) if settled > self.budget else (found, end[0] if found == 2 else 0)
+        equal("what a search comes to", (kind.taken(1)[0], place.taken(1)[0]), wanted)
+
+
+def compare_shared():
+    """Searches whose parts are answered in a drawn order, also twice, with room and without."""
+    equal("no room for a place", Shared(1, 0).refused, ("ROOM", 1))
+    draw = random.Random(6)
+    for _ in range(300):
+        most = draw.choice((0, 1, 9, 2**62, 2**64 - 1))
+        search = Shared(draw.choice((0, most, draw.randint(0, 40))), draw.randint(1, 30))
+        given_ = []
+        for _ in range(draw.randint(1, 50)):
+            if draw.random() < 0.5:
+                given_.append(max(0, search.give()))
+            place = draw.choice([*given_, draw.randint(0, 30), 2**64 - 1])
+            search.put(place, draw.choice((0, 1, most)), draw.choice((0, 0, 1, 2, 5)), int(draw.random() < 0.05))
 
 
 def parts_of(numbers):
@@ -407,7 +495,7 @@ def refuse_null_pointers():
         lambda: certify(SHOP, START), lambda: next_of(run, numbers),
         lambda: put_to(run, Task(1, 0, 13, 1), 3, 0, 0, 0),
         lambda: text_of(SHOP, START, 10, b""), lambda: prove(SHOP, 13), lambda: beam(SHOP, START),
-        lambda: rounds(SHOP, START),
+        lambda: rounds(SHOP, START), lambda: Shared(9, 3).put(Shared(9, 3).give(), 1),
     ):
         make()
     records.last.has_nulls = False
@@ -639,6 +727,7 @@ def main():
         compare_parts(draw)
     compare_pictures(draw)
     compare_runs()
+    compare_shared()
     for _ in range(SHOPS):
         compare_shop(draw)
     with concurrent.futures.ThreadPoolExecutor(8) as pool:

@@ -31,7 +31,7 @@ from reference import Search
 
 import flowshop
 from flowshop import Interrupted, Shop, _certify, _command_certify, _files, _library, _parts, _rows, _spread, _texts
-from flowshop import _threads, _waiting
+from flowshop import _tasks, _threads, _waiting
 from flowshop.__main__ import main
 
 # A shop whose least makespan no search of a test proves.
@@ -46,22 +46,32 @@ OLD = (
 )
 
 
-def shuffled(seed):
-    """A map that makes its calls in another order, and gives their results in order."""
-    draw = random.Random(seed)
+class Shuffled:
+    """An executor that makes its calls in a drawn order, in one thread."""
 
-    def each(call, words):
-        words = list(words)
-        order = draw.sample(range(len(words)), len(words))
-        made = {place: call(words[place]) for place in order}
-        return (made[place] for place in range(len(words)))
+    def __init__(self, seed):
+        self.draw, self.left, self.thread = random.Random(seed), [], concurrent.futures.ThreadPoolExecutor(1)
 
-    return each
+    def submit(self, call, *words):
+        """Begins a call."""
+        future = concurrent.futures.Future()
+        self.left.append((future, call, words))
+        self.thread.submit(self.make)
+        return future
+
+    def make(self):
+        """Makes one of the calls that are left."""
+        _threads._make(*self.left.pop(self.draw.randrange(len(self.left))))
 
 
 def small_tasks(seconds=0.0005):
     """Tasks that are as short as they can be, so that small searches have many."""
-    return mock.patch.multiple(_spread, _LONG=seconds, _SHORT=seconds / 4)
+    pieces = mock.patch.object(_parts, "_PIECE", int(15_000_000 * min(1, 100 * seconds)))
+    tasks = mock.patch.multiple(_spread, _LONG=seconds, _LONG_ELSEWHERE=seconds, _SHORT=seconds / 4)
+    stack = contextlib.ExitStack()
+    stack.enter_context(pieces)
+    stack.enter_context(tasks)
+    return stack
 
 
 def drawn_runs():
@@ -104,8 +114,8 @@ def compare_texts(pool):
     """The text of a run, whoever makes its searches, is that of one call of the library."""
     steps = set()
     ways = [
-        ("one worker", {}), ("three threads", {"workers": 3}), ("a map", {"map": shuffled(7)}),
-        ("processes", {"map": pool.map, "workers": 2}),
+        ("one worker", {}), ("three threads", {"workers": 3}), ("another order", {"workers": Shuffled(7)}),
+        ("processes", {"workers": pool}),
     ]
     for shop, choice in drawn_runs():
         wanted = one_call(shop, **choice)
@@ -141,14 +151,11 @@ class Traced:
         self.asked.append((number, budget))
         return self.given.get((number, budget), _spread.Found(_parts.OVER, budget))
 
-    def reached(self, name, start, *words):
+    def begin(self, name, start, *words):
         """A beam, or rounds."""
         self.asked.append((name, *words))
-        return self.given.get((name, *words), _parts.Reached(start, self.value, False))
-
-    def ahead(self, call):
-        """A call, later."""
-        return call
+        reached = self.given.get((name, *words), _parts.Reached(start, self.value, False))
+        return lambda: reached
 
 
 def taillard_bound(shop):
@@ -157,7 +164,8 @@ def taillard_bound(shop):
 
 
 # The numbers of runs that are followed: all of them have 12,000,000 steps for a beam.
-FOLLOWED = {"width": 100, "rounds": 30, "seed": 3, "work": 17, "directions": 10_000_000, "map": map}
+FOLLOWED = {"width": 100, "rounds": 30, "seed": 3, "work": 17, "directions": 10_000_000}
+FOLLOWED["workers"] = _threads.Here()
 
 
 def halves(lesser, greater):
@@ -309,7 +317,7 @@ def compare_searches():
     """What a search comes to whose parts are shared is what plain code comes to, with each budget."""
     draw = random.Random(7)
     kinds = set()
-    for _ in range(8):
+    for _ in range(16):
         jobs, machines = draw.randint(4, 7), draw.randint(2, 5)
         rows = [[draw.randint(1, 30) for _ in range(jobs)] for _ in range(machines)]
         shop, plain = Shop.from_machines(rows), Search((jobs, machines, sum(rows, [])))
@@ -323,9 +331,8 @@ def compare_searches():
                     wanted = _parts.OVER, budget, b"", ()
                 elif reached:
                     wanted = _parts.BELOW, len(text), b"", reached
-                workers = _spread.Workers(draw.choice([map, shuffled(budget)]), draw.randint(1, 5))
+                workers = _spread.Workers(draw.choice([None, Shuffled(budget)]), draw.randint(1, 5))
                 with small_tasks(draw.choice([1e-6, 1e-4])), _spread.Spread(shop._parts[:3], workers, int) as spread:
-                    spread.pace.speed, spread.pace.nodes = draw.choice([1e4, 1e6]), draw.randint(1, 30)
                     found = spread.prove(number, budget)
                 got = *found[:3], tuple(memoryview(found.sequence).cast("H"))
                 equal(f"a search of {rows} below {number} with {budget}", got, wanted)
@@ -363,7 +370,7 @@ def lawful(shop, found):
 def keep_time(pool):
     """A run ends soon after its time limit, with lawful bounds, and its pool is as before."""
     for limit in (0, 0.1, 2):
-        for name, words in [("one", {}), ("threads", {"workers": 3}), ("processes", {"map": pool.map})]:
+        for name, words in [("one", {}), ("threads", {"workers": 3}), ("processes", {"workers": pool})]:
             begun = time.monotonic()
             reports = []
             found = HARD.certify(**LONG, **words, time_limit=limit, progress=reports.append)
@@ -375,7 +382,7 @@ def keep_time(pool):
     equal("a pool after that", list(pool.map(first, range(9))), list(range(9)))
     # Before the first beam a run with a time limit has raised the lower bound as far as 10,000 directions prove it.
     for limit in (None, 1000):
-        with mock.patch.object(_spread.Spread, "reached", side_effect=KeyboardInterrupt):
+        with mock.patch.object(_spread.Spread, "begin", side_effect=KeyboardInterrupt):
             try:
                 found = HARD.certify(time_limit=limit)
             except Interrupted as stopped:
@@ -582,7 +589,7 @@ def interrupt_runs(pool):
     ways = [
         ("one call", lambda: HARD.certify(**{**LONG, "width": 64})),
         ("one", lambda: HARD.certify(**LONG, time_limit=100)), ("threads", lambda: HARD.certify(**LONG, workers=3)),
-        ("processes", lambda: HARD.certify(**LONG, map=pool.map)), ("improve", HARD.improve),
+        ("processes", lambda: HARD.certify(**LONG, workers=pool)), ("improve", HARD.improve),
     ]
     for number in range(20):
         name, call = ways[number % 5]
@@ -605,7 +612,7 @@ def interrupt_runs(pool):
 
     for call, wanted in [
         (lambda: HARD.certify(**LONG, time_limit=30), Interrupted),
-        (lambda: next(_threads.Threads(1).map(time.sleep, [5])), KeyboardInterrupt),
+        (lambda: _threads.result_of(_threads.Threads(1).submit(time.sleep, 5)), KeyboardInterrupt),
     ]:
         try:
             error, seconds = interrupt(0.2, lambda: masked(call))
@@ -651,30 +658,62 @@ def lose_worker():
             timer.start()
             begun = time.monotonic()
             try:
-                got = HARD.certify(**LONG, map=pool.map, time_limit=60)
+                got = HARD.certify(**LONG, workers=pool, time_limit=60)
             except concurrent.futures.BrokenExecutor as error:
                 got = type(error).__name__
             equal("the error of a killed process", got, "BrokenProcessPool")
             equal("how soon it comes", time.monotonic() - begun < seconds + 10, True)
 
 
-def lose_results(pool):
-    """Maps that are none: results that are missing, or in another order; and errors of a map. Numbers that are none."""
+class Faulty:
+    """An executor whose calls go through a fault, which is given a call and its word; or where there is none, each
+    third of which never ends."""
 
-    def fails(*_):
+    def __init__(self, fault=None):
+        self.fault, self.count = fault, 0
+
+    def submit(self, call, word):
+        """Begins a call."""
+        self.count += 1
+        if self.fault:
+            return _threads.Here().submit(self.fault, call, word)
+        return _threads.Here().submit(call, word) if self.count % 3 else concurrent.futures.Future()
+
+
+def fail_twice(call, word):
+    """A fault: a call fails the first two times."""
+    if (word.times if isinstance(word, _tasks.Task) else word[0]) < 2:
         raise ZeroDivisionError
+    return call(word)
 
-    for name, each, wanted in [
-        ("no results", lambda call, words: [], RuntimeError),
-        ("another order", lambda call, words: [call(word) for word in list(words)][::-1], RuntimeError),
-        ("an error", lambda call, words: map(fails, words), ZeroDivisionError),
-    ]:
-        with small_tasks(), mock.patch.object(_spread, "_SHORT", 0.001):
-            try:
-                got = HARD.certify(**{**LONG, "directions": 100_000}, map=each, workers=4)
-            except (RuntimeError, ZeroDivisionError) as error:
-                got = type(error)
-        equal(f"a map with {name}", got, wanted)
+
+def fail_always(*_):
+    """A fault: each call fails."""
+    raise ZeroDivisionError
+
+
+def turn(call, word):
+    """A fault: an answer to another task."""
+    answer = call(word)
+    return answer._replace(place=answer.place + 1) if isinstance(answer, _tasks.Answer) else answer
+
+
+def lose_results():
+    """Executors whose calls fail, which are made again, three times in all; that never end, which others make; or that
+    give other answers. Numbers that are none."""
+    choice = {**LONG, "directions": 100_000, "width": 0, "rounds": 0}
+    wanted = HARD.certify(**choice).text
+    for name, fault in [("fails twice", fail_twice), ("is lost at each third time", None)]:
+        with small_tasks(), mock.patch.multiple(_spread, _PATIENCE=0.02, _LONGEST_BEAM=0.02):
+            got = HARD.certify(**choice, workers=Faulty(fault)).text
+        equal(f"the text where each call {name}", got == wanted, True)
+    equal("rounds that fail twice", SOME.certify(**FEW, workers=Faulty(fail_twice)), SOME.certify(**FEW))
+    for name, fault, error in [("fails", fail_always, ZeroDivisionError), ("is another", turn, RuntimeError)]:
+        try:
+            got = HARD.certify(**choice, workers=Faulty(fault))
+        except error as failed:
+            got = failed.result
+        equal(f"what is left where each answer {name}", (lawful(HARD, got), got.state is None), (True, False))
     limits = [("time_limit", value) for value in (-1, "60", True)]
     for name, value in [("workers", 0), ("workers", 10_001), *limits, ("bound", -1)]:
         call = HARD.prove if name == "bound" else HARD.certify
@@ -696,9 +735,9 @@ def lose_progress(pool):
         if report.upper < HARD.neh().value and report.lower > HARD.bound():
             raise ZeroDivisionError
 
-    for each in (None, pool.map):
+    for workers in (1, pool):
         try:
-            got = HARD.certify(**LONG, map=each, time_limit=60, progress=fails)
+            got = HARD.certify(**LONG, workers=workers, time_limit=60, progress=fails)
         except ZeroDivisionError as error:
             got = error.result
         bounds = told[-1].lower <= got.lower, got.upper <= told[-1].upper
@@ -1258,7 +1297,8 @@ def use_dask():
     distributed = __import__("distributed")
     with distributed.LocalCluster(n_workers=2, threads_per_worker=1, dashboard_address=None) as cluster:
         with distributed.Client(cluster) as client:
-            compare_executor("dask", client.get_executor())
+            compare_executor("dask", client)
+            compare_executor("an executor of dask", client.get_executor())
             lose_dask_worker(client)
         compare_command(f"dask:{cluster.scheduler_address}")
         printed = example("by_dask.py", cluster.scheduler_address)
@@ -1272,7 +1312,7 @@ def lose_dask_worker(client):
     timer = threading.Timer(0.3, os.kill, [process, signal.SIGKILL])
     timer.start()
     with small_tasks(0.02):
-        got = HARD.certify(**choice, map=client.get_executor().map).text
+        got = HARD.certify(**choice, workers=client).text
     equal("that a worker is killed while others search", timer.is_alive(), False)
     equal("the text of the others", got == HARD.certify(**choice).text, True)
 
@@ -1282,9 +1322,9 @@ def compare_executor(name, executor):
     great = Shop.from_jobs([[9000, 20_000, 7], [1, 60_000, 5], [8, 8, 8], [4, 70_000, 0]])
     for shop in (Shop.generate(12, 8, 5), great):
         with small_tasks(0.002):
-            equal(f"a text by {name}", shop.certify(**FEW, map=executor.map).text, shop.certify(**FEW).text)
+            equal(f"a text by {name}", shop.certify(**FEW, workers=executor).text, shop.certify(**FEW).text)
     begun = time.monotonic()
-    found = HARD.certify(**LONG, map=executor.map, time_limit=1)
+    found = HARD.certify(**LONG, workers=executor, time_limit=1)
     equal(f"a limit of time with {name}", (lawful(HARD, found), time.monotonic() - begun < 2), (True, True))
 
 
@@ -1311,7 +1351,7 @@ def lose_mpi_process():
     futures = __import__("mpi4py.futures").futures
     with futures.MPIPoolExecutor() as pool:
         threading.Timer(0.5, os.kill, [pool.submit(os.getpid).result(), signal.SIGKILL]).start()
-        HARD.certify(**LONG, map=pool.map)
+        HARD.certify(**LONG, workers=pool)
 
 
 def use_local():
@@ -1329,7 +1369,7 @@ def use_local():
         refuse_states()
         show_progress()
         interrupt_runs(pool)
-        lose_results(pool)
+        lose_results()
         lose_progress(pool)
     for part in (lose_worker, stop_threads, use_eight_threads, use_command, use_odd_names, keep_links_and_pipes,
                  keep_streams, refuse_words, use_terminal, stop_command, stop_at_pipes, write_to_full_pipes,

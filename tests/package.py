@@ -679,13 +679,14 @@ def refuse_options():
                 wanted = "OptionError", name.upper(), 0, sentence
                 equal(f"{name} as {value!r}", refused(call, **{**sizes, name: value}), wanted)
     equal("a search that tells nothing", SHOP.certify(progress=False), SHOP.certify())
-    executor = "that of an executor, or of a pool, such as pool.map, or None"
+    workers = "a whole number from 1 to 10,000, or -1 for one of each processor, or an executor, as a "
+    workers += "ProcessPoolExecutor"
     told = "True, or a function that takes a Progress, or None"
     one, hundred = Shop.from_jobs([[5]]), Shop.from_jobs([[5]] * 100)
     trees = "depth is 3, which makes 970,200 trees, and there are 100,000 at most"
     for call, words, name, sentence in [
         *[(SHOP.certify, {name: value}, name.upper(), f"{name} is {value!r}, and has to be {wanted}") for
-          name, value, wanted in (("map", 5, executor), ("map", True, executor), ("progress", 1, told),
+          name, value, wanted in (("workers", print, workers), ("workers", 1.5, workers), ("progress", 1, told),
                                   ("progress", "yes", told))],
         (one.solve, {"depth": 2}, "PLAN_DEPTH", "depth is 2, and the shop has 1 job"),
         (hundred.solve, {"depth": 3}, "PLAN_PREFIXES", trees),

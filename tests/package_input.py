@@ -527,7 +527,8 @@ def test_pieces():
         number = shop.neh().value - draw.randint(-1, 12)
         front = array.array("H", draw.sample(range(1, 5), draw.choice([0, 0, 1, 2]))).tobytes()
         for budget in (0, 1, 7, 50, 10_000):
-            pieces = _parts.Pieces(_parts.Instance(*shop._parts[:3]), (front, b""), number, budget)
+            parts = [_parts.PackedPart(front, b"", 0, b"")]
+            pieces = _parts.Pieces(_parts.Instance(*shop._parts[:3]), parts, number, budget)
             pieces._piece = draw.choice([1, 2, 3, 10, 1000])
             pieces.search(lambda: None)
             kind, directions, parts, sequence, makespan = pieces.found()
@@ -541,13 +542,11 @@ def test_pieces():
     shop, lists = Shop.generate(9, 6, 7), (b"", b"")
     whole = in_one_call(shop, lists, shop.certify().value, 10_000)
     for most in range(1, 12):
-        pauses = iter(range(most))
-        pieces = _parts.Pieces(_parts.Instance(*shop._parts[:3]), lists, shop.certify().value, 10_000)
+        ends = iter([False] * (most - 1) + [True])
+        parts = [_parts.PackedPart(*lists, 0, b"")]
+        pieces = _parts.Pieces(_parts.Instance(*shop._parts[:3]), parts, shop.certify().value, 10_000)
         pieces._piece = 3
-        try:
-            pieces.search(lambda: next(pauses))
-        except StopIteration:
-            pass
+        pieces.search(lambda: next(ends))
         kind, directions, parts, _, _ = pieces.found()
         nodes = [node for part in parts for node in part.nodes()]
         rest = [in_one_call(shop, node, shop.certify().value, 10_000) for node in nodes]
@@ -599,11 +598,12 @@ def test_workers():
     """-1 and None stand for all processors."""
     processors = len(os.sched_getaffinity(0))
     for count in (-1, None):
-        equal(f"all processors, {count}", _options.workers_of(count), processors)
+        equal(f"all processors, {count}", _options.workers_of(count), (None, processors))
         equal(f"a certificate by all processors, {count}", SHOP.certify(workers=count), SHOP.certify())
     for count, shown in [(0, "0"), (-2, "-2"), (10_001, "10,001"), (1.5, "1.5"), ("2", "'2'")]:
         got = refused(lambda count=count: SHOP.certify(workers=count))
         sentence = f"workers is {shown}, and has to be a whole number from 1 to 10,000, or -1 for one of each processor"
+        sentence += ", or an executor, as a ProcessPoolExecutor"
         equal(f"{shown} workers", got, ("OptionError", "WORKERS", 0, sentence))
     with new_folder() as folder:
         Shop.generate(3, 3, 1).write(folder / "shop.txt")
@@ -612,7 +612,8 @@ def test_workers():
 
 
 def test_lost():
-    """Where the function that is told how far a search has come raises, or the map, the error has the best result."""
+    """Where the function that is told how far a search has come raises, or the executor, the error has the best
+    result."""
     hard, few = Shop.generate(20, 20, 1), {"work": 10, "directions": 1_000_000}
 
     class Enough(Exception):
@@ -630,10 +631,17 @@ def test_lost():
     def raises_bare(_):
         raise Bare
 
+    class Raises:
+        """An executor that was shut down."""
+
+        def submit(self, *_):
+            """Begins no call."""
+            raise Enough
+
     for what, error, more in [
         ("progress", Enough, {"progress": raises}),
         ("progress of threads", Enough, {"progress": raises, "workers": 2}),
-        ("a map", Enough, {"map": lambda call, words: raises(0)}),
+        ("an executor", Enough, {"workers": Raises()}),
         ("an error that takes nothing", Bare, {"progress": raises_bare}),
     ]:
         try:

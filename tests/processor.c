@@ -14,6 +14,7 @@ static const flowshop_beam_options BEAM = {0, 16, 1000000};
 static const flowshop_rounds_options ROUNDS = {10, 1, 1000000};
 static const flowshop_task TASK = {FLOWSHOP_TASK_SEARCH, 0, 12, 1, {0, 0, 0}, {0, 0, 0}};
 static const flowshop_answer ANSWER = {FLOWSHOP_OVER, 0, 0, 0};
+static const flowshop_searched SEARCHED = {1, 1, 0};
 static const char BLOCK[] = "one\n2 2 5 9 8\ntimes\n1 14\n75 46\n";
 static const char CERTIFICATE[] = "flowshop two-ended 1\n3 3\n12 12\n3 1 2\n-+\nend\n";
 
@@ -31,10 +32,15 @@ struct rooms {
     flowshop_part part;
     flowshop_run_state run;
     flowshop_task task;
+    flowshop_place places[2];
+    flowshop_search_state search;
+    uint64_t place;
     uint32_t better;
 };
 static struct rooms rooms, before;
 static flowshop_run_state run; /* one that has begun */
+static flowshop_search_state search; /* the same, with its places */
+static flowshop_place places[2];
 
 /* All rooms as they are before a call. */
 static void begin(void) {
@@ -50,6 +56,8 @@ static void begin(void) {
     rooms.part.rest = rooms.rest;
     rooms.part.rest_count = 28;
     rooms.run = run;
+    rooms.search = search;
+    memcpy(rooms.places, places, sizeof places);
     memcpy(&before, &rooms, sizeof rooms);
 }
 
@@ -82,6 +90,13 @@ int main(void) {
     MAKE(run_next, &rooms.run, &EFFORT, &rooms.task);
     MAKE(run_put, &rooms.run, &TASK, &ANSWER, &rooms.better);
     MAKE(run_text, &SHOP, START, 3, 10, certificate, 0, &rooms.text);
+    MAKE(search, 9, rooms.places, 2, &rooms.search);
+    search = rooms.search;
+    memcpy(places, rooms.places, sizeof places);
+    MAKE(search_give, &rooms.search, rooms.places, 2, &rooms.place);
+    places[0].state = FLOWSHOP_GIVEN;
+    MAKE(search_put, &rooms.search, rooms.places, 2, 0, &SEARCHED, &rooms.place);
+    MAKE(search_found, &rooms.search, &rooms.better, &rooms.place);
     MAKE(beam, &SHOP, START, 3, &BEAM, &rooms.reached);
     MAKE(rounds, &SHOP, START, 3, &ROUNDS, &rooms.reached);
     return 0;

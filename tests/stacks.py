@@ -9,7 +9,7 @@ import sys
 import threading
 
 from counts import TOP, new_folder, refused
-from flowshop import Shop, _library, _parts, _spread
+from flowshop import Shop, _library, _parts, _tasks
 
 FEW = {"width": 2, "rounds": 1, "work": 1}
 SHOP = Shop.generate(800, 26, 5)
@@ -21,10 +21,10 @@ BELOW = START.value + 1
 
 
 def search_by_package():
-    """The makespan of a sequence that a search reaches, and what a worker of a map gives."""
+    """The makespan of a sequence that a search reaches, and what a worker gives."""
     parts = _parts.packed_parts([_parts.PackedPart(b"", b"", 0, b"")])
-    answer = _spread.work(_spread.Task(1, _spread.packed_shop(NUMBERS), BELOW, 100_000, 60.0, parts))
-    beam = _spread.reach((_spread.packed_shop(NUMBERS), "beam", (JOBS, 0, 2, 10**9)))
+    answer = _tasks.work(_tasks.Task(1, 0, _tasks.packed_shop(NUMBERS), BELOW, 100_000, 60.0, parts))
+    beam = _tasks.reach((0, _tasks.packed_shop(NUMBERS), "beam", (JOBS, 0, 2, 10**9)))
     print(SHOP.prove(BELOW).value, answer.makespan, beam.makespan)
 
 

@@ -9,4 +9,4 @@ from flowshop import Shop
 if __name__ == "__main__":
     shop = Shop.read(sys.argv[1])[int(sys.argv[2]) - 1].shop
     with Client(sys.argv[3]) as client:
-        print(shop.certify(map=client.get_executor().map, progress=True))
+        print(shop.certify(workers=client, progress=True))

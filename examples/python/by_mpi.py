@@ -12,4 +12,4 @@ from flowshop import Shop
 if __name__ == "__main__":
     shop = Shop.read(sys.argv[1])[int(sys.argv[2]) - 1].shop
     with MPIPoolExecutor() as pool:
-        print(shop.certify(map=pool.map, progress=True))
+        print(shop.certify(workers=pool, progress=True))

@@ -11,4 +11,4 @@ if __name__ == "__main__":
         sys.exit(2)
     shop = Shop.read(sys.argv[1])[int(sys.argv[2]) - 1].shop
     with ProcessPoolExecutor() as pool:
-        print(shop.certify(map=pool.map, progress=True))
+        print(shop.certify(workers=pool, progress=True))

@@ -1,12 +1,12 @@
 """Runs of certify, which the library leads task by task, with searches whose parts workers do; and of improve."""
 
-from functools import partial
 from typing import Callable, Dict, NamedTuple, Optional, Tuple
 
 from ._library import AnswerNumbers, EffortNumbers, RunNumbers, TaskNumbers, byref, call, u32
 from ._options import option
 from ._parts import PROVED, REACHED, Instance, Reached
-from ._spread import Numbers, Spread, Workers
+from ._spread import Spread, Workers
+from ._tasks import Numbers
 from ._waiting import Progress, Watch
 
 # What a run asks for next.
@@ -119,8 +119,8 @@ class Run:
             watch.pause()
 
         def tasks() -> None:
-            with Spread(self._shop, workers, pause) as spread:
-                self._spread, self._pause = spread, watch.pause
+            with Spread(self._shop, workers, pause) as self._spread:
+                self._pause = watch.pause
                 self._go_on()
 
         watch.run(workers.measured(tasks), self._progress)
@@ -187,7 +187,7 @@ class Run:
                 return
             words, start = _words(task), self._origin(task)
             name, *options = words
-            self._begun[words, start] = self._spread.ahead(partial(self._spread.reached, name, start, *options))
+            self._begun[words, start] = self._spread.begin(name, start, *options)
             _put(run, task, AnswerNumbers(REACHED, 0, run.upper, 0))
 
 

@@ -25,7 +25,7 @@ from ._rows import Row, Table
 from ._saving import target_of
 from ._spread import Workers
 from ._starts import sequences_of
-from ._threads import Threads
+from ._threads import Threads, result_of
 from ._waiting import Lines, Running, Watch
 
 _EFFORT = {"width": 4096, "rounds": 10_000, "seed": 1, "work": 8500, "directions": 100_000_000}
@@ -98,20 +98,20 @@ def _workers(executor: str, count: Optional[int]) -> Iterator[Workers]:
     local = count or len(os.sched_getaffinity(0))
     if executor == "threads":
         threads = Threads(local)
-        yield Workers(threads.map, local)
+        yield Workers(threads, local)
         threads.close()
     elif executor == "processes":
         pool = ProcessPoolExecutor(local, initializer=_begin_work)
         list(pool.map(int, range(local)))  # they start before any thread does
-        yield Workers(pool.map, local, has_beams=True)
+        yield Workers(pool, local)
         pool.shutdown(wait=False)
     elif executor == "mpi":
         futures, mpi = _package("mpi4py.futures"), _package("mpi4py.MPI")
         with futures.MPIPoolExecutor() as pool:
-            yield Workers(pool.map, count or max(1, mpi.COMM_WORLD.Get_size() - 1), has_beams=True)
+            yield Workers(pool, count or max(1, mpi.COMM_WORLD.Get_size() - 1))
     elif kind == "dask" and address:
         with _package("distributed").Client(address) as client:
-            yield Workers(client.get_executor().map, count or max(1, sum(client.ncores().values())), has_beams=True)
+            yield Workers(client, count or max(1, sum(client.ncores().values())))
     else:
         raise WordError(f"--executor is {executor}, and has to be threads, processes, mpi or dask:ADDRESS")
 
@@ -199,7 +199,8 @@ def _all_certified(works: List[Work], table: Table, search: _Search) -> None:
         done[place] = _certified(works[place], search)
 
     try:
-        for place, _ in enumerate(threads.map(certify, range(len(works)))):
+        for place, begun in enumerate([threads.submit(certify, place) for place in range(len(works))]):
+            result_of(begun)
             with search.lines.taken_back():
                 table.add(done[place])
         table.end()

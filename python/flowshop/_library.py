@@ -158,6 +158,28 @@ class AnswerNumbers(ctypes.Structure):
     _fields_ = [("found", u32), ("whole", u32), ("makespan", u64), ("directions", u64)]
 
 
+class PlaceNumbers(ctypes.Structure):
+    """A place of a search: parts that workers search. `next` is one more than the place behind it."""
+
+    _fields_ = [("written", u64), ("next", u64), ("state", u32), ("zero", u32)]
+
+
+_OF_SEARCH = "budget", "written", "settled", "front", "open", "places", "reached"
+
+
+class SearchNumbers(ctypes.Structure):
+    """Where a search stands whose parts workers search."""
+
+    _fields_ = [(name, u64) for name in _OF_SEARCH]
+
+
+class SearchedNumbers(ctypes.Structure):
+    """What became of a place: how many directions were written, and how many places are left; or whether a sequence is
+    reached."""
+
+    _fields_ = [("written", u64), ("left", u32), ("reached", u32)]
+
+
 class NodeLists(ctypes.Structure):
     """The lists of a node."""
 
@@ -194,6 +216,10 @@ CALLS: Dict[str, List[Any]] = {
     "run_next": [out(RunNumbers), out(EffortNumbers), out(TaskNumbers)],
     "run_put": [out(RunNumbers), out(TaskNumbers), out(AnswerNumbers), out(u32)],
     "run_text": [*_ON_SHOP, u64, data, size, out(TextRoom)],
+    "search": [u64, out(PlaceNumbers), size, out(SearchNumbers)],
+    "search_give": [out(SearchNumbers), out(PlaceNumbers), size, out(u64)],
+    "search_put": [out(SearchNumbers), out(PlaceNumbers), size, u64, out(SearchedNumbers), out(u64)],
+    "search_found": [out(SearchNumbers), out(u32), out(u64)],
     "prove": [out(ShopNumbers), out(NodeLists), u64, out(PartRooms)],
     "beam": [*_ON_SHOP, out(BeamOptions), out(ReachedRoom)],
     "rounds": [*_ON_SHOP, out(RoundsOptions), out(ReachedRoom)],

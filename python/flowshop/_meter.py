@@ -2,7 +2,7 @@
 
 import threading
 import time
-from typing import Any, Callable, Dict, Iterable, Iterator, Tuple, TypeVar
+from typing import Any, Callable, Dict, Tuple, TypeVar
 
 from ._threads import with_stack
 
@@ -65,23 +65,3 @@ def timed(call: Callable[[Any], _T], word: Any) -> Tuple[_T, float]:
         return call(word), time.thread_time() - begun
 
     return with_stack(measured)
-
-
-class Metered:
-    """What workers give of words, in order; their time is added to a meter as it comes."""
-
-    def __init__(self, results: Iterable[Tuple[Any, float]], meter: Meter) -> None:
-        self._results, self._meter = iter(results), meter
-
-    def __iter__(self) -> Iterator[Any]:
-        return self
-
-    def __next__(self) -> Any:
-        result, seconds = next(self._results)
-        self._meter.add(seconds)
-        return result
-
-    def close(self) -> None:
-        """Drops the calls that are not yet begun, where the map does so."""
-        if hasattr(self._results, "close"):
-            self._results.close()

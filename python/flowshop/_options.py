@@ -2,10 +2,11 @@
 
 import os
 from operator import index
-from typing import Any, Dict, Optional, SupportsIndex, Tuple
+from typing import Any, Dict, Optional, SupportsIndex, Tuple, Union
 
 from ._errors import OptionError, shown
 from ._library import MOST_JOBS, MOST_MACHINES
+from ._threads import Executor
 
 _MOST_32 = 4_294_967_295
 # The least and the greatest number of each option.
@@ -58,15 +59,18 @@ def scale_of(value: SupportsIndex) -> int:
     raise OptionError("SCALE", 0, sentence)
 
 
-def workers_of(value: Optional[SupportsIndex]) -> int:
-    """How many workers there are; -1 and None stand for one of each processor that this process may use. OptionError
-    where it is no such number."""
+def workers_of(value: Union[SupportsIndex, Executor, None]) -> Tuple[Optional[Executor], int]:
+    """Who makes searches: an executor, of which one worker is known, or so many threads; -1 and None stand for one of
+    each processor that this process may use. OptionError where it is neither."""
+    if callable(getattr(value, "submit", None)):
+        return value, 1  # type: ignore[return-value]
     if value is None or value == -1:
-        return len(os.sched_getaffinity(0))
+        return None, len(os.sched_getaffinity(0))
     try:
-        return option("workers", value, OF_PARTS)
+        return None, option("workers", value, OF_PARTS)  # type: ignore[arg-type]
     except OptionError as error:
-        raise OptionError(error.name, 0, f"{error}, or -1 for one of each processor") from None
+        sentence = f"{error}, or -1 for one of each processor, or an executor, as a ProcessPoolExecutor"
+        raise OptionError(error.name, 0, sentence) from None
 
 
 def time_limit_of(value: Any) -> Optional[float]:

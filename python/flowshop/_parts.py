@@ -12,6 +12,8 @@ PROVED, BELOW, OVER, REACHED = 1, 2, 3, 4
 # The ends at which the children of a node put a job; 0 is the node itself.
 FRONT, BACK = 1, 2
 _HEAD = struct.Struct("=4H")
+# How many directions a piece of a search has, times the operations of the shop and 450.
+_PIECE = 15_000_000
 
 
 class PackedPart(NamedTuple):
@@ -156,21 +158,22 @@ class Rooms:
 
 
 class Pieces:
-    """A search of a node below a number with a budget of directions, in pieces of some hundredths of a second, between
-    which it can be stopped. What it comes to is what one call comes to."""
+    """A search of parts, one after the other, below a number with a budget of directions, in pieces of some hundredths
+    of a second, between which it can be stopped. What it comes to is what one call comes to."""
 
-    def __init__(self, instance: Instance, lists: Tuple[bytes, bytes], number: int, budget: int) -> None:
+    def __init__(self, instance: Instance, parts: List[PackedPart], number: int, budget: int) -> None:
         self._instance, self._number, self._budget = instance, number, budget
-        self._piece = 1 + 15_000_000 // (instance.jobs * instance.machines + 450)
+        self._piece = 1 + _PIECE // (instance.jobs * instance.machines + 450)
         self._written: List[bytes] = []
         # What was found so far: the kind, how many directions, the parts that are left, the sequence and its makespan.
-        self._found: Tuple[int, int, List[PackedPart], bytes, int] = OVER, 0, [PackedPart(*lists, 0, b"")], b"", 0
+        self._found: Tuple[int, int, List[PackedPart], bytes, int] = OVER, 0, parts, b"", 0
 
-    def search(self, pause: Callable[[], None]) -> None:
-        """Makes the pieces until the search ends, or what is called between them raises."""
+    def search(self, ends: Callable[[], object]) -> None:
+        """Makes the pieces, one at least, until the search ends, or what is asked between them is true or raises."""
         count, rooms = 0, Rooms(self._instance, min(self._piece, self._budget))
         while self._found[2] and self._found[0] == OVER:
-            pause()
+            if self._written and ends():
+                return
             if rooms.left == 0 and count < self._budget:
                 rooms = Rooms(self._instance, min(self._piece, self._budget - count))
             part, *others = self._found[2]

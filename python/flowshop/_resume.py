@@ -8,7 +8,7 @@ from ._errors import OptionError
 from ._found import numbers_of
 from ._library import RunNumbers, version
 from ._options import option
-from ._spread import Numbers
+from ._tasks import Numbers
 
 # A version may have other tasks than another one.
 _HEAD = f"flowshop run {version()}".encode()

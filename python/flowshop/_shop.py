@@ -32,10 +32,10 @@ from ._resume import State, refused, state_of
 from ._saving import save
 from ._sequences import By, Jobs, Many, Naming, not_a_node, not_a_sequence, not_many, packed
 from ._sequences import packed_many, packed_node
-from ._spread import Map, Workers
+from ._spread import Workers
 from ._tables import Table, read_kept, read_table
 from ._texts import Text, block_text, blocks_of, is_certificate, not_lawful, order_of, start_of, text_of, written
-from ._threads import with_stack
+from ._threads import Executor, with_stack
 from ._waiting import Progress, Token, Watch, waited, waited_for
 
 # The most bytes that a text has beside its trees or its directions.
@@ -630,7 +630,7 @@ class Shop(metaclass=Brief):
         limit, instance = time_limit_of(time_limit), Instance(*self._parts[:3])
         try:
             if limit is not None:
-                return self._proved_in(limit, Pieces(instance, lists, number, room))
+                return self._proved_in(limit, Pieces(instance, [PackedPart(*lists, 0, b"")], number, room))
             rooms = Rooms(instance, room)
             found = waited(lambda: rooms.search(*lists, number))
         except Refused as refused:
@@ -667,8 +667,7 @@ class Shop(metaclass=Brief):
         seed: int = 1,
         work: int = 8500,
         directions: int = 100_000_000,
-        workers: Optional[int] = 1,
-        map: Optional[Map] = None,
+        workers: Union[int, Executor, None] = 1,
         time_limit: Optional[float] = None,
         progress: Union[bool, Callable[[Progress], object], None] = None,
         token: Optional[Token] = None,
@@ -681,16 +680,15 @@ class Shop(metaclass=Brief):
         have, the longer the searches take where they do not find the least makespan. The other numbers are those of
         `improve`. With the numbers left out a call may take a minute and a half.
 
-        Searches for directions are shared by so many `workers`, 1 to 10,000, or one of each processor for -1 or None:
-        threads; or by those of a `map`, such as that of a pool of processes, where `workers` says how many there are,
-        if it is known. The certificate is the same for any number of workers and any map. After `time_limit` seconds it
-        is one of the best bounds so far; with few seconds, less `work` and fewer `directions` may give better ones. A
-        run with a time limit raises the lower bound early, and may give another certificate also where it ends before.
-        `progress` is called with a Progress, a few times a second; where it is True, a line on standard error tells the
-        same. An interrupt ends the call within a second, as Interrupted, whose `result` is a certificate of the best
-        bounds so far; an error of `progress` or of the map has such a `result` too. Without a map and a time limit
-        `check` has read the certificate of a run that ends, not of one that is stopped. `by` is that of `makespan`.
-        Errors are those of `improve`, and those of the map.
+        Searches are shared by `workers`: so many threads, 1 to 10,000, or one of each processor for -1 or None; or
+        those of an executor, such as ProcessPoolExecutor, a client of dask, or MPIPoolExecutor: what has `submit`. The
+        certificate is the same for any workers. After `time_limit` seconds it is one of the best bounds so far; with
+        few seconds, less `work` and fewer `directions` may give better ones. A run with a time limit raises the lower
+        bound early, and may give another certificate also where it ends before. `progress` is called with a Progress, a
+        few times a second; where it is True, a line on standard error tells the same. An interrupt ends the call within
+        a second, as Interrupted, whose `result` is a certificate of the best bounds so far; an error of `progress` or
+        of the executor has such a `result` too. Without an executor and a time limit `check` has read the certificate
+        of a run that has ended. `by` is that of `makespan`. Errors are those of `improve` and of the executor.
 
         A `token`, such as a threading.Event, ends the call from another thread as a time limit does, once it is set.
         A certificate of a run that was stopped has a `state`: with `resume` as such a state, a file of it
@@ -703,8 +701,8 @@ class Shop(metaclass=Brief):
         (12, 12)
         """
         effort = effort_of(width=width, rounds=rounds, seed=seed, work=work)
-        most, count, limit = option("directions", directions), workers_of(workers), time_limit_of(time_limit)
-        function_of("map", map, "that of an executor, or of a pool, such as pool.map, or None")
+        most, limit = option("directions", directions), time_limit_of(time_limit)
+        executor, count = workers_of(workers)
         if not isinstance(progress, bool):
             function_of("progress", progress, "True, or a function that takes a Progress, or None")
         token_of(token)
@@ -712,9 +710,9 @@ class Shop(metaclass=Brief):
             state = self._begin(self._begun(start, by), effort, most, limit is not None)
         else:
             state = self._resumed(resume, start, by)
-        at_once = min(4, count) if map is None else 4
-        found = self._certify(state, Workers(map, count, at_once), Watch(limit, progress, token))
-        return self._read(found) if map is None and limit is None and found.state is None else found
+        at_once = min(4, count) if executor is None else 4
+        found = self._certify(state, Workers(executor, count, at_once), Watch(limit, progress, token))
+        return self._read(found) if executor is None and limit is None and found.state is None else found
 
     def _begin(self, start: Optional[bytes], effort: Effort, directions: int, is_limited: bool) -> State:
         """The state of a run at its beginning, from a sequence or that of `neh`. NotASequence where it is none."""
@@ -757,7 +755,7 @@ class Shop(metaclass=Brief):
             run.search_until(watch, workers)
         except KeyboardInterrupt:
             raise Interrupted(found()) from None
-        except Exception as error:  # of the map, or of who is told how far it has come
+        except Exception as error:  # of the executor, or of who is told how far it has come
             with suppress(Exception):  # there is no memory, or the error takes nothing
                 setattr(error, "result", found())
             raise

@@ -1,14 +1,24 @@
-"""Threads that do tasks for a map, and that keep no process from ending."""
+"""Who makes calls: threads that keep no process from ending, the thread at hand, or an executor of the caller's."""
 
 import queue
 import threading
-from collections import deque
-from typing import Any, Callable, Iterable, Iterator, Optional, TypeVar
+from concurrent.futures import Future
+from typing import Any, Callable, Protocol, TypeVar
 
 from ._stack import Thread, has_stack
 from ._waiting import has_come, waited
 
 _T = TypeVar("_T")
+
+
+class Executor(Protocol):
+    """What makes calls somewhere else: an executor of concurrent.futures, as ProcessPoolExecutor, a client of dask, or
+    MPIPoolExecutor. It needs `submit` alone, which gives a future that has `result`, `add_done_callback` and
+    `cancel`."""
+
+    @property
+    def submit(self) -> Callable[..., Any]:
+        """Begins a call of a function with words, and gives its future."""
 
 
 def with_stack(call: Callable[[], _T]) -> _T:
@@ -17,71 +27,55 @@ def with_stack(call: Callable[[], _T]) -> _T:
     return call() if has_stack() else waited(call)
 
 
-class _Task:
-    """A call, what it gave, and whether anybody wants it."""
+def result_of(future: Any) -> Any:
+    """What a future gives, or its error. A signal interrupts the wait."""
+    ended = threading.Event()
+    future.add_done_callback(lambda _: ended.set())
+    has_come(ended)
+    return future.result()
 
-    def __init__(self, call: Callable[[Any], Any], word: Any) -> None:
-        self.call, self.word, self.ended, self.is_wanted = call, word, threading.Event(), True
-        self.result: Any = None
-        self.error: Optional[BaseException] = None
 
-    def run(self) -> None:
-        """Makes the call."""
+def _make(future: "Future[Any]", call: Callable[..., Any], words: Any) -> None:
+    """Makes a call, unless it was cancelled."""
+    if future.set_running_or_notify_cancel():
         try:
-            if self.is_wanted:
-                self.result = self.call(self.word)
+            future.set_result(call(*words))
         except BaseException as error:  # of any kind: it is raised where the result is wanted
-            self.error = error
-        self.ended.set()
+            future.set_exception(error)
+
+
+class Here:
+    """The thread at hand."""
+
+    def submit(self, call: Callable[..., Any], *words: Any) -> "Future[Any]":
+        """Makes a call."""
+        future: "Future[Any]" = Future()
+        _make(future, call, words)
+        return future
 
 
 class Threads:
     """So many threads."""
 
     def __init__(self, count: int) -> None:
-        self._tasks: "queue.SimpleQueue[Optional[_Task]]" = queue.SimpleQueue()
+        self._calls: "queue.SimpleQueue[Any]" = queue.SimpleQueue()
         self._count = count
         for _ in range(count):
             Thread(self._run, "flowshop worker").start()
 
     def _run(self) -> None:
-        """Does tasks until there is None."""
-        for task in iter(self._tasks.get, None):
-            task.run()
+        """Makes calls until there is None."""
+        call: Any
+        for call in iter(self._calls.get, None):
+            _make(*call)
 
-    def map(self, call: Callable[[Any], Any], words: Iterable[Any]) -> Iterator[Any]:
-        """What a function gives of each word, in their order. All calls are begun before the first result is asked for;
-        those that are not yet begun are dropped where no more results are asked for."""
-        tasks = [_Task(call, word) for word in words]
-        for task in tasks:
-            self._tasks.put(task)
-        return _Results(tasks)
+    def submit(self, call: Callable[..., Any], *words: Any) -> "Future[Any]":
+        """Begins a call."""
+        future: "Future[Any]" = Future()
+        self._calls.put((future, call, words))
+        return future
 
     def close(self) -> None:
-        """Ends the threads, once they have done what they have."""
+        """Ends the threads, once they have made the calls that they have."""
         for _ in range(self._count):
-            self._tasks.put(None)
-
-
-class _Results:
-    """The results of tasks, in their order."""
-
-    def __init__(self, tasks: Iterable[_Task]) -> None:
-        self._tasks = deque(tasks)
-
-    def __iter__(self) -> Iterator[Any]:
-        return self
-
-    def __next__(self) -> Any:
-        if not self._tasks:
-            raise StopIteration
-        task = self._tasks.popleft()
-        has_come(task.ended)
-        if task.error is not None:
-            raise task.error
-        return task.result
-
-    def close(self) -> None:
-        """Drops the calls that are not yet begun."""
-        for task in self._tasks:
-            task.is_wanted = False
+            self._calls.put(None)

@@ -10,5 +10,6 @@ pub mod Rooms
 pub mod Runs
 pub mod Reached
 pub mod Searches
+pub mod Shared
 pub mod Versions
 pub mod internal

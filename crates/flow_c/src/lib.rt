@@ -27,6 +27,7 @@
 //! - `solve.rt`: `flowshop_solve`.
 //! - `certify.rt`: `flowshop_certify`.
 //! - `run.rt`: `flowshop_run`, `flowshop_run_next`, `flowshop_run_put` and `flowshop_run_text`.
+//! - `search.rt`: `flowshop_search`, `flowshop_search_give`, `flowshop_search_put` and `flowshop_search_found`.
 //! - `prove.rt`: `flowshop_prove`.
 //! - `check.rt`: `flowshop_check`.
 #![tactic(auto)]
@@ -52,6 +53,7 @@ mod reached;
 mod room;
 mod rounds;
 mod run;
+mod search;
 mod shop;
 mod solve;
 mod span;

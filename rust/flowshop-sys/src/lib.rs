@@ -311,6 +311,38 @@ pub struct flowshop_answer {
     pub directions: u64,
 }
 
+/// A place of a search that is shared.
+#[repr(C)]
+#[derive(Clone, Copy, Debug)]
+pub struct flowshop_place {
+    pub written: u64,
+    pub next: u64,
+    pub state: u32,
+    pub zero: u32,
+}
+
+/// Where a search stands that is shared.
+#[repr(C)]
+#[derive(Clone, Copy, Debug)]
+pub struct flowshop_search_state {
+    pub budget: u64,
+    pub written: u64,
+    pub settled: u64,
+    pub front: u64,
+    pub open: u64,
+    pub places: u64,
+    pub reached: u64,
+}
+
+/// What became of a place that was given.
+#[repr(C)]
+#[derive(Clone, Copy, Debug)]
+pub struct flowshop_searched {
+    pub written: u64,
+    pub left: u32,
+    pub reached: u32,
+}
+
 /// A node of the two-ended tree.
 #[repr(C)]
 #[derive(Clone, Copy, Debug)]
@@ -433,6 +465,35 @@ extern "C" {
         node: *const flowshop_node,
         number: u64,
         part: *mut flowshop_part,
+    ) -> flowshop_outcome;
+    /// Begins a search that is shared.
+    pub fn flowshop_search(
+        budget: u64,
+        places: *mut flowshop_place,
+        places_count: usize,
+        search: *mut flowshop_search_state,
+    ) -> flowshop_outcome;
+    /// Gives the first place in order that waits.
+    pub fn flowshop_search_give(
+        search: *mut flowshop_search_state,
+        places: *mut flowshop_place,
+        places_count: usize,
+        place: *mut u64,
+    ) -> flowshop_outcome;
+    /// Takes what became of a place that was given.
+    pub fn flowshop_search_put(
+        search: *mut flowshop_search_state,
+        places: *mut flowshop_place,
+        places_count: usize,
+        place: u64,
+        searched: *const flowshop_searched,
+        first: *mut u64,
+    ) -> flowshop_outcome;
+    /// What a shared search came to.
+    pub fn flowshop_search_found(
+        search: *const flowshop_search_state,
+        found: *mut u32,
+        place: *mut u64,
     ) -> flowshop_outcome;
     /// The best sequence of a two-ended beam search.
     pub fn flowshop_beam(

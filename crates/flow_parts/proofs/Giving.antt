@@ -1,0 +1,257 @@
+-- Where a place is given, or waits again.
+use Rattle.std.proofs.Common.{◌≡◌, ◌≢◌, ℕ, ◌+◌, ◌-◌, ◌<◌, ◌≤◌, ◌⊎◌, inl, inr, true, false, cond, List, [], ◌∷◌, ◌++◌, length, refl, ap, sym, ◌∙◌, subst, arith, ltb, eqb, lit<, lit≤}
+use Rattle.std.specs.List.{AllByRecursion, IsDistinct, list_any}
+use Rattle.std.proofs.lemmas.Bool.{cases_eq, eqb-true, ltb-true, ne_eqb}
+use Rattle.std.proofs.lemmas.List.Sums.{sum_by-cons}
+use Rattle.std.proofs.lemmas.Map.Steps.{length-le_from_distinct_below}
+use Rattle.flow_parts.specs.declared.place.Place.{Place}
+use Rattle.flow_parts.specs.declared.search.Search.{Search}
+use Rattle.flow_parts.specs.Orders.{place_at, is_open, open_in, counted_in, IsLinked, settled_in, front_in, reached_in, EndsWhereReached}
+use Rattle.flow_parts.specs.Searches.{IsSearch, GivesPlace, GivesNone}
+use Rattle.flow_parts.specs.internal.Walks.{AreAdded, IsFirstWaiting}
+use Rattle.std.proofs.Common.{append_assoc}
+use Rattle.flow_parts.proofs.Numbers.{all-rest, all-append, all-each, all-both, all-weaker}
+use Rattle.flow_parts.proofs.Links.{linked-kept, apart-rest}
+use Rattle.flow_parts.proofs.Counts.{sum-kept, tested}
+use Rattle.flow_parts.proofs.Writing.{IsWritten}
+
+-- places one behind the other are distinct
+distinct : (link : ℕ → ℕ) (start : ℕ) (xs : List ℕ) → IsLinked link start xs → IsDistinct eqb xs
+unfolding IsDistinct
+distinct link start [] linked = tt
+distinct link start (x ∷ xs) linked = (
+  all-weaker (λ q. q ≢ x) (λ q. eqb x q ≡ false) xs (λ q not. ne_eqb x q (λ is. not (sym is)))
+      (apart-rest link start [] x xs linked),
+  distinct link (link x) xs linked.1,
+)
+
+below-any : (n : ℕ) (xs : List ℕ) → AllByRecursion (λ q. q < n) xs → (q : ℕ) → list_any (eqb q) xs ≡ true → q < n
+below-any n [] all q any = absurd (cc)
+below-any n (x ∷ xs) all q any = elim (cases_eq q x) [
+  | inl is ↦ omega (arith, is, all.0)
+  | inr not ↦ below-any n xs all.1 q (grind (arith, any, ne_eqb q x not))
+]
+
+-- there are at most as many as places
+pub linked-short : (link : ℕ → ℕ) (start n : ℕ) (xs : List ℕ) → IsLinked link start xs →
+    AllByRecursion (λ q. q < n) xs → length xs ≤ n
+linked-short link start n xs linked within =
+    length-le_from_distinct_below xs n (distinct link start xs linked) (below-any n xs within)
+
+-- a place is as it was, or was open and is
+abbrev pub IsAlike : Place → Place → Type 0
+IsAlike old new = ((is_open old ≡ true) × (is_open new ≡ true)) ⊎ (new ≡ old)
+
+not-reached : (state : ℕ) → ltb state 2 ≡ true → eqb state 3 ≡ false
+not-reached state less = ne_eqb state 3 (λ is. absurd (cc (ap (λ s. ltb s 2) is, less)))
+
+alike-open : (old new : Place) → IsAlike old new → is_open new ≡ is_open old
+alike-open old new (inl both) = both.1 ∙ sym both.0
+alike-open old new (inr same) = ap is_open same
+
+alike-counted : (old new : Place) → IsAlike old new → counted_in new ≡ counted_in old
+alike-counted old new (inl both) = ap (λ b. cond b 0 new.written) both.1 ∙ sym (ap (λ b. cond b 0 old.written) both.0)
+alike-counted old new (inr same) = ap counted_in same
+
+alike-reached : (old new : Place) → IsAlike old new → eqb new.state 3 ≡ eqb old.state 3
+alike-reached old new (inl both) = not-reached new.state both.1 ∙ sym (not-reached old.state both.0)
+alike-reached old new (inr same) = ap (λ place. eqb place.state 3) same
+
+module _ (at at' : ℕ → Place) where
+  settled-alike : (xs : List ℕ) → AllByRecursion (λ q. IsAlike (at q) (at' q)) xs → settled_in at' xs ≡ settled_in at xs
+  settled-alike [] alike = refl
+  settled-alike (x ∷ xs) alike = elim alike.0 [
+    | inl both ↦ ap (λ b. cond b 0 ((at' x).written + settled_in at' xs)) both.1
+        ∙ sym (ap (λ b. cond b 0 ((at x).written + settled_in at xs)) both.0)
+    | inr same ↦ ap (λ p. cond (is_open p) 0 (p.written + settled_in at' xs)) same
+        ∙ ap (λ n. cond (is_open (at x)) 0 ((at x).written + n)) (settled-alike xs alike.1)
+  ]
+
+  front-alike : (xs : List ℕ) → AllByRecursion (λ q. IsAlike (at q) (at' q)) xs → front_in at' xs ≡ front_in at xs
+  front-alike [] alike = refl
+  front-alike (x ∷ xs) alike =
+      ap (λ b. cond b (x + 1) (front_in at' xs)) (alike-open (at x) (at' x) alike.0)
+      ∙ ap (λ n. cond (is_open (at x)) (x + 1) n) (front-alike xs alike.1)
+
+  reached-alike : (xs : List ℕ) → AllByRecursion (λ q. IsAlike (at q) (at' q)) xs →
+      reached_in at' xs ≡ reached_in at xs
+  reached-alike [] alike = refl
+  reached-alike (x ∷ xs) alike =
+      ap (λ b. cond b (x + 1) (reached_in at' xs)) (alike-reached (at x) (at' x) alike.0)
+      ∙ ap (λ n. cond (eqb (at x).state 3) (x + 1) n) (reached-alike xs alike.1)
+
+  ends-alike : (xs : List ℕ) → AllByRecursion (λ q. IsAlike (at q) (at' q)) xs → EndsWhereReached at xs →
+      EndsWhereReached at' xs
+  ends-alike [] alike ends = tt
+  ends-alike (x ∷ xs) alike ends = (
+    (λ is. ends.0 (eqb-true (at x).state 3
+        (sym (alike-reached (at x) (at' x) alike.0) ∙ ap (λ s. eqb s 3) is))),
+    ends-alike xs alike.1 ends.1,
+  )
+
+  alike-all : (here : ℕ) (place : Place) → IsWritten at at' here place → is_open (at here) ≡ true →
+      is_open place ≡ true → (q : ℕ) → IsAlike (at q) (at' q)
+  alike-all here place written was is q = elim (cases_eq q here) [
+    | inl same ↦ inl (ap (λ n. is_open (at n)) same ∙ was, ap (λ n. is_open (at' n)) same ∙ ap is_open written.value ∙ is)
+    | inr not ↦ inr (written.others q not)
+  ]
+
+open-kept : (state : ℕ) → ltb state 2 ≡ true → state < 4
+open-kept state less = omega (arith, ltb-true state 2 less)
+
+-- a search in which an open place is written, which stays open
+pub still-search : (search : Search) (old new : List Place) (order : List ℕ) (here : ℕ) (place : Place) →
+    IsSearch search old order → IsWritten (place_at old) (place_at new) here place →
+    is_open (place_at old here) ≡ true → is_open place ≡ true → place.next ≡ (place_at old here).next →
+    length new ≡ length old → IsSearch search new order
+still-search search old new order here place is written was opened next size =
+    let at = place_at old in
+    let at' = place_at new in
+    let alike : (q : ℕ) → IsAlike (at q) (at' q) = alike-all at at' here place written was opened in
+    let all = all-each (λ q. IsAlike (at q) (at' q)) order (λ q one. alike q) in
+    let nexts : (q : ℕ) → (at' q).next ≡ (at q).next = λ q. elim (cases_eq q here) [
+      | inl same ↦ ap (λ n. (at' n).next) same ∙ ap (λ p. p.next) written.value ∙ next ∙ ap (λ n. (at n).next) (sym same)
+      | inr not ↦ ap (λ p. p.next) (written.others q not)
+    ] in
+    record {
+      room = omega (arith, is.room, size);
+      linked = linked-kept (λ q. (at q).next) (λ q. (at' q).next) 1 order is.linked
+          (all-each (λ q. (at' q).next ≡ (at q).next) order (λ q one. nexts q));
+      within = is.within;
+      few = is.few;
+      kept = all-both (λ q. (at q).state < 4) (λ q. IsAlike (at q) (at' q)) (λ q. (at' q).state < 4) order
+          (λ q less alike_q. elim alike_q [
+            | inl both ↦ open-kept (at' q).state both.1
+            | inr same ↦ subst (λ p. p.state < 4) (sym same) less
+          ]) is.kept all;
+      each = λ q used_q less. is.each q used_q (elim (alike q) [
+        | inl both ↦ open-kept (at q).state both.0
+        | inr same ↦ subst (λ p. p.state < 4) same less
+      ]);
+      ends = ends-alike at at' order all is.ends;
+      reached = is.reached ∙ sym (reached-alike at at' order all);
+      opened = is.opened ∙ sym (sum-kept (λ q. open_in (at q)) (λ q. open_in (at' q)) order
+          (all-each (λ q. open_in (at' q) ≡ open_in (at q)) order
+          (λ q one. ap (λ b. cond b 1 0) (alike-open (at q) (at' q) (alike q)))));
+      written = is.written ∙ sym (sum-kept (λ q. counted_in (at q)) (λ q. counted_in (at' q)) order
+          (all-each (λ q. counted_in (at' q) ≡ counted_in (at q)) order
+          (λ q one. alike-counted (at q) (at' q) (alike q))));
+      settled = is.settled ∙ sym (settled-alike at at' order all);
+      front = is.front ∙ sym (front-alike at at' order all);
+    }
+
+-- from the front on, the order goes on; none of the places before it is open
+pub front-rest : (at : ℕ → Place) (link : ℕ → ℕ) (start : ℕ) (xs : List ℕ) → IsLinked link start xs →
+    (ys : List ℕ) × (zs : List ℕ) × (xs ≡ ys ++ zs) × IsLinked link (front_in at xs) zs
+    × AllByRecursion (λ q. (at q).state ≢ 0) ys
+front-rest at link start [] linked = ([], [], refl, refl, tt)
+front-rest at link start (x ∷ xs) linked = elim (tested (is_open (at x))) [
+  | inl is ↦ (
+    [],
+    x ∷ xs,
+    refl,
+    (ap (λ b. cond b (x + 1) (front_in at xs)) is, linked.1),
+    tt,
+  )
+  | inr not ↦
+      let more = front-rest at link (link x) xs linked.1 in (
+        x ∷ more.0,
+        more.1,
+        ap (λ ys. x ∷ ys) more.2,
+        subst (λ n. IsLinked link n more.1) (sym (ap (λ b. cond b (x + 1) (front_in at xs)) not)) more.3,
+        ((λ waits. absurd (cc (ap (λ n. ltb n 2) waits, not))), more.4),
+      )
+]
+
+-- the first place that waits, from the front on, is the first one of the order that does
+pub first-waiting : (at : ℕ → Place) (link : ℕ → ℕ) (start : ℕ) (xs : List ℕ) (found : ℕ) (linked : IsLinked link start xs) →
+    IsFirstWaiting at (front-rest at link start xs linked).1 found → IsFirstWaiting at xs found
+first-waiting at link start xs found linked (inl none) =
+    let split = front-rest at link start xs linked in
+    inl (
+      none.0,
+      subst (λ ys. AllByRecursion (λ q. (at q).state ≢ 0) ys) (sym split.2)
+          (all-append (λ q. (at q).state ≢ 0) split.0 split.1 split.4 none.1),
+    )
+first-waiting at link start xs found linked (inr some) =
+    let split = front-rest at link start xs linked in
+    inr (
+      split.0 ++ some.0,
+      some.1,
+      some.2,
+      split.2 ∙ ap (λ ys. split.0 ++ ys) some.3 ∙ sym (append_assoc split.0 some.0 (some.1 ∷ some.2)),
+      some.4,
+      some.5,
+      all-append (λ q. (at q).state ≢ 0) split.0 some.0 split.4 some.6,
+    )
+
+-- the first place that waits is one of the order
+pub first-within : (at : ℕ → Place) (count : ℕ) (order : List ℕ) (link : ℕ) → IsFirstWaiting at order link → link ≢ 0 →
+    AllByRecursion (λ q. q < count) order → link - 1 < count
+first-within at count order link (inl none) some within = absurd (some none.0)
+first-within at count order link (inr found) some within =
+    omega (
+      arith,
+      found.4,
+      (all-rest (λ q. q < count) found.0 (found.1 ∷ found.2)
+          (subst (λ xs. AllByRecursion (λ q. q < count) xs) found.3 within)).0,
+    )
+
+-- the first place that waits is given
+pub gives-place : (search : Search) (old new : List Place) (order : List ℕ) (link : ℕ) → IsSearch search old order →
+    IsFirstWaiting (place_at old) order link → link ≢ 0 →
+    IsWritten (place_at old) (place_at new) (link - 1) (record (place_at old (link - 1)) { state = 1 }) →
+    length new ≡ length old → GivesPlace search search old new order (link - 1)
+gives-place search old new order link is (inl none) some written size = absurd (some none.0)
+gives-place search old new order link is (inr found) some written size =
+    let here : found.1 ≡ link - 1 = omega (arith, found.4) in
+    let waits : (place_at old (link - 1)).state ≡ 0 = subst (λ n. (place_at old n).state ≡ 0) here found.5 in
+    record {
+      above = found.0;
+      below = found.2;
+      at = subst (λ n. order ≡ found.0 ++ n ∷ found.2) here found.3;
+      passed = found.6;
+      waits = waits;
+      place = written.value;
+      others = written.others;
+      same = refl;
+      is = still-search search old new order (link - 1) (record (place_at old (link - 1)) { state = 1 }) is written
+          (ap (λ n. ltb n 2) waits) refl refl size;
+    }
+
+-- no place waits
+pub gives-none : (search : Search) (old : List Place) (order : List ℕ) (link : ℕ) →
+    IsFirstWaiting (place_at old) order link → link ≡ 0 → GivesNone search search old old order
+gives-none search old order link (inr found) none = absurd (omega (arith, found.4, none))
+gives-none search old order link (inl found) none = record { none = found.1; same = (refl, refl) }
+
+-- a search whose one place waits
+pub first-search : (at : ℕ → Place) (budget : ℕ) (new : List Place) → AreAdded at (place_at new) 0 1 0 →
+    1 ≤ length new →
+    IsSearch (record {
+      budget = budget;
+      written = 0;
+      settled = 0;
+      front = 1;
+      «open» = 1;
+      places = 1;
+      reached = 0;
+    }) new (0 ∷ [])
+first-search at budget new are room =
+    let at' = place_at new in
+    let state : (at' 0).state ≡ 0 = are.waits.0 in
+    let opened : is_open (at' 0) ≡ true = ap (λ n. ltb n 2) state in
+    record {
+      room = room;
+      linked = are.next [] tt refl;
+      within = (lit< tt, tt);
+      few = lit≤ tt;
+      kept = (subst (λ n. n < 4) (sym state) (lit< tt), tt);
+      each = λ q used less. inl (omega (arith, used));
+      ends = ((λ is. refl), tt);
+      reached = sym (ap (λ n. cond (eqb n 3) 1 0) state);
+      opened = sym (sum_by-cons (λ q. open_in (at' q)) 0 [] ∙ ap (λ b. cond b 1 0 + 0) opened);
+      written = sym (sum_by-cons (λ q. counted_in (at' q)) 0 [] ∙ ap (λ b. cond b 0 (at' 0).written + 0) opened);
+      settled = sym (ap (λ b. cond b 0 ((at' 0).written + 0)) opened);
+      front = sym (ap (λ b. cond b 1 0) opened);
+    }

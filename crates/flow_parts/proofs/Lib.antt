@@ -1,0 +1,11 @@
+pub mod Numbers
+pub mod Links
+pub mod Counts
+pub mod Sums
+pub mod Walking
+pub mod Writing
+pub mod Giving
+pub mod Putting
+pub mod Meetings
+pub mod Answering
+pub mod Decisions

@@ -1,0 +1,136 @@
+-- Steps of the walks.
+use Rattle.std.proofs.Common.{◌≡◌, ◌≢◌, ℕ, ◌+◌, ◌-◌, ◌<◌, ◌≤◌, ◌^◌, inl, inr, true, false, cond, List, [], ◌∷◌, ◌++◌, length, refl, ap, sym, ◌∙◌, subst, arith}
+use Rattle.std.proofs.Common.{append_assoc, append-nil}
+use Rattle.std.specs.List.{AllByRecursion}
+use Rattle.flow_parts.specs.declared.place.Place.{Place}
+use Rattle.flow_parts.specs.declared.walks.Settled.{Settled}
+use Rattle.flow_parts.specs.Orders.{is_open, IsLinked, settled_in, front_in}
+use Rattle.flow_parts.specs.internal.Walks.{IsFirstWaiting, IsPassed}
+use Rattle.flow_parts.proofs.Numbers.{all-append}
+
+-- from 0 on there is no place
+pub linked-none : (link : ℕ → ℕ) (start : ℕ) (xs : List ℕ) → IsLinked link start xs → start ≡ 0 → xs ≡ []
+linked-none link start [] linked is = refl
+linked-none link start (x ∷ xs) linked is = absurd (omega (arith, linked.0, is))
+
+-- from another start on there is a first one
+pub linked-some : (link : ℕ → ℕ) (start : ℕ) (xs : List ℕ) → IsLinked link start xs → start ≢ 0 →
+    (more : List ℕ) × (xs ≡ (start - 1) ∷ more) × IsLinked link (link (start - 1)) more
+linked-some link start [] linked not = absurd (not linked)
+linked-some link start (x ∷ xs) linked not =
+    let is : x ≡ start - 1 = omega (arith, linked.0) in
+    (xs, ap (λ n. n ∷ xs) is, subst (λ n. IsLinked link (link n) xs) is linked.1)
+
+-- a list of no length
+pub none-long : (xs : List ℕ) → length xs ≤ 0 → xs ≡ []
+none-long [] short = refl
+none-long (x ∷ xs) short = absurd (omega (arith, short))
+
+-- a walk over places that are not open, after so many steps of those that an array has
+pub record Settling (at : ℕ → Place) (size step : ℕ) (begun now : Settled) (rest : List ℕ) : Type 0 where
+  pub more : List ℕ
+  pub linked : IsLinked (λ number. (at number).next) now.front more
+  pub written : now.written + settled_in at more ≡ begun.written + settled_in at rest
+  pub front : front_in at more ≡ front_in at rest
+  pub short : length more + step ≤ size
+
+module _ (at : ℕ → Place) (size step : ℕ) (begun now : Settled) (rest : List ℕ)
+    (walk : Settling at size step begun now rest) where
+  passed-nil : walk.more ≡ [] → now.front ≡ 0 → IsPassed at begun now rest
+  passed-nil is none = record {
+    written = omega (arith, walk.written, ap (settled_in at) is);
+    front = none ∙ sym (ap (front_in at) is) ∙ walk.front;
+  }
+
+  pub settling-none : now.front ≡ 0 → IsPassed at begun now rest
+  settling-none none =
+      passed-nil (linked-none (λ number. (at number).next) now.front walk.more walk.linked none) none
+
+  pub settling-end : size ≤ step → IsPassed at begun now rest
+  settling-end all =
+      let is : walk.more ≡ [] = none-long walk.more (omega (arith, walk.short, all)) in
+      passed-nil is (subst (λ xs. IsLinked (λ number. (at number).next) now.front xs) is walk.linked)
+
+  pub settling-open : now.front ≢ 0 → is_open (at (now.front - 1)) ≡ true → IsPassed at begun now rest
+  settling-open some opened =
+      let first = linked-some (λ number. (at number).next) now.front walk.more walk.linked some in
+      let none : settled_in at walk.more ≡ 0 = ap (settled_in at) first.1
+      ∙ ap (λ b. cond b 0 ((at (now.front - 1)).written + settled_in at first.0)) opened in
+      let front : front_in at walk.more ≡ (now.front - 1) + 1 = ap (front_in at) first.1
+      ∙ ap (λ b. cond b ((now.front - 1) + 1) (front_in at first.0)) opened in
+      record {
+        written = omega (arith, walk.written, none);
+        front = omega (arith, some, front, walk.front);
+      }
+
+  pub settling-more : (next : Settled) → now.front ≢ 0 → is_open (at (now.front - 1)) ≡ false →
+      begun.written + settled_in at rest < 2 ^ 64 →
+      (now.written + (at (now.front - 1)).written < 2 ^ 64 →
+      next.written ≡ now.written + (at (now.front - 1)).written) →
+      next.front ≡ (at (now.front - 1)).next →
+      Settling at size (step + 1) begun next rest
+  settling-more next some done fits written is =
+      let first = linked-some (λ number. (at number).next) now.front walk.more walk.linked some in
+      let settled : settled_in at walk.more ≡ (at (now.front - 1)).written + settled_in at first.0 =
+      ap (settled_in at) first.1
+      ∙ ap (λ b. cond b 0 ((at (now.front - 1)).written + settled_in at first.0)) done in
+      let front : front_in at walk.more ≡ front_in at first.0 = ap (front_in at) first.1
+      ∙ ap (λ b. cond b ((now.front - 1) + 1) (front_in at first.0)) done in
+      let sum : next.written ≡ now.written + (at (now.front - 1)).written =
+      written (omega (arith, walk.written, settled, fits)) in
+      record {
+        more = first.0;
+        linked = subst (λ n. IsLinked (λ number. (at number).next) n first.0) (sym is) first.2;
+        written = omega (arith, walk.written, settled, sum);
+        front = sym front ∙ walk.front;
+        short = omega (arith, walk.short, ap length first.1);
+      }
+
+-- a walk over places that do not wait, after so many steps of those that an array has
+pub record Seeking (at : ℕ → Place) (size step link : ℕ) (rest : List ℕ) : Type 0 where
+  pub above : List ℕ
+  pub below : List ℕ
+  pub are : rest ≡ above ++ below
+  pub passed : AllByRecursion (λ number. (at number).state ≢ 0) above
+  pub linked : IsLinked (λ number. (at number).next) link below
+  pub short : length below + step ≤ size
+
+module _ (at : ℕ → Place) (size step link : ℕ) (rest : List ℕ) (walk : Seeking at size step link rest) where
+  seek-nil : walk.below ≡ [] → IsFirstWaiting at rest 0
+  seek-nil is = inl (
+    refl,
+    subst (λ xs. AllByRecursion (λ number. (at number).state ≢ 0) xs)
+        (sym (walk.are ∙ ap (λ xs. walk.above ++ xs) is ∙ append-nil walk.above)) walk.passed,
+  )
+
+  pub seeking-none : link ≡ 0 → IsFirstWaiting at rest 0
+  seeking-none none = seek-nil (linked-none (λ number. (at number).next) link walk.below walk.linked none)
+
+  pub seeking-end : size ≤ step → IsFirstWaiting at rest 0
+  seeking-end all = seek-nil (none-long walk.below (omega (arith, walk.short, all)))
+
+  pub seeking-waits : link ≢ 0 → (at (link - 1)).state ≡ 0 → IsFirstWaiting at rest link
+  seeking-waits some waits =
+      let first = linked-some (λ number. (at number).next) link walk.below walk.linked some in
+      inr (
+        walk.above,
+        link - 1,
+        first.0,
+        walk.are ∙ ap (λ xs. walk.above ++ xs) first.1,
+        omega (arith, some),
+        waits,
+        walk.passed,
+      )
+
+  pub seeking-more : (next : ℕ) → link ≢ 0 → (at (link - 1)).state ≢ 0 → next ≡ (at (link - 1)).next →
+      Seeking at size (step + 1) next rest
+  seeking-more next some not is =
+      let first = linked-some (λ number. (at number).next) link walk.below walk.linked some in
+      record {
+        above = walk.above ++ (link - 1) ∷ [];
+        below = first.0;
+        are = walk.are ∙ ap (λ xs. walk.above ++ xs) first.1 ∙ sym (append_assoc walk.above ((link - 1) ∷ []) first.0);
+        passed = all-append (λ number. (at number).state ≢ 0) walk.above ((link - 1) ∷ []) walk.passed (not, tt);
+        linked = subst (λ n. IsLinked (λ number. (at number).next) n first.0) (sym is) first.2;
+        short = omega (arith, walk.short, ap length first.1);
+      }

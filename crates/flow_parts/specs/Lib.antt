@@ -1,0 +1,4 @@
+pub mod Orders
+pub mod Searches
+pub mod Meanings
+pub mod internal

@@ -1,0 +1,52 @@
+-- The order of the places of a search, and what is counted along it.
+use Rattle.std.specs.Prelude.{ℕ, ◌≡◌, ◌+◌, ◌⊎◌, ◌==◌, Bool, cond, nat_lt, List, [], ◌∷◌}
+use Rattle.std.specs.Prelude.{slice_index_or}
+use Rattle.flow_parts.specs.declared.place.Place.{Place}
+
+-- what is at a place of the array; behind its end, a place that was dropped
+abbrev pub place_at : List Place → ℕ → Place
+place_at places number =
+    slice_index_or places number (record { written = 0; next = 0; state = 4; zero = 0 })
+
+-- whether a place waits or is given: it is still to be searched
+abbrev pub is_open : Place → Bool
+is_open place = nat_lt place.state 2
+
+-- 1 where a place is open, else 0
+abbrev pub open_in : Place → ℕ
+open_in place = cond (is_open place) 1 0
+
+-- how many directions of a place count: none where it is open
+abbrev pub counted_in : Place → ℕ
+counted_in place = cond (is_open place) 0 place.written
+
+-- a number is one of these
+abbrev pub IsOneOf : ℕ → List ℕ → Type 0
+IsOneOf number [] = ⊥
+IsOneOf number (first ∷ more) = (number ≡ first) ⊎ IsOneOf number more
+
+-- places one behind the other: each by the link of the one before it, which is one more than its number, and the first
+-- by the start; the link of the last one is 0
+abbrev pub IsLinked : (ℕ → ℕ) → ℕ → List ℕ → Type 0
+IsLinked link start [] = start ≡ 0
+IsLinked link start (number ∷ more) = (start ≡ number + 1) × IsLinked link (link number) more
+
+-- how many directions were written before the first open place
+abbrev pub settled_in : (ℕ → Place) → List ℕ → ℕ
+settled_in at [] = 0
+settled_in at (number ∷ more) = cond (is_open (at number)) 0 ((at number).written + settled_in at more)
+
+-- one more than the first open place; 0 where none is open
+abbrev pub front_in : (ℕ → Place) → List ℕ → ℕ
+front_in at [] = 0
+front_in at (number ∷ more) = cond (is_open (at number)) (number + 1) (front_in at more)
+
+-- one more than the first place at which a sequence was reached; 0 where none was
+abbrev pub reached_in : (ℕ → Place) → List ℕ → ℕ
+reached_in at [] = 0
+reached_in at (number ∷ more) = cond ((at number).state == 3) (number + 1) (reached_in at more)
+
+-- nothing stands behind a place at which a sequence was reached
+abbrev pub EndsWhereReached : (ℕ → Place) → List ℕ → Type 0
+EndsWhereReached at [] = Unit {0}
+EndsWhereReached at (number ∷ more) = ((at number).state ≡ 3 → more ≡ []) × EndsWhereReached at more

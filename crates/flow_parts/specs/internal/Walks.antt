@@ -1,0 +1,51 @@
+-- What walks through the places of a search come to.
+use Rattle.std.specs.Prelude.{ℕ, zero, suc, ◌≡◌, ◌≢◌, ◌+◌, ◌<◌, ◌≤◌, ◌^◌, ◌⊎◌, List, ◌∷◌, ◌++◌, length, sum_by}
+use Rattle.std.specs.List.{AllByRecursion, range_with_len}
+use Rattle.flow_parts.specs.declared.place.Place.{Place}
+use Rattle.flow_parts.specs.declared.walks.Dropped.{Dropped}
+use Rattle.flow_parts.specs.declared.walks.Settled.{Settled}
+use Rattle.flow_parts.specs.Orders.{place_at, open_in, counted_in, settled_in, front_in, IsLinked}
+
+-- these places were dropped, and the others are as they were
+pub record AreDropped (at at' : ℕ → Place) (gone : List ℕ) : Type 0 where
+  pub dropped : AllByRecursion (λ number. (at' number).state ≡ 4) gone
+  pub others : (number : ℕ) → AllByRecursion (λ other. other ≢ number) gone → at' number ≡ at number
+  pub states : (number : ℕ) → ((at' number).state ≡ (at number).state) ⊎ ((at' number).state ≡ 4)
+
+-- what is counted at places that were dropped
+pub record IsCounted (at : ℕ → Place) (gone : List ℕ) (dropped : Dropped) : Type 0 where
+  pub opened : dropped.open ≡ sum_by (λ number. open_in (at number)) gone
+  pub written : dropped.written ≡ sum_by (λ number. counted_in (at number)) gone
+
+-- the places of an array, and what is counted at them fits
+pub record AreCountable (places : List Place) (start : ℕ) (rest : List ℕ) : Type 0 where
+  pub linked : IsLinked (λ number. (place_at places number).next) start rest
+  pub short : length rest ≤ length places
+  pub within : AllByRecursion (λ number. number < length places) rest
+  pub opened : sum_by (λ number. open_in (place_at places number)) rest < 2 ^ 64
+  pub written : sum_by (λ number. counted_in (place_at places number)) rest < 2 ^ 64
+
+-- the link of the first of some new places, or else another link
+abbrev pub start_of : ℕ → ℕ → ℕ → ℕ
+start_of first zero otherwise = otherwise
+start_of first (suc count) otherwise = first + 1
+
+-- so many new places wait, from a number on, one behind the other
+pub record AreAdded (at at' : ℕ → Place) (first count behind_link : ℕ) : Type 0 where
+  pub others : (number : ℕ) → number < first → at' number ≡ at number
+  pub waits : AllByRecursion (λ number. (at' number).state ≡ 0) (range_with_len first count)
+  pub next : (behind : List ℕ) → AllByRecursion (λ number. number < first) behind →
+      IsLinked (λ number. (at number).next) behind_link behind →
+      IsLinked (λ number. (at' number).next) (start_of first count behind_link) (range_with_len first count ++ behind)
+
+-- from a place on, some are passed over that are not open, up to the first open one
+pub record IsPassed (at : ℕ → Place) (before after : Settled) (rest : List ℕ) : Type 0 where
+  pub written : after.written ≡ before.written + settled_in at rest
+  pub front : after.front ≡ front_in at rest
+
+-- the link of the first of some places that waits; or 0, where none waits
+abbrev pub IsFirstWaiting : (ℕ → Place) → List ℕ → ℕ → Type 0
+IsFirstWaiting at rest link =
+    ((link ≡ 0) × AllByRecursion (λ number. (at number).state ≢ 0) rest)
+    ⊎ ((above : List ℕ) × (number : ℕ) × (below : List ℕ) × (rest ≡ above ++ number ∷ below)
+    × (link ≡ number + 1) × ((at number).state ≡ 0) × AllByRecursion (λ other. (at other).state ≢ 0) above)
