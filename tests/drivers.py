@@ -71,7 +71,7 @@ def read_stopped(folder):
         text.write_bytes(found.text)
         wanted = f"bounds {found.lower} {found.upper}"
         words = [(PROGRAM, "check", folder / "shop", 1, text)]
-        words += [(CHECKER, folder / "shop", 1, text)] if CHECKER else []
+        words += [(CHECKER, "check", folder / "shop", 1, text)] if CHECKER else []
         words += [(sys.executable, TOP / "examples/python/check_two_ended.py", folder / "shop", 1, text)]
         equal("what the package says", shop.check(found.text), found)
         equal("what checkers say", {run(*each).decode().split("\n")[0] for each in words}, {wanted})

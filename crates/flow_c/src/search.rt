@@ -58,7 +58,11 @@ pub extern "C" fn flowshop_search(budget: u64, places: &mut [Place], search: &mu
 
 /// Gives the first place in order that waits: `place` becomes one more than it, or 0 where none waits.
 #[unsafe(no_mangle)]
-pub extern "C" fn flowshop_search_give(search: &mut Search, places: &mut [Place], place: &mut u64) -> Outcome
+pub extern "C" fn flowshop_search_give(
+    search: &mut Search,
+    places: &mut [Place],
+    place: &mut u64,
+) -> Outcome
     ensures done { IsDone result }
     ensures given { (order : List ℕ) → IsSearch search.old places.old order →
         IsGiven search.old search.new places.old places.new order place.new }
@@ -110,7 +114,11 @@ pub extern "C" fn flowshop_search_put(
 /// What a search came to: `found` becomes 1 where it is proved, 2 where a sequence was reached, at `place`, 3 where it
 /// is over its budget, and 0 where it is not decided.
 #[unsafe(no_mangle)]
-pub extern "C" fn flowshop_search_found(search: &Search, found: &mut u32, place: &mut u64) -> Outcome
+pub extern "C" fn flowshop_search_found(
+    search: &Search,
+    found: &mut u32,
+    place: &mut u64,
+) -> Outcome
     ensures done { IsDone result }
     ensures found { found.new ≡ found_number (decided_of search.now) }
     ensures place { place.new ≡ found_place (decided_of search.now) }
