@@ -20,8 +20,9 @@
  * beside them; it never changes where a slice is, nor how many entries it has. Where there are more entries than a
  * result needs, the others stay as they were. A record can begin as {0}, before its slices are set.
  *
- * The calls keep no state, but that the processor was tested, so that any number of threads may call them at once. They
- * start no thread and take no lock. They use malloc, realloc and free. No call may come from a signal handler.
+ * The calls keep no state, but that the processor was tested, so any number of threads may call them at once; but calls
+ * that are lent the same run, or the same search with its places, have to come one after the other. They start no
+ * thread and take no lock. They use malloc, realloc and free. No call may come from a signal handler.
  *
  * What is proved: each call, for all arguments that are passed as said above, reads and writes only what it is lent,
  * returns, and gives what its comment says: the status, the value, the sequence, the certificate. The contracts stand
@@ -112,7 +113,8 @@ enum flowshop_status {
     /* The number of a certificate is not within its limits. */
     FLOWSHOP_DIRECTIONS = 37, /* the directions are not 1 to 1000000000 */
 
-    FLOWSHOP_ANSWER = 38, /* a run is told what is no answer to a task that it may ask for */
+    FLOWSHOP_ANSWER = 38, /* a run is told what is no answer to a task that it may ask for; or a search would have 2^64
+                           * directions */
 
     /* The shop and the options have no plan. */
     FLOWSHOP_PLAN_DEPTH = 40, /* the depth is above the number of jobs */
@@ -305,7 +307,7 @@ typedef struct flowshop_answer {
 } flowshop_answer;
 
 /* What is known of a place of a search that is shared. */
-enum flowshop_state {
+enum flowshop_place_state {
     FLOWSHOP_WAITS = 0, /* it waits to be given */
     FLOWSHOP_GIVEN = 1, /* it is given to a worker */
     FLOWSHOP_SEARCHED = 2, /* its directions are written, and what is left of it stands behind it */
@@ -313,8 +315,7 @@ enum flowshop_state {
     FLOWSHOP_DROPPED = 4 /* it stands behind such a sequence, and counts for nothing */
 };
 
-/* A place of a search that is shared: parts that stand one after the other, and that one worker searches. The caller
- * only reads it. */
+/* A place of a search that is shared: parts that stand one after the other. The caller only reads it. */
 typedef struct flowshop_place {
     uint64_t written; /* how many directions were written there */
     uint64_t next; /* one more than the place behind it; 0 where it is the last one */
@@ -514,21 +515,24 @@ FLOWSHOP_CALL flowshop_outcome flowshop_prove(const flowshop_shop *shop, const f
 /* Begins a search that is shared, of at most so many directions. It keeps the order of its parts, whoever searches them
  * and whenever they end; it does not know the shop. A place stands for some parts of flowshop_prove, one after the
  * other: place 0 for the node of the search. The caller keeps the parts of each place, and the directions that were
- * written there. Joined in order, from place 0 by `next`, these are the directions of the search.
+ * written there. Joined in order, from place 0 by `next`, these are the directions of the search. The other calls take
+ * the same array, or a longer one that begins with it.
  * Fault: ROOM (of places). */
 FLOWSHOP_CALL flowshop_outcome flowshop_search(uint64_t budget, flowshop_place *places, size_t places_count,
                                                flowshop_search_state *search) FLOWSHOP_NOEXCEPT;
 
-/* Gives the first place in order that waits: `place` becomes one more than it; 0 where none waits. Who has it may write
- * as many directions as the budget, less those that are settled, and one more. It can be given to another worker too. */
+/* Gives the first place in order that waits: `place` becomes one more than it; 0 where none waits. Nothing is gained by
+ * more directions there than are left of the budget behind those that are settled, and one more. No place is given
+ * twice; but the caller may let a second worker search it too, as where the first is lost: the first answer counts. */
 FLOWSHOP_CALL flowshop_outcome flowshop_search_give(flowshop_search_state *search, flowshop_place *places,
                                                     size_t places_count, uint64_t *place) FLOWSHOP_NOEXCEPT;
 
-/* Takes what became of a place that was given. What is left of it becomes so many places, which wait, and stand behind
- * it in order: `first` becomes one more than the first of them, and the others have the numbers after it. Where a
- * sequence was reached, all that stands behind it is dropped. Where the place is not given, since an answer came before
- * or it was dropped, `first` becomes 0, and nothing else changes. ROOM says how many places there would be: make the
- * array longer, and call again. An answer with which there were 2^64 directions or more is refused.
+/* Takes what became of a given place: `place` is one less than what flowshop_search_give wrote. What is left of it
+ * becomes so many places, which wait, and stand behind it in order: `first` becomes one more than the number of the
+ * first of them, whether there are any or not, and the others have the numbers after it. Where a sequence was reached,
+ * all that stands behind it is dropped. Where the place is not given, since an answer came before or it was dropped,
+ * `first` becomes 0, and nothing else changes. ROOM says how many places there would be: make the array longer, and
+ * call again. An answer with which there were 2^64 directions or more is refused.
  * Faults in order: ANSWER; ROOM (of places). */
 FLOWSHOP_CALL flowshop_outcome flowshop_search_put(flowshop_search_state *search, flowshop_place *places,
                                                    size_t places_count, uint64_t place,
@@ -537,8 +541,9 @@ FLOWSHOP_CALL flowshop_outcome flowshop_search_put(flowshop_search_state *search
 
 /* What a shared search came to: `found` becomes FLOWSHOP_OVER where more directions are settled than the budget; else 0
  * where a place waits or is given; else FLOWSHOP_BELOW, where `place` becomes that at the sequence, or FLOWSHOP_PROVED.
- * `place` becomes 0 otherwise. It is what flowshop_prove finds of the whole search, with as many directions, if the
- * answers were what it finds of the parts. */
+ * `place` becomes 0 otherwise. It is what flowshop_prove finds of the whole search, if the answers were what it finds
+ * of the parts; `settled` is how many directions a proof has, and how many come before a sequence. This is proved of
+ * the node of two empty lists. */
 FLOWSHOP_CALL flowshop_outcome flowshop_search_found(const flowshop_search_state *search, uint32_t *found,
                                                      uint64_t *place) FLOWSHOP_NOEXCEPT;
 

@@ -194,6 +194,8 @@ def certify_by_tasks(shop, start, numbers, limited=0, asked=None):
 
 
 WAITS, GIVEN, SEARCHED, AT_SEQUENCE, DROPPED = range(5)
+# An entry of an array that is no place yet.
+UNUSED = Place(7, 7, GIVEN, 7)
 
 
 class Shared:
@@ -202,7 +204,7 @@ class Shared:
 
     def __init__(self, budget, room):
         self.budget, self.room, self.count = budget, SIZE(room), 1
-        self.places, self.plain, begun = (Place * room)(), [[0, WAITS, 0]], results(records.Search)
+        self.places, self.plain, begun = (Place * room)(*[UNUSED] * room), [[0, WAITS, 0]], results(records.Search)
         self.refused = call("search", U64(budget), self.places, self.room, begun)
         self.state = records.Search.from_buffer_copy(begun)
 
@@ -251,6 +253,8 @@ class Shared:
             order.append([number - 1, place.state, place.written])
             number = place.next
         equal("the places in order", order, self.plain)
+        equal("the last number of places", {place.zero for place in self.places[: self.count]}, {0})
+        equal("entries that are not used", {*map(bytes, self.places[self.count :])} <= {bytes(UNUSED)}, True)
         at = next((at for at, each in enumerate(self.plain) if each[1] in (WAITS, GIVEN)), len(self.plain))
         settled, front = sum(each[2] for each in self.plain[:at]), [each[0] + 1 for each in self.plain[at:]] + [0]
         is_open, end = [each[1] in (WAITS, GIVEN) for each in self.plain], self.plain[-1]
@@ -491,7 +495,8 @@ def refuse_null_pointers():
     for make in (
         lambda: generate(3, 3, 1), lambda: block(b"one\n1 1 0 0 0\ntimes\n5\n", 1), lambda: makespan(SHOP, START),
         lambda: makespans(SHOP, START + START), lambda: timetable(SHOP, START), lambda: picture(SHOP, START, 5_000),
-        lambda: neh(SHOP), lambda: improve(SHOP, START), lambda: check(SHOP, refusals.LEAST), lambda: solve(SHOP, START),
+        lambda: neh(SHOP), lambda: improve(SHOP, START), lambda: check(SHOP, refusals.LEAST),
+        lambda: solve(SHOP, START),
         lambda: certify(SHOP, START), lambda: next_of(run, numbers),
         lambda: put_to(run, Task(1, 0, 13, 1), 3, 0, 0, 0),
         lambda: text_of(SHOP, START, 10, b""), lambda: prove(SHOP, 13), lambda: beam(SHOP, START),

@@ -146,6 +146,9 @@ class Traced:
     def __exit__(self, *_):
         pass
 
+    def drop_ahead(self):
+        """Drops nothing."""
+
     def prove(self, number, budget):
         """A search."""
         self.asked.append((number, budget))
@@ -707,6 +710,20 @@ def lose_results():
         with small_tasks(), mock.patch.multiple(_spread, _PATIENCE=0.02, _LONGEST_BEAM=0.02):
             got = HARD.certify(**choice, workers=Faulty(fault)).text
         equal(f"the text where each call {name}", got == wanted, True)
+    # Searches that come to sequences: what is lost behind one is not waited for.
+    for seed in range(1, 9):
+        shop, few = Shop.generate(14, 8, seed), {**FEW, "width": 0, "rounds": 0}
+        with small_tasks(), mock.patch.multiple(_spread, _PATIENCE=0.02, _LONGEST_BEAM=0.02):
+            got = shop.certify(**few, workers=Faulty()).text
+        equal(f"the text of {shop!r} where calls are lost", got == shop.certify(**few).text, True)
+    with concurrent.futures.ThreadPoolExecutor(1) as pool:
+        kept = Faulty(lambda call, word: call(word))
+        kept.submit = lambda call, word: kept.begun.append(pool.submit(call, word)) or kept.begun[-1]
+        kept.begun = []
+        found = HARD.certify(**LONG, workers=kept, time_limit=0.5)
+        left = [future for future in kept.begun if not future.running() and not future.done()]
+        equal("calls that are left behind a limit", (lawful(HARD, found), len(kept.begun) > 3, left), (True, True, []))
+        equal("how many wait for one worker", len([1 for future in kept.begun if future.cancelled()]) < 5, True)
     equal("rounds that fail twice", SOME.certify(**FEW, workers=Faulty(fail_twice)), SOME.certify(**FEW))
     for name, fault, error in [("fails", fail_always, ZeroDivisionError), ("is another", turn, RuntimeError)]:
         try:

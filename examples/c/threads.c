@@ -130,9 +130,9 @@ static void *work(void *nothing) {
             continue;
         }
         const uint16_t *part = kept[place - 1].part;
-        const uint64_t left = search.budget - search.settled + 1;
+        const uint64_t left = search.budget - search.settled;
         pthread_mutex_unlock(&lock);
-        search_part(part, left < PIECE ? (size_t)left : (size_t)PIECE, answer);
+        search_part(part, left < PIECE ? (size_t)left + 1 : (size_t)PIECE, answer);
         pthread_mutex_lock(&lock);
         put(place - 1, answer);
         pthread_cond_broadcast(&changed);
@@ -209,7 +209,12 @@ static void read_shop(const char *name, uint32_t index, uint32_t *times, flowsho
         perror(name);
         exit(1);
     }
-    done(flowshop_block(text, fread(text, 1, MOST_TEXT, file), index, &block));
+    const size_t length = fread(text, 1, MOST_TEXT, file);
+    if (ferror(file)) {
+        perror(name);
+        exit(1);
+    }
+    done(flowshop_block(text, length, index, &block));
     fclose(file);
     free(text);
     shop.jobs = block.jobs;
@@ -227,7 +232,7 @@ int main(int count, char **words) {
     flowshop_run_state run;
     for (int word = 2; word < count && word < 9; word++) numbers[word] = (uint32_t)strtoul(words[word], NULL, 10);
     if ((count != 4 && count != 9) || numbers[3] < 1 || numbers[3] > 64) {
-        fputs("usage: threads FILE INDEX THREADS, of which there are 1 to 64\n", stderr);
+        fputs("usage: threads FILE INDEX THREADS [WIDTH ROUNDS SEED WORK DIRECTIONS], with 1 to 64 threads\n", stderr);
         return 2;
     }
     const flowshop_effort effort = {numbers[4], numbers[5], numbers[6], numbers[7]};

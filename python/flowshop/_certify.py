@@ -172,6 +172,7 @@ class Run:
         key = _words(task), self._origin(task)
         if key not in self._begun:
             self._begun = {}
+            self._spread.drop_ahead()
             self._begin()
         reached = self._begun.pop(key)()
         better = _put(self._run, task, AnswerNumbers(REACHED, int(reached.whole), reached.makespan, 0))

@@ -8,7 +8,7 @@ import signal
 import sys
 import threading
 import time
-from concurrent.futures import BrokenExecutor, ProcessPoolExecutor
+from concurrent.futures import BrokenExecutor, CancelledError, ProcessPoolExecutor
 from contextlib import closing, contextmanager
 from pathlib import Path
 from typing import Any, Dict, Iterator, List, NamedTuple, Optional
@@ -240,7 +240,7 @@ def run(options: argparse.Namespace) -> int:
         with _one_interrupt(), _workers(options.executor, count) as workers, closing(Lines(sys.stderr)) as lines:
             table = Table(PROVED, options.files, options, sys.stdout)
             _all_certified(works, table, _Search(workers, starts, effort, directions, limit, lines))
-    except BrokenExecutor as error:
+    except (BrokenExecutor, CancelledError) as error:
         Lines(sys.stderr).keep(f"flowshop: a worker has ended: {error}")
         return 1
     return 0

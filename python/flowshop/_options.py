@@ -62,9 +62,9 @@ def scale_of(value: SupportsIndex) -> int:
 def workers_of(value: Union[SupportsIndex, Executor, None]) -> Tuple[Optional[Executor], int]:
     """Who makes searches: an executor, of which one worker is known, or so many threads; -1 and None stand for one of
     each processor that this process may use. OptionError where it is neither."""
-    if callable(getattr(value, "submit", None)):
+    if callable(getattr(value, "submit", None)) and not isinstance(value, type):
         return value, 1  # type: ignore[return-value]
-    if value is None or value == -1:
+    if value is None or (not isinstance(value, float) and value == -1):
         return None, len(os.sched_getaffinity(0))
     try:
         return None, option("workers", value, OF_PARTS)  # type: ignore[arg-type]

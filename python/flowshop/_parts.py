@@ -43,9 +43,7 @@ class PackedPart(NamedTuple):
         return self._replace(jobs=self.jobs[: 2 * count])
 
     def after(self, count: int) -> List["PackedPart"]:
-        """The part of the other nodes, where there are any."""
-        if count == 0:
-            return [self]
+        """The part of the other nodes behind so many, one at least, where there are any."""
         others = self.jobs[2 * count :]
         return [self._replace(jobs=others)] if others else []
 

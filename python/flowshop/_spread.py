@@ -5,7 +5,6 @@ are those of one search, however many workers there are. The library keeps that 
 how much the next one has, and nothing else."""
 
 import functools
-import math
 import queue
 import time
 from concurrent.futures import BrokenExecutor
@@ -25,8 +24,10 @@ _GIVEN = 1
 _SHORT, _LONG, _LONG_ELSEWHERE = 0.02, 0.2, 1.0
 # How many seconds lie at most between two looks at whether a search is to end.
 _LOOK = 0.05
-# How many seconds longer than twice its time a task may take before another worker is given it too.
-_PATIENCE = 1.0
+# How many seconds longer than the slowest one a task may take before another worker is given it too.
+_PATIENCE = 2.0
+# For how many seconds a worker counts that was heard.
+_HEARD = 10.0
 # How many seconds a beam, or rounds, may take elsewhere before another worker is given them too.
 _LONGEST_BEAM = 60.0
 # How many times a task is given out whose worker fails.
@@ -88,9 +89,9 @@ class Given:
     def __init__(self, task: Task) -> None:
         self.task, self.calls, self.failed, self.since = task, set(), 0, 0.0  # type: Task, Set[Any], int, float
 
-    def is_late(self, now: float) -> bool:
-        """Whether it takes much longer than it should."""
-        return now > self.since + 2 * self.task.seconds + _PATIENCE
+    def is_late(self, now: float, slowest: float) -> bool:
+        """Whether it takes much longer than the slowest one that was answered; each time it was given twice as long."""
+        return now > self.since + (1 << len(self.calls)) * (max(self.task.seconds, slowest) + _PATIENCE)
 
     def begin(self, calls: "Calls") -> None:
         """Gives it to one worker more."""
@@ -109,9 +110,10 @@ class Shared:
         self._parts: Dict[int, List[PackedPart]] = {0: [_ROOT]}
         self._bits: Dict[int, Tuple[bytes, int]] = {}
         self._reached: Dict[int, Tuple[bytes, int]] = {}
-        # The tasks that were given, by their places, and when late ones were looked for.
+        # The tasks that were given, by their places; how long the slowest one took that was answered; and when late
+        # ones were looked for.
         self._given: Dict[int, Given] = {}
-        self._looked = 0.0
+        self._slowest, self._looked = 0.0, 0.0
 
     @property
     def written(self) -> int:
@@ -141,8 +143,12 @@ class Shared:
         if now < self._looked + _LOOK:
             return []
         self._looked = now
-        late = [each for each in self._given.values() if each.is_late(now)]
-        return [each for each in late if self._places[each.task.place].state == _GIVEN]
+        return [each for each in self._given.values() if each.is_late(now, self._slowest)]
+
+    def dropped(self) -> List[Given]:
+        """The tasks that are not given any more, since a sequence before them makes no use of them."""
+        gone = [place for place in self._given if self._places[place].state != _GIVEN]
+        return [self._given.pop(place) for place in gone]
 
     def put(self, answer: Answer, nodes: int, most: int) -> None:
         """Takes an answer to a task. What is left is given in tasks of so many nodes, so many of these at most, and one
@@ -153,7 +159,8 @@ class Shared:
         call("search_put", self._search, self._places, len(self._places), answer.place, searched, byref(first))
         if first.value == 0:  # another one has searched these parts, or a sequence before them makes no use of them
             return
-        del self._parts[answer.place], self._given[answer.place]
+        del self._parts[answer.place]
+        self._slowest = max(self._slowest, time.monotonic() - self._given.pop(answer.place).since)
         self._bits[answer.place] = answer.bits, answer.written
         if answer.sequence:
             self._reached[answer.place] = answer.sequence, answer.makespan
@@ -222,12 +229,12 @@ class Calls:
         return result
 
     def drop(self, futures: Optional[Set[Any]] = None) -> None:
-        """Waits for these calls no more, or for none, and cancels those that are not yet begun. Dask drops a call with
-        its future."""
+        """Waits for these calls no more, or for none, and cancels those that are not yet begun. Dask, whose futures can
+        be released, does so where they are; a cancelled one would be reported."""
         for future in self._begun.copy() if futures is None else futures:
-            if hasattr(future, "running"):
-                future.cancel()
             self._begun.discard(future)
+            drop = getattr(future, "release", future.cancel)
+            drop()
 
 
 class Spread:
@@ -239,10 +246,12 @@ class Spread:
         self._threads = Threads(workers.size) if workers.executor is None and workers.size > 1 else None
         self._executor: Executor = workers.executor or self._threads or Here()
         self._is_elsewhere = not isinstance(self._executor, (Here, Threads))
-        self._known: Set[int] = set()
+        self._is_shared = not isinstance(self._executor, Here)
+        # When each worker was heard last.
+        self._heard: Dict[int, float] = {}
         # How many nodes a task has, as earlier ones have shown.
         self._nodes = 1
-        self._ahead: List[Calls] = []
+        self._ahead: Set[Calls] = set()
         self.at_once = workers.at_once
 
     def __enter__(self) -> "Spread":
@@ -250,8 +259,7 @@ class Spread:
 
     def __exit__(self, *_: object) -> None:
         """Drops the beams and rounds that are not yet begun, and ends the threads."""
-        for calls in self._ahead:
-            calls.drop()
+        self.drop_ahead()
         if self._threads:
             self._threads.close()
 
@@ -261,8 +269,12 @@ class Spread:
 
     @property
     def _size(self) -> int:
-        """How many workers there are; of those elsewhere one more than are known, so that new ones are found."""
-        return max(self._workers.size, len(self._known) + 1) if self._is_elsewhere else self._workers.size
+        """How many workers there are; of those elsewhere at least as many as were heard in the last seconds."""
+        if not self._is_elsewhere:
+            return self._workers.size
+        since = time.monotonic() - _HEARD
+        self._heard = {worker: heard for worker, heard in self._heard.items() if heard > since}
+        return max(self._workers.size, len(self._heard))
 
     def prove(self, number: int, budget: int) -> Found:
         """What a search below a number comes to, with a budget of directions."""
@@ -281,12 +293,13 @@ class Spread:
             calls.drop()
 
     def _give(self, shared: Shared, calls: Calls) -> None:
-        """Gives tasks to all workers: to those elsewhere one task more each, so that none waits for the next one; and
-        what takes much longer there than it should to one worker more."""
-        most = 2 * self._size if self._is_elsewhere else self._size
+        """Gives tasks to all workers: elsewhere some more, so that none waits for the next one, and new ones are found;
+        and what takes much longer there than it should to one worker more."""
+        size = self._size
+        most = size + max(1, size // 2) if self._is_elsewhere else size
         long = _LONG_ELSEWHERE if self._is_elsewhere else _LONG
         while len(calls) < most:
-            given = shared.give(_SHORT if shared.open - len(calls) < self._size else long)
+            given = shared.give(_SHORT if shared.open - len(calls) < size else long)
             if given is None:
                 break
             given.begin(calls)
@@ -310,35 +323,46 @@ class Spread:
             raise RuntimeError("flowshop: a worker has given the answer to another task")
         calls.drop(given.calls)
         given.calls.clear()
-        self._known.add(answer.worker)
+        self._heard[answer.worker] = time.monotonic()
         if answer.rest:
             self._nodes = max(1, self._nodes - self._nodes // 4)
         elif answer.seconds < given.task.seconds / 2:
             self._nodes = min(_MOST_NODES, self._nodes + self._nodes // 4 + 1)
-        shared.put(answer, self._nodes, 2 * self._size if self._size > 1 else 0)
+        shared.put(answer, self._nodes, 2 * self._size if self._is_shared else 0)
+        for dropped in shared.dropped() if answer.sequence else []:
+            calls.drop(dropped.calls)
+            dropped.calls.clear()
 
     def begin(self, name: str, start: bytes, *options: int) -> Callable[[], Reached]:
         """Begins a beam, or rounds, from a start. Gives a call that waits for what they come to."""
         calls, words = self._calls(), (self._shop, name, (start, *options))
-        self._ahead.append(calls)
+        self._ahead.add(calls)
         calls.begin(reach, (0, *words))
         return lambda: self._reached(calls, words)
 
+    def drop_ahead(self) -> None:
+        """Drops the beams and rounds that nobody waits for any more."""
+        for calls in self._ahead:
+            calls.drop()
+        self._ahead.clear()
+
     def _reached(self, calls: Calls, words: Tuple[PackedShop, str, Tuple[Any, ...]]) -> Reached:
-        """What a beam or rounds come to. They are made again where their worker fails, and once where it is late."""
-        failed, ends = 0, time.monotonic() + _LONGEST_BEAM if self._is_elsewhere else math.inf
+        """What a beam or rounds come to. They are made again where their worker fails, and by another worker too where
+        they are late, each time after twice as long."""
+        failed, times, since = 0, 1, time.monotonic()
         while True:
             self._pause(0)
             ended = calls.next()
             if ended:
                 try:
                     reached: Reached = calls.result(ended[1])
+                    calls.drop()
                     return reached
                 except Exception as error:
                     failed += 1
                     if isinstance(error, BrokenExecutor) or failed == _TRIES:
                         raise
-                calls.begin(reach, (failed, *words))
-            elif time.monotonic() > ends:
-                ends = math.inf
-                calls.begin(reach, (_TRIES, *words))
+            elif not self._is_elsewhere or time.monotonic() < since + 2 ** (times - 1) * _LONGEST_BEAM:
+                continue
+            calls.begin(reach, (times, *words))
+            times, since = times + 1, time.monotonic()

@@ -6,7 +6,7 @@ import threading
 from typing import Callable
 
 # How many bytes of stack a thread of this package has: those that a call may need, FLOWSHOP_STACK of
-# library/flowshop.h, and more for a map of the caller's own; as much as threads mostly have.
+# library/flowshop.h, and more for an executor of the caller's own; as much as threads mostly have.
 STACK = 8 << 20
 # It is held while threads that others start would have such a stack too.
 _STARTING = threading.RLock()
