@@ -269,12 +269,12 @@ class Spread:
 
     @property
     def _size(self) -> int:
-        """How many workers there are; of those elsewhere at least as many as were heard in the last seconds."""
+        """How many workers there are; of those elsewhere two, or as many as were heard in the last seconds."""
         if not self._is_elsewhere:
             return self._workers.size
         since = time.monotonic() - _HEARD
         self._heard = {worker: heard for worker, heard in self._heard.items() if heard > since}
-        return max(self._workers.size, len(self._heard))
+        return max(self._workers.size, len(self._heard), 2)
 
     def prove(self, number: int, budget: int) -> Found:
         """What a search below a number comes to, with a budget of directions."""
