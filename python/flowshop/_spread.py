@@ -20,7 +20,7 @@ _T = TypeVar("_T")
 
 # The state of a place whose parts are given.
 _GIVEN = 1
-# How many seconds a task takes about: while there are few parts to give, and else, in this process and elsewhere.
+# How many seconds a task takes about: while there are few parts to give, and else; and elsewhere at most.
 _SHORT, _LONG, _LONG_ELSEWHERE = 0.02, 0.2, 1.0
 # How many seconds lie at most between two looks at whether a search is to end.
 _LOOK = 0.05
@@ -103,7 +103,7 @@ class Shared:
     """A search whose parts are given to workers. The library keeps their order, and says when it is decided."""
 
     def __init__(self, shop: PackedShop, number: int, budget: int) -> None:
-        self._shop, self._number, self._budget = shop, number, budget
+        self._shop, self._number, self._budget, self._begun = shop, number, budget, time.monotonic()
         self._places, self._search = (PlaceNumbers * 64)(), SearchNumbers()
         call("search", budget, self._places, len(self._places), self._search)
         # By places: the parts that are left there, the directions that were written there, and a sequence.
@@ -119,6 +119,11 @@ class Shared:
     def written(self) -> int:
         """How many directions were written, without those behind a sequence."""
         return int(self._search.written)
+
+    def seconds(self) -> float:
+        """How many seconds a task takes elsewhere: an eighth of those of the search so far, so that little is searched
+        in vain behind the place that decides."""
+        return max(_LONG, min(_LONG_ELSEWHERE, (time.monotonic() - self._begun) / 8))
 
     @property
     def open(self) -> int:
@@ -297,7 +302,7 @@ class Spread:
         and what takes much longer there than it should to one worker more."""
         size = self._size
         most = size + max(1, size // 2) if self._is_elsewhere else size
-        long = _LONG_ELSEWHERE if self._is_elsewhere else _LONG
+        long = shared.seconds() if self._is_elsewhere else _LONG
         while len(calls) < most:
             given = shared.give(_SHORT if shared.open - len(calls) < size else long)
             if given is None:
