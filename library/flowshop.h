@@ -329,7 +329,7 @@ typedef struct flowshop_search_state {
     uint64_t budget; /* the most directions */
     uint64_t written; /* how many directions were written at the places in order */
     uint64_t settled; /* how many of them stand before the first place that waits or is given */
-    uint64_t front; /* one more than that place; 0 where there is none */
+    uint64_t first_open; /* one more than that place; 0 where there is none */
     uint64_t open; /* how many places wait or are given */
     uint64_t places; /* how many places there are */
     uint64_t reached; /* one more than the place at a sequence; 0 where there is none */
@@ -524,7 +524,7 @@ FLOWSHOP_CALL flowshop_outcome flowshop_search(uint64_t budget, flowshop_place *
 /* Gives the first place in order that waits: `place` becomes one more than it; 0 where none waits. Nothing is gained by
  * more directions there than are left of the budget behind those that are settled, and one more. No place is given
  * twice; but the caller may let a second worker search it too, as where the first is lost: the first answer counts. */
-FLOWSHOP_CALL flowshop_outcome flowshop_search_give(flowshop_search_state *search, flowshop_place *places,
+FLOWSHOP_CALL flowshop_outcome flowshop_search_give(const flowshop_search_state *search, flowshop_place *places,
                                                     size_t places_count, uint64_t *place) FLOWSHOP_NOEXCEPT;
 
 /* Takes what became of a given place: `place` is one less than what flowshop_search_give wrote. What is left of it
@@ -542,8 +542,7 @@ FLOWSHOP_CALL flowshop_outcome flowshop_search_put(flowshop_search_state *search
 /* What a shared search came to: `found` becomes FLOWSHOP_OVER where more directions are settled than the budget; else 0
  * where a place waits or is given; else FLOWSHOP_BELOW, where `place` becomes that at the sequence, or FLOWSHOP_PROVED.
  * `place` becomes 0 otherwise. It is what flowshop_prove finds of the whole search, if the answers were what it finds
- * of the parts; `settled` is how many directions a proof has, and how many come before a sequence. This is proved of
- * the node of two empty lists. */
+ * of the parts; `settled` is how many directions a proof has, and how many come before a sequence. */
 FLOWSHOP_CALL flowshop_outcome flowshop_search_found(const flowshop_search_state *search, uint32_t *found,
                                                      uint64_t *place) FLOWSHOP_NOEXCEPT;
 

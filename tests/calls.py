@@ -256,11 +256,11 @@ class Shared:
         equal("the last number of places", {place.zero for place in self.places[: self.count]}, {0})
         equal("entries that are not used", {*map(bytes, self.places[self.count :])} <= {bytes(UNUSED)}, True)
         at = next((at for at, each in enumerate(self.plain) if each[1] in (WAITS, GIVEN)), len(self.plain))
-        settled, front = sum(each[2] for each in self.plain[:at]), [each[0] + 1 for each in self.plain[at:]] + [0]
+        settled, first = sum(each[2] for each in self.plain[:at]), [each[0] + 1 for each in self.plain[at:]] + [0]
         is_open, end = [each[1] in (WAITS, GIVEN) for each in self.plain], self.plain[-1]
         reached_ = end[0] + 1 if end[1] == AT_SEQUENCE else 0
         written = sum(each[2] for each in self.plain)
-        wanted = [self.budget, written, settled, front[0], sum(is_open), self.count, reached_]
+        wanted = [self.budget, written, settled, first[0], sum(is_open), self.count, reached_]
         equal("the counts", [getattr(self.state, name) for name, _ in self.state._fields_], wanted)
         kind, place = Room(U32, 1, is_slice=False), Room(U64, 1, is_slice=False)
         equal("what is found", call("search_found", self.state, kind, place), None)

@@ -81,7 +81,7 @@ Task = record("Task", ("kind", U32), ("origin", U32), ("number", U64), ("budget"
 Answer = record("Answer", ("found", U32), ("whole", U32), ("makespan", U64), ("directions", U64))
 Place = record("Place", ("written", U64), ("next", U64), ("state", U32), ("zero", U32))
 Search = record("Search", *[(name, U64) for name in (
-    "budget", "written", "settled", "front", "open", "places", "reached")])
+    "budget", "written", "settled", "first_open", "open", "places", "reached")])
 Searched = record("Searched", ("written", U64), ("left", U32), ("reached", U32))
 Node = record("Node", ("first", [U16]), ("last", [U16]))
 ROOMS = ("sequence", [U16]), ("directions", [U8]), ("rest", [U16])

@@ -164,7 +164,7 @@ class PlaceNumbers(ctypes.Structure):
     _fields_ = [("written", u64), ("next", u64), ("state", u32), ("zero", u32)]
 
 
-_OF_SEARCH = "budget", "written", "settled", "front", "open", "places", "reached"
+_OF_SEARCH = "budget", "written", "settled", "first_open", "open", "places", "reached"
 
 
 class SearchNumbers(ctypes.Structure):

@@ -10,6 +10,7 @@ use Rattle.flow_parts.specs.declared.answer.Decided.{Decided}
 use Rattle.flow_parts.specs.declared.answer.Decided.TheVariants.{Proved, Below, Over}
 use Rattle.flow_c.specs.declared.fault.Fault.{Fault}
 use Rattle.flow_c.specs.declared.fault.Fault.TheVariants.{Room, NoAnswer}
+use Rattle.flow_c.specs.Searches.{proved, below, over}
 use Rattle.flow_c.specs.declared.search.SearchedNumbers.{SearchedNumbers}
 
 -- what became of a place, as numbers say it
@@ -18,10 +19,10 @@ searched_of numbers =
     record { written = numbers.written; left = numbers.left; reached = not (nat_eq numbers.reached 0) }
 
 -- one more than the place that is given, the first in order that waits; 0 where none waits, and then nothing changes
-abbrev pub IsGiven : Search → Search → List Place → List Place → List ℕ → ℕ → Type 0
-IsGiven before after old new order place =
-    ((place ≡ 0) × GivesNone before after old new order)
-    ⊎ ((number : ℕ) × (place ≡ number + 1) × GivesPlace before after old new order number)
+abbrev pub IsGiven : Search → List Place → List Place → List ℕ → ℕ → Type 0
+IsGiven search old new order place =
+    ((place ≡ 0) × GivesNone old new order)
+    ⊎ ((number : ℕ) × (place ≡ number + 1) × GivesPlace search old new order number)
 
 -- how many places there are with those that are left
 abbrev pub needed_places : Search → SearchedNumbers → ℕ
@@ -44,9 +45,9 @@ first_number TooMany = 0
 -- the number of what a search came to; 0 where it is not decided
 abbrev pub found_number : Option Decided → ℕ
 found_number None = 0
-found_number (Some (Proved directions)) = 1
-found_number (Some (Below place directions)) = 2
-found_number (Some Over) = 3
+found_number (Some (Proved directions)) = proved
+found_number (Some (Below place directions)) = below
+found_number (Some Over) = over
 
 -- the place at which a sequence was reached, where the search came to one; else 0
 abbrev pub found_place : Option Decided → ℕ

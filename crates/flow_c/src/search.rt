@@ -43,7 +43,7 @@ impl SearchedNumbers {
 #[unsafe(no_mangle)]
 pub extern "C" fn flowshop_search(budget: u64, places: &mut [Place], search: &mut Search) -> Outcome
     ensures begun { 0 < length places.old → IsDone result × IsSearch search.new places.new (0 ∷ [])
-        × (search.new.budget ≡ budget) × ((place_at places.new 0).state ≡ 0) }
+        × (search.new.budget ≡ budget) × (search.new.places ≡ 1) × ((place_at places.new 0).state ≡ 0) }
     ensures refused { length places.old ≡ 0 → HasFault (Room 1) result × (search.new ≡ search.old)
         × (places.new ≡ places.old) }
 {
@@ -59,13 +59,13 @@ pub extern "C" fn flowshop_search(budget: u64, places: &mut [Place], search: &mu
 /// Gives the first place in order that waits: `place` becomes one more than it, or 0 where none waits.
 #[unsafe(no_mangle)]
 pub extern "C" fn flowshop_search_give(
-    search: &mut Search,
+    search: &Search,
     places: &mut [Place],
     place: &mut u64,
 ) -> Outcome
     ensures done { IsDone result }
-    ensures given { (order : List ℕ) → IsSearch search.old places.old order →
-        IsGiven search.old search.new places.old places.new order place.new }
+    ensures given { (order : List ℕ) → IsSearch search.now places.old order →
+        IsGiven search.now places.old places.new order place.new }
 {
     *place = match search.give(places) {
         Some(number) => number.saturating_add(1),

@@ -122,12 +122,12 @@ answers-keep before after old new order order_after number searched meaning all 
           let true_answer = MatchBool-at_true _ _ reached answer.then in
           subst (λ xs. StandsFor meaning new (put.first ++ number ∷ xs) all)
           (sym (ap (λ b. cond b [] (range_with_len before.places searched.left ++ put.behind)) reached))
-          (reached-keeps meaning old new put.first put.behind number all state put.front_same stands_at
+          (reached-keeps meaning old new put.first put.behind number all state put.first_same stands_at
           (put.state ∙ ap (λ b. cond b 3 2) reached) written true_answer.0 true_answer.1)
       | inr not ↦
           subst (λ xs. StandsFor meaning new (put.first ++ number ∷ xs) all)
           (sym (ap (λ b. cond b [] (range_with_len before.places searched.left ++ put.behind)) not))
-          (going-on-keeps meaning old new put.first put.behind number all state put.front_same stands_at
+          (going-on-keeps meaning old new put.first put.behind number all state put.first_same stands_at
           before.places searched.left (put.state ∙ ap (λ b. cond b 3 2) not) written (put.waits not)
           (put.behind_same not) (MatchBool-at_false _ _ not answer.then))
     ])

@@ -4,7 +4,7 @@ use Rattle.std.proofs.lemmas.Bool.{eqb-true}
 use Rattle.std.proofs.lemmas.List.Sums.{sum_by-cons}
 use Rattle.std.specs.List.{AllByRecursion}
 use Rattle.flow_parts.specs.declared.place.Place.{Place}
-use Rattle.flow_parts.specs.Orders.{IsLinked, is_open, settled_in, front_in, reached_in, EndsWhereReached}
+use Rattle.flow_parts.specs.Orders.{IsLinked, is_open, settled_in, first_open_in, reached_in, EndsWhereReached}
 use Rattle.flow_parts.proofs.Numbers.{no-end}
 
 -- a test that came out or did not
@@ -40,12 +40,12 @@ module _ (at at' : ℕ → Place) where
   -- from the first place on that was open before, the walk to the first one that is open now
   pub settled-with : (link : ℕ → ℕ) (start : ℕ) (xs : List ℕ) (p : ℕ) (ys zs : List ℕ) → is_open (at p) ≡ true →
       AllByRecursion (λ q. at' q ≡ at q) xs → IsLinked link start (xs ++ p ∷ zs) →
-      (rest : List ℕ) × IsLinked link (front_in at (xs ++ p ∷ ys)) rest
+      (rest : List ℕ) × IsLinked link (first_open_in at (xs ++ p ∷ ys)) rest
       × (settled_in at (xs ++ p ∷ ys) + settled_in at' rest ≡ settled_in at' (xs ++ p ∷ zs))
-      × (front_in at' rest ≡ front_in at' (xs ++ p ∷ zs)) × (length rest ≤ length (xs ++ p ∷ zs))
+      × (first_open_in at' rest ≡ first_open_in at' (xs ++ p ∷ zs)) × (length rest ≤ length (xs ++ p ∷ zs))
   settled-with link start [] p ys zs opened same linked = (
     p ∷ zs,
-    (ap (λ b. cond b (p + 1) (front_in at ys)) opened, linked.1),
+    (ap (λ b. cond b (p + 1) (first_open_in at ys)) opened, linked.1),
     ap (λ b. cond b 0 ((at p).written + settled_in at ys) + settled_in at' (p ∷ zs)) opened ∙ omega arith,
     refl,
     omega arith,
@@ -53,7 +53,7 @@ module _ (at at' : ℕ → Place) where
   settled-with link start (x ∷ xs) p ys zs opened same linked = elim (tested (is_open (at x))) [
     | inl is ↦ (
       x ∷ (xs ++ p ∷ zs),
-      (ap (λ b. cond b (x + 1) (front_in at (xs ++ p ∷ ys))) is, linked.1),
+      (ap (λ b. cond b (x + 1) (first_open_in at (xs ++ p ∷ ys))) is, linked.1),
       ap (λ b. cond b 0 ((at x).written + settled_in at (xs ++ p ∷ ys)) + settled_in at' (x ∷ (xs ++ p ∷ zs))) is
           ∙ omega arith,
       refl,
@@ -65,11 +65,11 @@ module _ (at at' : ℕ → Place) where
         let written : (at' x).written ≡ (at x).written = ap (λ place. place.written) same.0 in (
           more.0,
           subst (λ n. IsLinked link n more.0)
-              (sym (ap (λ b. cond b (x + 1) (front_in at (xs ++ p ∷ ys))) not)) more.1,
+              (sym (ap (λ b. cond b (x + 1) (first_open_in at (xs ++ p ∷ ys))) not)) more.1,
           (let old = ap (λ b. cond b 0 ((at x).written + settled_in at (xs ++ p ∷ ys))) not in
               let new = ap (λ b. cond b 0 ((at' x).written + settled_in at' (xs ++ p ∷ zs))) now in
               omega (arith, old, new, more.2, written)),
-          more.3 ∙ sym (ap (λ b. cond b (x + 1) (front_in at' (xs ++ p ∷ zs))) now),
+          more.3 ∙ sym (ap (λ b. cond b (x + 1) (first_open_in at' (xs ++ p ∷ zs))) now),
           omega (arith, more.4),
         )
   ]

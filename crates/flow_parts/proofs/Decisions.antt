@@ -119,9 +119,9 @@ module _ (meaning : Meaning) (at : ℕ → Place) where
   ]
 
 module _ (search : Search) (places : List Place) (order : List ℕ) (meaning : Meaning) (shop : Shop)
-    (threshold : ℕ) (is : IsSearch search places order)
-    (stands : StandsFor meaning places order (visits shop threshold [] [])) where
-  over : search.budget < search.settled → Agrees shop threshold search.budget meaning order (Some Over)
+    (threshold : ℕ) (begin end : List ℕ) (is : IsSearch search places order)
+    (stands : StandsFor meaning places order (visits shop threshold begin end)) where
+  over : search.budget < search.settled → Agrees shop threshold search.budget begin end meaning order (Some Over)
   over more = omega (
     arith,
     more,
@@ -137,7 +137,7 @@ module _ (search : Search) (places : List Place) (order : List ℕ) (meaning : M
     settled-is : length (flat_map meaning.text order) ≡ search.settled
     settled-is = closed-length meaning (place_at places) order closed stands.lengths ∙ sym is.settled
 
-    proved : search.reached ≡ 0 → Agrees shop threshold search.budget meaning order (Some (Proved search.settled))
+    proved : search.reached ≡ 0 → Agrees shop threshold search.budget begin end meaning order (Some (Proved search.settled))
     proved nothing text is_text =
         let all = sym (closed-none meaning (place_at places) order closed (sym is.reached ∙ nothing))
         ∙ stands.met_in_all in (
@@ -146,26 +146,26 @@ module _ (search : Search) (places : List Place) (order : List ℕ) (meaning : M
         )
 
     below : search.reached ≢ 0 →
-        Agrees shop threshold search.budget meaning order (Some (Below (search.reached - 1) search.settled))
+        Agrees shop threshold search.budget begin end meaning order (Some (Below (search.reached - 1) search.settled))
     below some =
         let all = sym (closed-reached meaning (place_at places) order search.reached closed is.ends (sym is.reached)
         some) ∙ stands.met_in_all in
         (sym (ap (λ m. m.1) all), refl, sym settled-is ∙ ap (λ m. length m.0) all, within)
 
-  pub agrees : Agrees shop threshold search.budget meaning order (decided_of search)
+  pub agrees : Agrees shop threshold search.budget begin end meaning order (decided_of search)
   agrees =
       cond_both (ltb search.budget search.settled) (Some Over) _
-      (Agrees shop threshold search.budget meaning order)
+      (Agrees shop threshold search.budget begin end meaning order)
       (λ more. over (ltb-true search.budget search.settled more))
       (λ fits. let within : search.settled ≤ search.budget = ltb-false search.budget search.settled fits in
-      cond_both (ltb 0 search.open) None _ (Agrees shop threshold search.budget meaning order)
+      cond_both (ltb 0 search.open) None _ (Agrees shop threshold search.budget begin end meaning order)
       (λ _. tt)
       (λ not. let none : search.open ≡ 0 = omega (arith, ltb-false 0 search.open not) in
       cond_both (ltb 0 search.reached) (Some (Below (search.reached - 1) search.settled))
-      (Some (Proved search.settled)) (Agrees shop threshold search.budget meaning order)
+      (Some (Proved search.settled)) (Agrees shop threshold search.budget begin end meaning order)
       (λ some. below within none (λ zero_reached. absurd (omega (arith, ltb-true 0 search.reached some, zero_reached))))
       (λ nothing. proved within none (omega (arith, ltb-false 0 search.reached nothing)))))
 
 pub decided-agrees : DecidedAgrees
-decided-agrees search places order meaning shop threshold is stands =
-    agrees search places order meaning shop threshold is stands
+decided-agrees search places order meaning shop threshold begin end is stands =
+    agrees search places order meaning shop threshold begin end is stands

@@ -6,7 +6,7 @@ use Rattle.std.proofs.lemmas.List.Sums.{sum_by-cons}
 use Rattle.std.proofs.lemmas.Map.Steps.{length-le_from_distinct_below}
 use Rattle.flow_parts.specs.declared.place.Place.{Place}
 use Rattle.flow_parts.specs.declared.search.Search.{Search}
-use Rattle.flow_parts.specs.Orders.{place_at, is_open, open_in, counted_in, IsLinked, settled_in, front_in, reached_in, EndsWhereReached}
+use Rattle.flow_parts.specs.Orders.{place_at, is_open, open_in, counted_in, IsLinked, settled_in, first_open_in, reached_in, EndsWhereReached}
 use Rattle.flow_parts.specs.Searches.{IsSearch, GivesPlace, GivesNone}
 use Rattle.flow_parts.specs.internal.Walks.{AreAdded, IsFirstWaiting}
 use Rattle.std.proofs.Common.{append_assoc}
@@ -67,11 +67,11 @@ module _ (at at' : ℕ → Place) where
         ∙ ap (λ n. cond (is_open (at x)) 0 ((at x).written + n)) (settled-alike xs alike.1)
   ]
 
-  front-alike : (xs : List ℕ) → AllByRecursion (λ q. IsAlike (at q) (at' q)) xs → front_in at' xs ≡ front_in at xs
-  front-alike [] alike = refl
-  front-alike (x ∷ xs) alike =
-      ap (λ b. cond b (x + 1) (front_in at' xs)) (alike-open (at x) (at' x) alike.0)
-      ∙ ap (λ n. cond (is_open (at x)) (x + 1) n) (front-alike xs alike.1)
+  first-open-alike : (xs : List ℕ) → AllByRecursion (λ q. IsAlike (at q) (at' q)) xs → first_open_in at' xs ≡ first_open_in at xs
+  first-open-alike [] alike = refl
+  first-open-alike (x ∷ xs) alike =
+      ap (λ b. cond b (x + 1) (first_open_in at' xs)) (alike-open (at x) (at' x) alike.0)
+      ∙ ap (λ n. cond (is_open (at x)) (x + 1) n) (first-open-alike xs alike.1)
 
   reached-alike : (xs : List ℕ) → AllByRecursion (λ q. IsAlike (at q) (at' q)) xs →
       reached_in at' xs ≡ reached_in at xs
@@ -137,44 +137,44 @@ still-search search old new order here place is written was opened next size =
           (all-each (λ q. counted_in (at' q) ≡ counted_in (at q)) order
           (λ q one. alike-counted (at q) (at' q) (alike q))));
       settled = is.settled ∙ sym (settled-alike at at' order all);
-      front = is.front ∙ sym (front-alike at at' order all);
+      first_open = is.first_open ∙ sym (first-open-alike at at' order all);
     }
 
--- from the front on, the order goes on; none of the places before it is open
-pub front-rest : (at : ℕ → Place) (link : ℕ → ℕ) (start : ℕ) (xs : List ℕ) → IsLinked link start xs →
-    (ys : List ℕ) × (zs : List ℕ) × (xs ≡ ys ++ zs) × IsLinked link (front_in at xs) zs
+-- from the first open one on, the order goes on; none of the places before it is open
+pub open-rest : (at : ℕ → Place) (link : ℕ → ℕ) (start : ℕ) (xs : List ℕ) → IsLinked link start xs →
+    (ys : List ℕ) × (zs : List ℕ) × (xs ≡ ys ++ zs) × IsLinked link (first_open_in at xs) zs
     × AllByRecursion (λ q. (at q).state ≢ 0) ys
-front-rest at link start [] linked = ([], [], refl, refl, tt)
-front-rest at link start (x ∷ xs) linked = elim (tested (is_open (at x))) [
+open-rest at link start [] linked = ([], [], refl, refl, tt)
+open-rest at link start (x ∷ xs) linked = elim (tested (is_open (at x))) [
   | inl is ↦ (
     [],
     x ∷ xs,
     refl,
-    (ap (λ b. cond b (x + 1) (front_in at xs)) is, linked.1),
+    (ap (λ b. cond b (x + 1) (first_open_in at xs)) is, linked.1),
     tt,
   )
   | inr not ↦
-      let more = front-rest at link (link x) xs linked.1 in (
+      let more = open-rest at link (link x) xs linked.1 in (
         x ∷ more.0,
         more.1,
         ap (λ ys. x ∷ ys) more.2,
-        subst (λ n. IsLinked link n more.1) (sym (ap (λ b. cond b (x + 1) (front_in at xs)) not)) more.3,
+        subst (λ n. IsLinked link n more.1) (sym (ap (λ b. cond b (x + 1) (first_open_in at xs)) not)) more.3,
         ((λ waits. absurd (cc (ap (λ n. ltb n 2) waits, not))), more.4),
       )
 ]
 
--- the first place that waits, from the front on, is the first one of the order that does
+-- the first place that waits, from the first open one on, is the first one of the order that does
 pub first-waiting : (at : ℕ → Place) (link : ℕ → ℕ) (start : ℕ) (xs : List ℕ) (found : ℕ) (linked : IsLinked link start xs) →
-    IsFirstWaiting at (front-rest at link start xs linked).1 found → IsFirstWaiting at xs found
+    IsFirstWaiting at (open-rest at link start xs linked).1 found → IsFirstWaiting at xs found
 first-waiting at link start xs found linked (inl none) =
-    let split = front-rest at link start xs linked in
+    let split = open-rest at link start xs linked in
     inl (
       none.0,
       subst (λ ys. AllByRecursion (λ q. (at q).state ≢ 0) ys) (sym split.2)
           (all-append (λ q. (at q).state ≢ 0) split.0 split.1 split.4 none.1),
     )
 first-waiting at link start xs found linked (inr some) =
-    let split = front-rest at link start xs linked in
+    let split = open-rest at link start xs linked in
     inr (
       split.0 ++ some.0,
       some.1,
@@ -201,29 +201,28 @@ first-within at count order link (inr found) some within =
 pub gives-place : (search : Search) (old new : List Place) (order : List ℕ) (link : ℕ) → IsSearch search old order →
     IsFirstWaiting (place_at old) order link → link ≢ 0 →
     IsWritten (place_at old) (place_at new) (link - 1) (record (place_at old (link - 1)) { state = 1 }) →
-    length new ≡ length old → GivesPlace search search old new order (link - 1)
+    length new ≡ length old → GivesPlace search old new order (link - 1)
 gives-place search old new order link is (inl none) some written size = absurd (some none.0)
 gives-place search old new order link is (inr found) some written size =
     let here : found.1 ≡ link - 1 = omega (arith, found.4) in
     let waits : (place_at old (link - 1)).state ≡ 0 = subst (λ n. (place_at old n).state ≡ 0) here found.5 in
     record {
-      above = found.0;
-      below = found.2;
-      at = subst (λ n. order ≡ found.0 ++ n ∷ found.2) here found.3;
+      first = found.0;
+      behind = found.2;
+      was = subst (λ n. order ≡ found.0 ++ n ∷ found.2) here found.3;
       passed = found.6;
       waits = waits;
       place = written.value;
       others = written.others;
-      same = refl;
       is = still-search search old new order (link - 1) (record (place_at old (link - 1)) { state = 1 }) is written
           (ap (λ n. ltb n 2) waits) refl refl size;
     }
 
 -- no place waits
-pub gives-none : (search : Search) (old : List Place) (order : List ℕ) (link : ℕ) →
-    IsFirstWaiting (place_at old) order link → link ≡ 0 → GivesNone search search old old order
-gives-none search old order link (inr found) none = absurd (omega (arith, found.4, none))
-gives-none search old order link (inl found) none = record { none = found.1; same = (refl, refl) }
+pub gives-none : (old : List Place) (order : List ℕ) (link : ℕ) → IsFirstWaiting (place_at old) order link →
+    link ≡ 0 → GivesNone old old order
+gives-none old order link (inr found) none = absurd (omega (arith, found.4, none))
+gives-none old order link (inl found) none = record { none = found.1; same = refl }
 
 -- a search whose one place waits
 pub first-search : (at : ℕ → Place) (budget : ℕ) (new : List Place) → AreAdded at (place_at new) 0 1 0 →
@@ -232,7 +231,7 @@ pub first-search : (at : ℕ → Place) (budget : ℕ) (new : List Place) → Ar
       budget = budget;
       written = 0;
       settled = 0;
-      front = 1;
+      first_open = 1;
       «open» = 1;
       places = 1;
       reached = 0;
@@ -253,5 +252,5 @@ first-search at budget new are room =
       opened = sym (sum_by-cons (λ q. open_in (at' q)) 0 [] ∙ ap (λ b. cond b 1 0 + 0) opened);
       written = sym (sum_by-cons (λ q. counted_in (at' q)) 0 [] ∙ ap (λ b. cond b 0 (at' 0).written + 0) opened);
       settled = sym (ap (λ b. cond b 0 ((at' 0).written + 0)) opened);
-      front = sym (ap (λ b. cond b 1 0) opened);
+      first_open = sym (ap (λ b. cond b 1 0) opened);
     }

@@ -106,7 +106,7 @@ states-met meaning at at' number was is others (x ∷ xs) =
     ∙ ap (behind (place_met meaning at x)) (states-met meaning at at' number was is others xs)
 
 pub gives-keep : GivesKeep
-gives-keep before after old new order number meaning all gives stands =
+gives-keep search old new order number meaning all gives stands =
     let was : is_open (place_at old number) ≡ true = ap (λ n. ltb n 2) gives.waits in
     let is : is_open (place_at new number) ≡ true = ap is_open gives.place in
     record {

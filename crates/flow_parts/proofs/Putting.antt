@@ -7,7 +7,7 @@ use Rattle.flow_parts.specs.declared.place.Place.{Place}
 use Rattle.flow_parts.specs.declared.search.Search.{Search}
 use Rattle.flow_parts.specs.declared.answer.Searched.{Searched}
 use Rattle.flow_parts.specs.declared.walks.Dropped.{Dropped}
-use Rattle.flow_parts.specs.Orders.{place_at, is_open, open_in, counted_in, IsOneOf, IsLinked, settled_in, front_in, reached_in, EndsWhereReached}
+use Rattle.flow_parts.specs.Orders.{place_at, is_open, open_in, counted_in, IsOneOf, IsLinked, settled_in, first_open_in, reached_in, EndsWhereReached}
 use Rattle.flow_parts.specs.Searches.{IsSearch, IsPut, is_given}
 use Rattle.flow_parts.specs.internal.Walks.{AreDropped, IsCounted, AreCountable, AreAdded, start_of}
 use Rattle.flow_parts.proofs.Numbers.{all-first, all-rest, all-append, all-one, all-each, all-both, all-weaker, one-first, one-rest, one-cases, one-split, range-above}
@@ -142,15 +142,15 @@ settled-few at (x ∷ xs) = elim (cases-open (is_open (at x))) [
   cases-open true = inl refl
   cases-open false = inr refl
 
--- the numbers after an answer, with those of the walk from the front on
+-- the numbers after an answer, with those of the walk from the first open one on
 pub record IsMade (before after : Search) (new : List Place) (opened written places reached : ℕ) : Type 0 where
-  pub fields : (rest : List ℕ) → IsLinked (λ q. (place_at new q).next) before.front rest →
+  pub fields : (rest : List ℕ) → IsLinked (λ q. (place_at new q).next) before.first_open rest →
       length rest ≤ length new → before.settled + settled_in (place_at new) rest < 2 ^ 64 →
       after ≡ record {
         budget = before.budget;
         written = written;
         settled = before.settled + settled_in (place_at new) rest;
-        front = front_in (place_at new) rest;
+        first_open = first_open_in (place_at new) rest;
         «open» = opened;
         places = places;
         reached = reached;
@@ -312,11 +312,11 @@ module _ (before : Search) (old : List Place) (order : List ℕ) (number : ℕ) 
           let walk = settled-with (place_at old) (place_at new) (λ q. (place_at new q).next) 1 first number behind []
           was_open first-same new-linked in
           let sum = settled-few (place_at new) (first ++ number ∷ []) in
-          let front : front_in (place_at old) (first ++ number ∷ behind) ≡ before.front =
-          sym (is.front ∙ ap (front_in (place_at old)) was) in
+          let first_open : first_open_in (place_at old) (first ++ number ∷ behind) ≡ before.first_open =
+          sym (is.first_open ∙ ap (first_open_in (place_at old)) was) in
           let settled : before.settled ≡ settled_in (place_at old) (first ++ number ∷ behind) =
           is.settled ∙ ap (settled_in (place_at old)) was in
-          let fields = made.fields walk.0 (subst (λ n. IsLinked (λ q. (place_at new q).next) n walk.0) front walk.1)
+          let fields = made.fields walk.0 (subst (λ n. IsLinked (λ q. (place_at new q).next) n walk.0) first_open walk.1)
           (omega (arith, walk.4, length-append first (number ∷ []), few, is.room, size))
           (omega (arith, walk.2, settled, sum, written-new, written_is (omega (arith, fits2)), fits2)) in
           let ends_new = ends-with (place_at old) (place_at new) first number behind [] ends first-same
@@ -341,7 +341,7 @@ module _ (before : Search) (old : List Place) (order : List ℕ) (number : ℕ) 
             opened = opens-new;
             written = written-new;
             settled = ap (λ n. n + settled_in (place_at new) walk.0) settled ∙ walk.2;
-            front = walk.3;
+            first_open = walk.3;
           }) in
           record {
             first = first;
@@ -353,8 +353,15 @@ module _ (before : Search) (old : List Place) (order : List ℕ) (number : ℕ) 
             places = ap (λ search. search.places) fields ∙ made-places;
             state = state ∙ sym (ap (λ b. cond b 3 2) reached);
             written = ap (λ p. p.written) writes_place.value;
-            front_same = first-same;
+            first_same = first-same;
             waits = λ not. absurd (cc (reached, not));
+            blank = λ not. absurd (cc (reached, not));
+            unused = λ q from.
+                let above : before.places ≤ q = omega (arith, from, ap (λ search. search.places) fields) in
+                writes_place.others q (λ same. omega (arith, same, above, used))
+                ∙ drops.others q (all-weaker (λ r. r < before.places) (λ r. r ≢ q) behind
+                (λ r less same. omega (arith, less, same, above))
+                (all-rest (λ r. r < before.places) first (number ∷ behind) within).1);
             behind_same = λ not. absurd (cc (reached, not));
             dropped = λ _. all-both (λ q. (place_at mid q).state ≡ 4) (λ q. q ≢ number)
                 (λ q. (place_at new q).state ≡ 4) behind
@@ -532,11 +539,11 @@ module _ (before : Search) (old : List Place) (order : List ℕ) (number : ℕ) 
           let walk = settled-with (place_at old) (place_at new) (λ q. (place_at new q).next) 1 first number behind
           then was_open first-same2 new-linked2 in
           let sum = settled-few (place_at new) (first ++ number ∷ then) in
-          let front : front_in (place_at old) (first ++ number ∷ behind) ≡ before.front =
-          sym (is.front ∙ ap (front_in (place_at old)) was) in
+          let first_open : first_open_in (place_at old) (first ++ number ∷ behind) ≡ before.first_open =
+          sym (is.first_open ∙ ap (first_open_in (place_at old)) was) in
           let settled : before.settled ≡ settled_in (place_at old) (first ++ number ∷ behind) =
           is.settled ∙ ap (settled_in (place_at old)) was in
-          let fields = made.fields walk.0 (subst (λ n. IsLinked (λ q. (place_at new q).next) n walk.0) front walk.1)
+          let fields = made.fields walk.0 (subst (λ n. IsLinked (λ q. (place_at new q).next) n walk.0) first_open walk.1)
           (omega (arith, walk.4, new-few, places_is, room, size))
           (omega (arith, walk.2, settled, sum, written-new2, written_is, fits2)) in
           let ends_new = ends-with (place_at old) (place_at new) first number behind then ends first-same2
@@ -571,7 +578,7 @@ module _ (before : Search) (old : List Place) (order : List ℕ) (number : ℕ) 
             opened = opens-new2;
             written = written-new2;
             settled = ap (λ n. n + settled_in (place_at new) walk.0) settled ∙ walk.2;
-            front = walk.3;
+            first_open = walk.3;
           }) in
           record {
             first = first;
@@ -584,8 +591,20 @@ module _ (before : Search) (old : List Place) (order : List ℕ) (number : ℕ) 
                 ∙ sym (ap (λ b. before.places + cond b zero searched.left) reached);
             state = state2 ∙ sym (ap (λ b. cond b 3 2) reached);
             written = ap (λ p. p.written) writes_place.value;
-            front_same = first-same2;
+            first_same = first-same2;
             waits = λ _. fresh-waits;
+            blank = λ _. all-both (λ q. ((place_at mid q).written ≡ 0) × ((place_at mid q).zero ≡ 0)) (λ q. q ≢ number)
+                (λ q. ((place_at new q).written ≡ 0) × ((place_at new q).zero ≡ 0))
+                (range_with_len before.places searched.left)
+                (λ q both not. (
+                  ap (λ p. p.written) (writes_place.others q not) ∙ both.0,
+                  ap (λ p. p.zero) (writes_place.others q not) ∙ both.1,
+                )) adds.blank fresh-apart;
+            unused = λ q from.
+                let above : before.places + searched.left ≤ q =
+                omega (arith, from, ap (λ search. search.places) fields, places_is) in
+                writes_place.others q (λ same. omega (arith, same, above, used))
+                ∙ adds.beyond q above;
             behind_same = λ _. behind-same;
             dropped = λ not. absurd (cc (reached, not));
           }

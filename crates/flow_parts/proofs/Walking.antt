@@ -4,7 +4,7 @@ use Rattle.std.proofs.Common.{append_assoc, append-nil}
 use Rattle.std.specs.List.{AllByRecursion}
 use Rattle.flow_parts.specs.declared.place.Place.{Place}
 use Rattle.flow_parts.specs.declared.walks.Settled.{Settled}
-use Rattle.flow_parts.specs.Orders.{is_open, IsLinked, settled_in, front_in}
+use Rattle.flow_parts.specs.Orders.{is_open, IsLinked, settled_in, first_open_in}
 use Rattle.flow_parts.specs.internal.Walks.{IsFirstWaiting, IsPassed}
 use Rattle.flow_parts.proofs.Numbers.{all-append}
 
@@ -29,60 +29,60 @@ none-long (x ∷ xs) short = absurd (omega (arith, short))
 -- a walk over places that are not open, after so many steps of those that an array has
 pub record Settling (at : ℕ → Place) (size step : ℕ) (begun now : Settled) (rest : List ℕ) : Type 0 where
   pub more : List ℕ
-  pub linked : IsLinked (λ number. (at number).next) now.front more
+  pub linked : IsLinked (λ number. (at number).next) now.first_open more
   pub written : now.written + settled_in at more ≡ begun.written + settled_in at rest
-  pub front : front_in at more ≡ front_in at rest
+  pub first_open : first_open_in at more ≡ first_open_in at rest
   pub short : length more + step ≤ size
 
 module _ (at : ℕ → Place) (size step : ℕ) (begun now : Settled) (rest : List ℕ)
     (walk : Settling at size step begun now rest) where
-  passed-nil : walk.more ≡ [] → now.front ≡ 0 → IsPassed at begun now rest
+  passed-nil : walk.more ≡ [] → now.first_open ≡ 0 → IsPassed at begun now rest
   passed-nil is none = record {
     written = omega (arith, walk.written, ap (settled_in at) is);
-    front = none ∙ sym (ap (front_in at) is) ∙ walk.front;
+    first_open = none ∙ sym (ap (first_open_in at) is) ∙ walk.first_open;
   }
 
-  pub settling-none : now.front ≡ 0 → IsPassed at begun now rest
+  pub settling-none : now.first_open ≡ 0 → IsPassed at begun now rest
   settling-none none =
-      passed-nil (linked-none (λ number. (at number).next) now.front walk.more walk.linked none) none
+      passed-nil (linked-none (λ number. (at number).next) now.first_open walk.more walk.linked none) none
 
   pub settling-end : size ≤ step → IsPassed at begun now rest
   settling-end all =
       let is : walk.more ≡ [] = none-long walk.more (omega (arith, walk.short, all)) in
-      passed-nil is (subst (λ xs. IsLinked (λ number. (at number).next) now.front xs) is walk.linked)
+      passed-nil is (subst (λ xs. IsLinked (λ number. (at number).next) now.first_open xs) is walk.linked)
 
-  pub settling-open : now.front ≢ 0 → is_open (at (now.front - 1)) ≡ true → IsPassed at begun now rest
+  pub settling-open : now.first_open ≢ 0 → is_open (at (now.first_open - 1)) ≡ true → IsPassed at begun now rest
   settling-open some opened =
-      let first = linked-some (λ number. (at number).next) now.front walk.more walk.linked some in
+      let first = linked-some (λ number. (at number).next) now.first_open walk.more walk.linked some in
       let none : settled_in at walk.more ≡ 0 = ap (settled_in at) first.1
-      ∙ ap (λ b. cond b 0 ((at (now.front - 1)).written + settled_in at first.0)) opened in
-      let front : front_in at walk.more ≡ (now.front - 1) + 1 = ap (front_in at) first.1
-      ∙ ap (λ b. cond b ((now.front - 1) + 1) (front_in at first.0)) opened in
+      ∙ ap (λ b. cond b 0 ((at (now.first_open - 1)).written + settled_in at first.0)) opened in
+      let first_open : first_open_in at walk.more ≡ (now.first_open - 1) + 1 = ap (first_open_in at) first.1
+      ∙ ap (λ b. cond b ((now.first_open - 1) + 1) (first_open_in at first.0)) opened in
       record {
         written = omega (arith, walk.written, none);
-        front = omega (arith, some, front, walk.front);
+        first_open = omega (arith, some, first_open, walk.first_open);
       }
 
-  pub settling-more : (next : Settled) → now.front ≢ 0 → is_open (at (now.front - 1)) ≡ false →
+  pub settling-more : (next : Settled) → now.first_open ≢ 0 → is_open (at (now.first_open - 1)) ≡ false →
       begun.written + settled_in at rest < 2 ^ 64 →
-      (now.written + (at (now.front - 1)).written < 2 ^ 64 →
-      next.written ≡ now.written + (at (now.front - 1)).written) →
-      next.front ≡ (at (now.front - 1)).next →
+      (now.written + (at (now.first_open - 1)).written < 2 ^ 64 →
+      next.written ≡ now.written + (at (now.first_open - 1)).written) →
+      next.first_open ≡ (at (now.first_open - 1)).next →
       Settling at size (step + 1) begun next rest
   settling-more next some done fits written is =
-      let first = linked-some (λ number. (at number).next) now.front walk.more walk.linked some in
-      let settled : settled_in at walk.more ≡ (at (now.front - 1)).written + settled_in at first.0 =
+      let first = linked-some (λ number. (at number).next) now.first_open walk.more walk.linked some in
+      let settled : settled_in at walk.more ≡ (at (now.first_open - 1)).written + settled_in at first.0 =
       ap (settled_in at) first.1
-      ∙ ap (λ b. cond b 0 ((at (now.front - 1)).written + settled_in at first.0)) done in
-      let front : front_in at walk.more ≡ front_in at first.0 = ap (front_in at) first.1
-      ∙ ap (λ b. cond b ((now.front - 1) + 1) (front_in at first.0)) done in
-      let sum : next.written ≡ now.written + (at (now.front - 1)).written =
+      ∙ ap (λ b. cond b 0 ((at (now.first_open - 1)).written + settled_in at first.0)) done in
+      let first_open : first_open_in at walk.more ≡ first_open_in at first.0 = ap (first_open_in at) first.1
+      ∙ ap (λ b. cond b ((now.first_open - 1) + 1) (first_open_in at first.0)) done in
+      let sum : next.written ≡ now.written + (at (now.first_open - 1)).written =
       written (omega (arith, walk.written, settled, fits)) in
       record {
         more = first.0;
         linked = subst (λ n. IsLinked (λ number. (at number).next) n first.0) (sym is) first.2;
         written = omega (arith, walk.written, settled, sum);
-        front = sym front ∙ walk.front;
+        first_open = sym first_open ∙ walk.first_open;
         short = omega (arith, walk.short, ap length first.1);
       }
 

@@ -159,8 +159,21 @@ module _ (at at' at'' : ℕ → Place) (here m k next_link : ℕ) (place : Place
             (sym (ap (λ p. p.next) written.value ∙ starts)) kept,
       )
 
-  pub added-more : place.state ≡ 0 → place.next ≡ start_of m k next_link → AreAdded at at'' here (suc k) next_link
-  added-more waits nexts = record {
+  pub added-more : place.state ≡ 0 → place.next ≡ start_of m k next_link → place.written ≡ 0 → place.zero ≡ 0 →
+      AreAdded at at'' here (suc k) next_link
+  added-more waits nexts none zeros = record {
+    beyond = λ q from.
+        written.others q (λ same. omega (arith, same, from)) ∙ are.beyond q (omega (arith, from, is));
+    blank = subst (λ xs. AllByRecursion (λ number. ((at'' number).written ≡ 0) × ((at'' number).zero ≡ 0)) xs)
+        (sym range-is) (
+          (ap (λ p. p.written) written.value ∙ none, ap (λ p. p.zero) written.value ∙ zeros),
+          all-both (λ q. ((at' q).written ≡ 0) × ((at' q).zero ≡ 0)) (λ q. q ≢ here)
+              (λ q. ((at'' q).written ≡ 0) × ((at'' q).zero ≡ 0)) (range_with_len m k)
+              (λ q both not. (
+                ap (λ p. p.written) (written.others q not) ∙ both.0,
+                ap (λ p. p.zero) (written.others q not) ∙ both.1,
+              )) are.blank above,
+        );
     others = λ q less. written.others q (λ same. omega (arith, less, same)) ∙ are.others q (omega (arith, less, is));
     waits = subst (λ xs. AllByRecursion (λ number. (at'' number).state ≡ 0) xs) (sym range-is) (
       ap (λ p. p.state) written.value ∙ waits,
@@ -174,7 +187,9 @@ module _ (at at' at'' : ℕ → Place) (here m k next_link : ℕ) (place : Place
 pub added-none : (at : ℕ → Place) (m next_link : ℕ) → AreAdded at at m 0 next_link
 added-none at m next_link = record {
   others = λ q less. refl;
+  beyond = λ q from. refl;
   waits = tt;
+  blank = tt;
   next = λ behind within linked. linked;
 }
 
@@ -199,16 +214,16 @@ adding-none at first count next_link = record {
 
 pub adding-more : (at at' at'' : ℕ → Place) (first count index from here next_link next after : ℕ) (place : Place) →
     Adding at at' first count from next_link next → from ≡ index + 1 → here ≡ first + index → after ≡ here + 1 →
-    IsWritten at' at'' here place → place.state ≡ 0 → place.next ≡ next →
+    IsWritten at' at'' here place → place.state ≡ 0 → place.next ≡ next → place.written ≡ 0 → place.zero ≡ 0 →
     Adding at at'' first count index next_link after
-adding-more at at' at'' first count index from here next_link next after place walk more is then written waits nexts =
+adding-more at at' at'' first count index from here next_link next after place walk more is then written waits nexts none zeros =
     record {
       m = here;
       k = suc walk.k;
       m_is = is;
       k_is = omega (arith, walk.k_is, more);
       added = added-more at at' at'' here walk.m walk.k next_link place walk.added (omega (arith, walk.m_is, is, more))
-          written waits (nexts ∙ walk.next_is);
+          written waits (nexts ∙ walk.next_is) none zeros;
       next_is = then;
     }
 

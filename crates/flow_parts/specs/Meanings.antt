@@ -75,8 +75,8 @@ BeginsRight =
 -- a place that is given stands for the same (law: places_stand_for_the_search)
 abbrev pub GivesKeep : Type 0
 GivesKeep =
-    (before after : Search) (old new : List Place) (order : List ℕ) (number : ℕ) (meaning : Meaning)
-    (all : List Visit) → GivesPlace before after old new order number → StandsFor meaning old order all →
+    (search : Search) (old new : List Place) (order : List ℕ) (number : ℕ) (meaning : Meaning) (all : List Visit) →
+    GivesPlace search old new order number → StandsFor meaning old order all →
     StandsFor meaning new order all
 
 -- after true answers the places still stand for what is met in all, in whatever order the answers came (law:
@@ -90,23 +90,24 @@ AnswersKeep =
     IsTrueAnswer meaning number before.places searched → StandsFor meaning old order all →
     StandsFor meaning new order_after all
 
--- what a search came to is what `prove` finds of the node of two empty lists: the directions of all places, in order;
+-- what a search came to is what `prove` finds of a node: the directions of all places, in order;
 -- the sequence of the place at which one was reached, and how many directions come before it; or that there are more
 -- than the budget
-abbrev pub Agrees : Shop → ℕ → ℕ → Meaning → List ℕ → Option Decided → Type 0
-Agrees shop threshold budget meaning order None = Unit {0}
-Agrees shop threshold budget meaning order (Some (Proved directions)) =
+abbrev pub Agrees : Shop → ℕ → ℕ → List ℕ → List ℕ → Meaning → List ℕ → Option Decided → Type 0
+Agrees shop threshold budget first last meaning order None = Unit {0}
+Agrees shop threshold budget first last meaning order (Some (Proved directions)) =
     (text : Vec ℕ) → text.items ≡ flat_map meaning.text order →
-    (length text.items ≡ directions) × IsFound shop threshold budget [] [] (found.Proved text)
-Agrees shop threshold budget meaning order (Some (Below place directions)) =
-    IsFound shop threshold budget [] []
+    (length text.items ≡ directions) × IsFound shop threshold budget first last (found.Proved text)
+Agrees shop threshold budget first last meaning order (Some (Below place directions)) =
+    IsFound shop threshold budget first last
     (found.Below (meaning.sequence place) (span shop (meaning.sequence place)) directions)
-Agrees shop threshold budget meaning order (Some Over) = IsFound shop threshold budget [] [] found.Over
+Agrees shop threshold budget first last meaning order (Some Over) = IsFound shop threshold budget first last found.Over
 
--- where the places stand for the search of an instance below a threshold, what `found` says is so (law:
+-- where the places stand for the search of a node below a threshold, what `found` says is so (law:
 -- decided_is_found)
 abbrev pub DecidedAgrees : Type 0
 DecidedAgrees =
-    (search : Search) (places : List Place) (order : List ℕ) (meaning : Meaning) (shop : Shop) (threshold : ℕ) →
-    IsSearch search places order → StandsFor meaning places order (visits shop threshold [] []) →
-    Agrees shop threshold search.budget meaning order (decided_of search)
+    (search : Search) (places : List Place) (order : List ℕ) (meaning : Meaning) (shop : Shop) (threshold : ℕ)
+    (first last : List ℕ) → IsSearch search places order →
+    StandsFor meaning places order (visits shop threshold first last) →
+    Agrees shop threshold search.budget first last meaning order (decided_of search)

@@ -37,9 +37,9 @@ settled_in at [] = 0
 settled_in at (number ∷ more) = cond (is_open (at number)) 0 ((at number).written + settled_in at more)
 
 -- one more than the first open place; 0 where none is open
-abbrev pub front_in : (ℕ → Place) → List ℕ → ℕ
-front_in at [] = 0
-front_in at (number ∷ more) = cond (is_open (at number)) (number + 1) (front_in at more)
+abbrev pub first_open_in : (ℕ → Place) → List ℕ → ℕ
+first_open_in at [] = 0
+first_open_in at (number ∷ more) = cond (is_open (at number)) (number + 1) (first_open_in at more)
 
 -- one more than the first place at which a sequence was reached; 0 where none was
 abbrev pub reached_in : (ℕ → Place) → List ℕ → ℕ

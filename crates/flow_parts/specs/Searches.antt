@@ -9,7 +9,7 @@ use Rattle.flow_parts.specs.declared.answer.Put.{Put}
 use Rattle.flow_parts.specs.declared.answer.Put.TheVariants.{Taken, Late, NoRoom, TooMany}
 use Rattle.flow_parts.specs.declared.answer.Decided.{Decided}
 use Rattle.flow_parts.specs.declared.answer.Decided.TheVariants.{Proved, Below, Over}
-use Rattle.flow_parts.specs.Orders.{place_at, open_in, counted_in, settled_in, front_in, reached_in}
+use Rattle.flow_parts.specs.Orders.{place_at, open_in, counted_in, settled_in, first_open_in, reached_in}
 use Rattle.flow_parts.specs.Orders.{IsOneOf, IsLinked, EndsWhereReached}
 
 -- These places, one behind the other from place 0 on, are the order of a search. They are the places that are used and
@@ -27,28 +27,27 @@ pub record IsSearch (search : Search) (places : List Place) (order : List ℕ) :
   pub opened : search.open ≡ sum_by (λ number. open_in (place_at places number)) order
   pub written : search.written ≡ sum_by (λ number. counted_in (place_at places number)) order
   pub settled : search.settled ≡ settled_in (place_at places) order
-  pub front : search.front ≡ front_in (place_at places) order
+  pub first_open : search.first_open ≡ first_open_in (place_at places) order
 
 -- whether a place is given: it is used, and a worker has it
 abbrev pub is_given : Search → List Place → ℕ → Bool
 is_given search places number = nat_lt number search.places && ((place_at places number).state == 1)
 
 -- a place is given: the first one in order that waits; all else is as it was
-pub record GivesPlace (before after : Search) (old new : List Place) (order : List ℕ) (number : ℕ) : Type 0 where
-  pub above : List ℕ
-  pub below : List ℕ
-  pub at : order ≡ above ++ number ∷ below
-  pub passed : AllByRecursion (λ other. (place_at old other).state ≢ 0) above
+pub record GivesPlace (search : Search) (old new : List Place) (order : List ℕ) (number : ℕ) : Type 0 where
+  pub first : List ℕ
+  pub behind : List ℕ
+  pub was : order ≡ first ++ number ∷ behind
+  pub passed : AllByRecursion (λ other. (place_at old other).state ≢ 0) first
   pub waits : (place_at old number).state ≡ 0
   pub place : place_at new number ≡ record (place_at old number) { state = 1 }
   pub others : (other : ℕ) → other ≢ number → place_at new other ≡ place_at old other
-  pub same : after ≡ before
-  pub is : IsSearch after new order
+  pub is : IsSearch search new order
 
 -- no place in order waits, and none is given
-pub record GivesNone (before after : Search) (old new : List Place) (order : List ℕ) : Type 0 where
+pub record GivesNone (old new : List Place) (order : List ℕ) : Type 0 where
   pub none : AllByRecursion (λ other. (place_at old other).state ≢ 0) order
-  pub same : (after ≡ before) × (new ≡ old)
+  pub same : new ≡ old
 
 -- what stands behind a place that was searched: nothing where a sequence was reached; else the new places, and then
 -- what stood behind it
@@ -77,9 +76,13 @@ pub record IsPut (before after : Search) (old new : List Place) (order : List �
   pub places : after.places ≡ before.places + cond searched.reached 0 searched.left
   pub state : (place_at new number).state ≡ cond searched.reached 3 2
   pub written : (place_at new number).written ≡ searched.written
-  pub front_same : AllByRecursion (λ other. place_at new other ≡ place_at old other) first
+  pub first_same : AllByRecursion (λ other. place_at new other ≡ place_at old other) first
   pub waits : searched.reached ≡ false →
       AllByRecursion (λ other. (place_at new other).state ≡ 0) (range_with_len before.places searched.left)
+  pub blank : searched.reached ≡ false →
+      AllByRecursion (λ other. ((place_at new other).written ≡ 0) × ((place_at new other).zero ≡ 0))
+      (range_with_len before.places searched.left)
+  pub unused : (other : ℕ) → after.places ≤ other → place_at new other ≡ place_at old other
   pub behind_same : searched.reached ≡ false →
       AllByRecursion (λ other. place_at new other ≡ place_at old other) behind
   pub dropped : searched.reached ≡ true → AllByRecursion (λ other. (place_at new other).state ≡ 4) behind

@@ -2,7 +2,7 @@
 
 ghost use Rattle.std.specs.Prelude.{◌≡◌, ◌↔◌, ℕ, ◌<◌, ◌≤◌, ◌+◌, ◌^◌, ◌⊎◌, true, false, List, [], ◌∷◌, length};
 ghost use Rattle.std.specs.Prelude.{IfSome, IfNone, IsNone};
-ghost use Rattle.flow_parts.specs.Orders.{IsLinked, front_in, place_at, settled_in};
+ghost use Rattle.flow_parts.specs.Orders.{IsLinked, first_open_in, place_at, settled_in};
 ghost use Rattle.flow_parts.specs.Searches.{GivesNone, GivesPlace, IsPut, IsSearch, decided_of, is_given, put_of};
 
 use crate::answer::{Decided, Put, Searched};
@@ -21,7 +21,7 @@ pub struct Search {
     /// How many of them stand before the first open place.
     pub settled: u64,
     /// One more than the first open place in order; 0 where none is open.
-    pub front: u64,
+    pub first_open: u64,
     /// How many places in order are open: they wait or are given.
     pub open: u64,
     /// How many places of the array are used.
@@ -38,6 +38,7 @@ impl Search {
         ensures waits { IfSome result (λ search. (place_at places.new 0).state ≡ 0) }
         ensures budget { IfSome result (λ search. search.budget ≡ budget) }
         ensures places { IfSome result (λ search. search.places ≡ 1) }
+        ensures unused { (number : ℕ) → 1 ≤ number → place_at places.new number ≡ place_at places.old number }
     {
         if places.is_empty() {
             return None;
@@ -47,7 +48,7 @@ impl Search {
             budget,
             written: 0,
             settled: 0,
-            front: 1,
+            first_open: 1,
             open: 1,
             places: 1,
             reached: 0,
@@ -56,13 +57,13 @@ impl Search {
 
     /// Gives the first place in order that waits. None where none waits. It passes over the places from the first open
     /// one on that are given or were searched.
-    pub fn give(&mut self, places: &mut [Place]) -> Option<u64>
-        ensures given { (order : List ℕ) → IsSearch self.old places.old order → IfSome result
-            (λ number. GivesPlace self.old self.new places.old places.new order number) }
-        ensures none { (order : List ℕ) → IsSearch self.old places.old order → IfNone result
-            (GivesNone self.old self.new places.old places.new order) }
+    pub fn give(&self, places: &mut [Place]) -> Option<u64>
+        ensures given { (order : List ℕ) → IsSearch self.now places.old order → IfSome result
+            (λ number. GivesPlace self.now places.old places.new order number) }
+        ensures none { (order : List ℕ) → IsSearch self.now places.old order → IfNone result
+            (GivesNone places.old places.new order) }
     {
-        let link = waiting_from(places, self.front);
+        let link = waiting_from(places, self.first_open);
         if link == 0 {
             return None;
         }
@@ -191,23 +192,23 @@ impl Search {
         self.settle(places);
     }
 
-    /// Passes over the places that are not open, from the front on.
+    /// Passes over the places that are not open, from the first open one on.
     fn settle(&mut self, places: &[Place])
-        ensures { (rest : List ℕ) → IsLinked (λ number. (place_at places.now number).next) self.old.front rest →
+        ensures { (rest : List ℕ) → IsLinked (λ number. (place_at places.now number).next) self.old.first_open rest →
             length rest ≤ length places.now → self.old.settled + settled_in (place_at places.now) rest < 2 ^ 64 →
             self.new ≡ record self.old {
               settled = self.old.settled + settled_in (place_at places.now) rest;
-              front = front_in (place_at places.now) rest;
+              first_open = first_open_in (place_at places.now) rest;
             } }
     {
         let settled = settle_from(
             places,
             Settled {
                 written: self.settled,
-                front: self.front,
+                first_open: self.first_open,
             },
         );
         self.settled = settled.written;
-        self.front = settled.front;
+        self.first_open = settled.first_open;
     }
 }

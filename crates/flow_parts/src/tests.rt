@@ -32,7 +32,7 @@ type History = (
 /// The most places of an array.
 const MOST: usize = 8;
 
-static HISTORIES: [History; 15] = [
+static HISTORIES: [History; 16] = [
     // The whole search is one place.
     (
         5,
@@ -215,6 +215,15 @@ static HISTORIES: [History; 15] = [
         ],
         &[0, 1, 4, 5],
         [1, 0, 1],
+        None,
+    ),
+    // Behind the last place there is none, whatever the array has there.
+    (
+        5,
+        2,
+        &[Give(Some(0)), GoesOn(1, 0, 0, Late)],
+        &[0],
+        [0, 0, 1],
         None,
     ),
     // There is no room.

@@ -88,26 +88,26 @@ pub(crate) struct Settled {
     /// How many directions were written at them, and before.
     pub(crate) written: u64,
     /// One more than the first open place, or 0.
-    pub(crate) front: u64,
+    pub(crate) first_open: u64,
 }
 
 /// Passes over the places from one on that are not open, by the links of the order.
 pub(crate) fn settle_from(places: &[Place], settled: Settled) -> Settled
-    ensures { (rest : List ℕ) → IsLinked (λ number. (place_at places.now number).next) settled.front rest →
+    ensures { (rest : List ℕ) → IsLinked (λ number. (place_at places.now number).next) settled.first_open rest →
         length rest ≤ length places.now → settled.written + settled_in (place_at places.now) rest < 2 ^ 64 →
         IsPassed (place_at places.now) settled result rest }
 {
     let mut settled = settled;
     'places: for _step in 0..places.len() {
-        if settled.front == 0 {
+        if settled.first_open == 0 {
             break;
         }
-        let place = place_at(places, settled.front - 1);
+        let place = place_at(places, settled.first_open - 1);
         if place.is_open() {
             break;
         }
         settled.written = settled.written.saturating_add(place.written);
-        settled.front = place.next;
+        settled.first_open = place.next;
     }
     settled
 }

@@ -328,7 +328,7 @@ pub struct flowshop_search_state {
     pub budget: u64,
     pub written: u64,
     pub settled: u64,
-    pub front: u64,
+    pub first_open: u64,
     pub open: u64,
     pub places: u64,
     pub reached: u64,
@@ -475,7 +475,7 @@ extern "C" {
     ) -> flowshop_outcome;
     /// Gives the first place in order that waits.
     pub fn flowshop_search_give(
-        search: *mut flowshop_search_state,
+        search: *const flowshop_search_state,
         places: *mut flowshop_place,
         places_count: usize,
         place: *mut u64,

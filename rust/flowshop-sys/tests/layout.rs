@@ -24,7 +24,7 @@ flowshop_run_state 128 8: lower 0 8, upper 8 8, least 16 8, inner 24 88, tasks 1
 flowshop_task 64 8: kind 0 4, origin 4 4, number 8 8, budget 16 8, beam 24 24, rounds 48 16
 flowshop_answer 24 8: found 0 4, whole 4 4, makespan 8 8, directions 16 8
 flowshop_place 24 8: written 0 8, next 8 8, state 16 4, zero 20 4
-flowshop_search_state 56 8: budget 0 8, written 8 8, settled 16 8, front 24 8, open 32 8, places 40 8, reached 48 8
+flowshop_search_state 56 8: budget 0 8, written 8 8, settled 16 8, first_open 24 8, open 32 8, places 40 8, reached 48 8
 flowshop_searched 16 8: written 0 8, left 8 4, reached 12 4
 flowshop_node 32 8: first 0 8, first_count 8 8, last 16 8, last_count 24 8
 flowshop_part 80 8: sequence 0 8, sequence_count 8 8, directions 16 8, directions_count 24 8, rest 32 8, \
@@ -77,7 +77,7 @@ fn of_rust() -> String {
         flowshop_task: kind origin number budget beam rounds;
         flowshop_answer: found whole makespan directions;
         flowshop_place: written next state zero;
-        flowshop_search_state: budget written settled front open places reached;
+        flowshop_search_state: budget written settled first_open open places reached;
         flowshop_searched: written left reached;
         flowshop_node: first first_count last last_count;
         flowshop_part: sequence sequence_count directions directions_count rest rest_count found makespan

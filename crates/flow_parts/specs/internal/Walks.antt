@@ -4,7 +4,7 @@ use Rattle.std.specs.List.{AllByRecursion, range_with_len}
 use Rattle.flow_parts.specs.declared.place.Place.{Place}
 use Rattle.flow_parts.specs.declared.walks.Dropped.{Dropped}
 use Rattle.flow_parts.specs.declared.walks.Settled.{Settled}
-use Rattle.flow_parts.specs.Orders.{place_at, open_in, counted_in, settled_in, front_in, IsLinked}
+use Rattle.flow_parts.specs.Orders.{place_at, open_in, counted_in, settled_in, first_open_in, IsLinked}
 
 -- these places were dropped, and the others are as they were
 pub record AreDropped (at at' : ℕ → Place) (gone : List ℕ) : Type 0 where
@@ -33,7 +33,10 @@ start_of first (suc count) otherwise = first + 1
 -- so many new places wait, from a number on, one behind the other
 pub record AreAdded (at at' : ℕ → Place) (first count behind_link : ℕ) : Type 0 where
   pub others : (number : ℕ) → number < first → at' number ≡ at number
+  pub beyond : (number : ℕ) → first + count ≤ number → at' number ≡ at number
   pub waits : AllByRecursion (λ number. (at' number).state ≡ 0) (range_with_len first count)
+  pub blank : AllByRecursion (λ number. ((at' number).written ≡ 0) × ((at' number).zero ≡ 0))
+      (range_with_len first count)
   pub next : (behind : List ℕ) → AllByRecursion (λ number. number < first) behind →
       IsLinked (λ number. (at number).next) behind_link behind →
       IsLinked (λ number. (at' number).next) (start_of first count behind_link) (range_with_len first count ++ behind)
@@ -41,7 +44,7 @@ pub record AreAdded (at at' : ℕ → Place) (first count behind_link : ℕ) : T
 -- from a place on, some are passed over that are not open, up to the first open one
 pub record IsPassed (at : ℕ → Place) (before after : Settled) (rest : List ℕ) : Type 0 where
   pub written : after.written ≡ before.written + settled_in at rest
-  pub front : after.front ≡ front_in at rest
+  pub first_open : after.first_open ≡ first_open_in at rest
 
 -- the link of the first of some places that waits; or 0, where none waits
 abbrev pub IsFirstWaiting : (ℕ → Place) → List ℕ → ℕ → Type 0

@@ -19,4 +19,4 @@ places-preserved c room fits =
     (omega (arith, c.saturating_add-next.ensures, is, fits, c.places.auto.index, c.places-test.true))
     (subst (λ new. IsWritten (place_at places) (place_at new) here place) (sym c.set_place.ensures)
     (written-at places here place within))
-    refl refl
+    refl refl refl refl
