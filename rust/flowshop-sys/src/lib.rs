@@ -49,6 +49,18 @@ pub const FLOWSHOP_OVER: u32 = 3;
 /// Of the task of a run: a beam or rounds came to a sequence.
 pub const FLOWSHOP_REACHED: u32 = 4;
 
+// What is known of a place of a search that is shared.
+/// It waits to be given.
+pub const FLOWSHOP_WAITS: u32 = 0;
+/// It is given to a worker.
+pub const FLOWSHOP_GIVEN: u32 = 1;
+/// Its directions are written, and what is left of it stands behind it.
+pub const FLOWSHOP_SEARCHED: u32 = 2;
+/// A sequence below the number comes behind its directions.
+pub const FLOWSHOP_AT_SEQUENCE: u32 = 3;
+/// It stands behind such a sequence, and counts for nothing.
+pub const FLOWSHOP_DROPPED: u32 = 4;
+
 // What a run asks for.
 /// Nothing more.
 pub const FLOWSHOP_TASK_END: u32 = 0;
