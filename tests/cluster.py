@@ -721,7 +721,12 @@ def lose_results():
         kept.submit = lambda call, word: kept.begun.append(pool.submit(call, word)) or kept.begun[-1]
         kept.begun = []
         found = HARD.certify(**LONG, workers=kept, time_limit=0.5)
-        left = [future for future in kept.begun if not future.running() and not future.done()]
+        ends = time.monotonic() + 2
+        while time.monotonic() < ends:
+            left = [future for future in kept.begun if not future.running() and not future.done()]
+            if not left:
+                break
+            time.sleep(0.02)
         equal("calls that are left behind a limit", (lawful(HARD, found), len(kept.begun) > 3, left), (True, True, []))
     equal("rounds that fail twice", SOME.certify(**FEW, workers=Faulty(fail_twice)), SOME.certify(**FEW))
     for name, fault, error in [("fails", fail_always, ZeroDivisionError), ("is another", turn, RuntimeError)]:
