@@ -82,6 +82,7 @@ is_null:
         .size is_null, . - is_null
 
 # A shop is in %rdi, and its times at 8(%rdi); its sequence in %rsi. A record of results begins with a pointer.
+        entry flowshop_limits, %rdi
         entry flowshop_generate, %rcx
         entry flowshop_block, %rdi, %rcx, 8(%rcx)
         entry flowshop_makespan, %rdi, 8(%rdi), %rsi, %rcx
@@ -91,12 +92,14 @@ is_null:
         entry flowshop_neh, %rdi, 8(%rdi), %rsi, (%rsi)
         entry flowshop_improve, %rdi, 8(%rdi), %rsi, %rcx, %r8, (%r8)
         entry flowshop_check, %rdi, 8(%rdi), %rsi, %rcx, (%rcx)
+        entry flowshop_check_within, %rdi, 8(%rdi), %rsi, %r8, (%r8)
         entry flowshop_solve, %rdi, 8(%rdi), %rsi, %rcx, %r8, (%r8), %r9, (%r9)
         entry_with_text flowshop_certify, %rdi, 8(%rdi), %rsi, %rcx, %r9, (%r9)
         entry flowshop_run, %rdi, 8(%rdi), %rsi, %r9
         entry flowshop_run_next, %rdi, %rsi, %rdx
         entry flowshop_run_put, %rdi, %rsi, %rdx, %rcx
         entry_with_text flowshop_run_text, %rdi, 8(%rdi), %rsi, %r8
+        entry flowshop_run_counted, %rdi, 8(%rdi), %rsi, %r9, (%r9)
         entry flowshop_search, %rsi, %rcx
         entry flowshop_search_give, %rdi, %rsi, %rcx
         entry flowshop_search_put, %rdi, %rsi, %r8, %r9

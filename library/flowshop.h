@@ -28,9 +28,8 @@
  * returns, and gives what its comment says: the status, the value, the sequence, the certificate. The contracts stand
  * in crates/flow_c/src, and the numbers of the statuses in crates/flow_c/specs/Statuses.antt. Not proved are how
  * the searches of flowshop_improve, flowshop_beam and flowshop_rounds go, and so how good what they reach is, and what
- * `whole` says of a makespan above Taillard's bound; which of the tasks that a run may ask for is next; this header,
- * the tests of pointers and of the processor (library/cpu.s), the compiler, the C library, and how much time or memory
- * a call takes. */
+ * `whole` says of a makespan above Taillard's bound; this header, the tests of pointers and of the processor
+ * (library/cpu.s), the compiler, the C library, and how much time or memory a call takes. */
 #ifndef FLOWSHOP_H
 #define FLOWSHOP_H
 
@@ -125,13 +124,15 @@ enum flowshop_status {
     /* The text is no lawful one of its kind, of the shop. */
     FLOWSHOP_HEADER = 60, /* line 1 */
     FLOWSHOP_SIZE = 61, /* line 2 */
-    FLOWSHOP_VALUE = 62, /* line 3 */
+    FLOWSHOP_VALUE = 62, /* line 3, or line 5 of a counted certificate */
     FLOWSHOP_SEQUENCE = 63, /* line 4 is no sequence of the shop */
     FLOWSHOP_NOT_ATTAINED = 64, /* the makespan of the sequence is not the value, or not the upper bound */
-    FLOWSHOP_TREE = 65, /* a line is not one tree, or no directions that prove the bound; place: the line */
+    FLOWSHOP_TREE = 65, /* a line is not one tree, no directions that prove the bound, or not how many nodes the search
+                         * opens; place: the line */
     FLOWSHOP_WEAK = 66, /* of a certificate of version 1 or 2: a bound is below the value; place: the line */
     FLOWSHOP_LOW = 67, /* a makespan is below the value, or below the lower bound; place: the line */
-    FLOWSHOP_END = 68, /* what follows the trees or the directions is not the last line alone */
+    FLOWSHOP_END = 68, /* what follows the trees, the directions or the count is not the last line alone */
+    FLOWSHOP_MOST = 69, /* a counted certificate states more nodes than the caller allows; it may be lawful */
 
     /* The text is no benchmark text; place: the line, counted from 1, or the one after the last where the text ends. */
     FLOWSHOP_NO_BLOCK = 70, /* it has no line that is not blank; place: 0 */
@@ -149,6 +150,30 @@ typedef struct flowshop_outcome {
     uint32_t status;
     size_t place;
 } flowshop_outcome;
+
+/* The limits: those of enum flowshop_limit, and of texts. What is said of the program is no limit of a call. */
+typedef struct flowshop_limit_numbers {
+    uint32_t max_jobs;
+    uint32_t max_machines;
+    uint32_t max_time;
+    uint32_t max_number; /* the greatest number in a benchmark text */
+    uint32_t max_job; /* the greatest number that is read as a job, whether it is one or not */
+    uint32_t max_seed;
+    uint32_t max_width;
+    uint32_t max_rounds;
+    uint32_t max_work;
+    uint32_t max_directions;
+    uint32_t max_depth;
+    uint32_t max_prefixes;
+    uint32_t max_budget;
+    uint32_t min_version;
+    uint32_t max_version;
+    uint32_t max_workers; /* the most workers of a run of the program */
+    uint32_t max_text; /* the most bytes of a benchmark text or a sequence that the program reads */
+    uint32_t max_certificate; /* the most bytes of a certificate that the program reads */
+    uint32_t max_beside; /* the most bytes of a two-ended text beside its directions, and of a counted text */
+    uint64_t max_nodes; /* the most nodes of a counted certificate that flowshop_check reads */
+} flowshop_limit_numbers;
 
 /* A shop. */
 typedef struct flowshop_shop {
@@ -387,6 +412,7 @@ static inline const char *flowshop_status_name(uint32_t status) {
     case FLOWSHOP_WEAK: return "WEAK";
     case FLOWSHOP_LOW: return "LOW";
     case FLOWSHOP_END: return "END";
+    case FLOWSHOP_MOST: return "MOST";
     case FLOWSHOP_NO_BLOCK: return "NO_BLOCK";
     case FLOWSHOP_LABEL: return "LABEL";
     case FLOWSHOP_BYTE: return "BYTE";
@@ -402,6 +428,10 @@ static inline const char *flowshop_status_name(uint32_t status) {
 /* The version of the library as one number: a million for each major version, a thousand for each minor one, and the
  * patches. It is no outcome, and every x86-64 processor gives it. */
 uint32_t flowshop_version(void) FLOWSHOP_NOEXCEPT;
+
+/* The limits, for a language that does not read this header. A library with more fields writes them too, behind a shorter
+ * record: so call it only with the record of the same release. */
+FLOWSHOP_CALL flowshop_outcome flowshop_limits(flowshop_limit_numbers *limits) FLOWSHOP_NOEXCEPT;
 
 /* The shop of a seed, by Taillard's generator: each time is drawn from 1 to 99. The first jobs * machines entries of
  * `times` become its times, machine by machine.
@@ -463,12 +493,20 @@ FLOWSHOP_CALL flowshop_outcome flowshop_improve(const flowshop_shop *shop, const
                                                 const flowshop_effort *effort, flowshop_reached *reached)
     FLOWSHOP_NOEXCEPT;
 
-/* The bounds that a text proves, and the sequence that it states. A text with line 1 of a two-ended certificate is read
- * as one; every other text as a certificate of version 1 or 2, whose value becomes both bounds. Every lawful text of
- * its kind is accepted, whoever made it, and nothing else. A fault is that of the text, as one of its kind.
- * Faults in order: JOBS, MACHINES, COUNT, TIME; ROOM; HEADER to END. */
+/* The bounds that a text proves, and the sequence that it states. A text with line 1 of a two-ended or of a counted
+ * certificate is read as one; every other text as a certificate of version 1 or 2, whose value becomes both bounds.
+ * Every lawful text of its kind is accepted, whoever made it, and nothing else; but a counted one that states more than
+ * 10000000000 nodes is refused as MOST, lawful or not. A counted certificate has no steps that could be followed: its
+ * check makes the search again that found its bounds, on the calling thread, and takes as long: seconds for ten million
+ * nodes, up to hours for billions. A fault is that of the text, as one of its kind.
+ * Faults in order: JOBS, MACHINES, COUNT, TIME; ROOM; HEADER to MOST, the first in the text (docs/formats.md). */
 FLOWSHOP_CALL flowshop_outcome flowshop_check(const flowshop_shop *shop, const uint8_t *text, size_t text_count,
                                               flowshop_bounds *bounds) FLOWSHOP_NOEXCEPT;
+
+/* The same, where the caller says how many nodes a counted certificate may state: a smaller number ends the check
+ * sooner, and a greater one allows a longer one. Of texts of the other kinds it says nothing. */
+FLOWSHOP_CALL flowshop_outcome flowshop_check_within(const flowshop_shop *shop, const uint8_t *text, size_t text_count,
+                                                     uint64_t most, flowshop_bounds *bounds) FLOWSHOP_NOEXCEPT;
 
 /* The least makespan, which both bounds become, a sequence that has it, and a certificate of both, which flowshop_check
  * accepts, by a search from the sequence `start`, on the calling thread. Where the text has no room, `place` has its
@@ -567,8 +605,10 @@ FLOWSHOP_CALL flowshop_outcome flowshop_rounds(const flowshop_shop *shop, const 
  * not 0, the run may be stopped before its end, and raises the lower bound early. flowshop_run_next says what is to be
  * done, and flowshop_run_put is told what became of it; flowshop_certify does the same on one thread. The caller keeps
  * the start, the best sequence and the one that was the best before it, and the directions of the last search that
- * proved its number. At any time these are a certificate of the bounds of the run, which flowshop_run_text writes: so a
- * run may be stopped between two tasks, shown, kept, and gone on with. Its tasks do not depend on who does them.
+ * proved its number. At any time these are a certificate of the bounds of the run, which flowshop_run_text writes, or
+ * flowshop_run_counted with their count alone: so a run may be stopped between two tasks, shown, kept, and gone on
+ * with. Its tasks do not depend on who does them. What it begins with, which task is next, and what an answer changes
+ * is proved to be what Schedule of flow_certify says (docs/proved.md).
  * Faults in order: JOBS, MACHINES, COUNT, TIME; LENGTH, JOB, TWICE (of start); DIRECTIONS. */
 FLOWSHOP_CALL flowshop_outcome flowshop_run(const flowshop_shop *shop, const uint16_t *start, size_t start_count,
                                             uint32_t directions, uint32_t limited, flowshop_run_state *run)
@@ -595,6 +635,14 @@ FLOWSHOP_CALL flowshop_outcome flowshop_run_put(flowshop_run_state *run, const f
 FLOWSHOP_CALL flowshop_outcome flowshop_run_text(const flowshop_shop *shop, const uint16_t *sequence,
                                                  size_t sequence_count, uint64_t lower, const uint8_t *directions,
                                                  size_t directions_count, flowshop_text *text) FLOWSHOP_NOEXCEPT;
+
+/* The counted certificate of a sequence, with its makespan, and of a lower bound and how many directions prove it.
+ * Nothing tests that the search for these directions has so many; flowshop_check does. The text has at most 3300 bytes.
+ * Where it has no room, `place` has its length.
+ * Faults in order: JOBS, MACHINES, COUNT, TIME; LENGTH, JOB, TWICE (of the sequence); ROOM. */
+FLOWSHOP_CALL flowshop_outcome flowshop_run_counted(const flowshop_shop *shop, const uint16_t *sequence,
+                                                    size_t sequence_count, uint64_t lower, uint64_t count,
+                                                    flowshop_text *text) FLOWSHOP_NOEXCEPT;
 
 #ifdef __cplusplus
 }

@@ -13,9 +13,10 @@ pub enum Fault {
     Text(&'static str, usize),
     /// The benchmark text has no block of the number.
     Index,
-    /// The first fault of the checked text, in one of lines 1 to 4 or in the last.
+    /// The first fault of the checked text, in one of lines 1 to 4 or in the last; or a count that is in no form or too
+    /// great.
     Certificate(&'static str),
-    /// The first fault of the checked text, in this line of trees or of directions.
+    /// The first fault of the checked text, in this line: of trees or directions, or a count that the search refutes.
     Tree(&'static str, usize),
 }
 

@@ -1,11 +1,11 @@
 //! The lines of a text before its proof: what it is, of which sizes, what it claims, and its sequence.
 //!
-//! | Line | Certificate | Two-ended certificate |
-//! |---|---|---|
-//! | 1 | `flowshop certificate 1` or `2` | `flowshop two-ended 1` |
-//! | 2 | jobs, machines, depth | jobs, machines |
-//! | 3 | the value | `L` and `U` |
-//! | 4 | a sequence that has the value | a sequence that has `U` |
+//! | Line | Certificate | Two-ended certificate | Counted certificate |
+//! |---|---|---|---|
+//! | 1 | `flowshop certificate 1` or `2` | `flowshop two-ended 1` | `flowshop counted 1` |
+//! | 2 | jobs, machines, depth | jobs, machines | jobs, machines |
+//! | 3 | the value | `L` and `U` | `L` and `U` |
+//! | 4 | a sequence that has the value | a sequence that has `U` | a sequence that has `U` |
 //!
 //! LF ends each line. Numbers are decimal without leading zeros, with one space between those of a line. A line that is
 //! in any other form, that is not there or that no LF ends is at fault, and the first line at fault decides.
@@ -30,6 +30,7 @@ pub enum Bound {
 pub enum Kind {
     Certificate(Bound),
     TwoEnded,
+    Counted,
 }
 
 /// What a text claims: no sequence has a makespan below `lower`, and its sequence has `upper`.
@@ -40,6 +41,8 @@ pub struct Claim {
     pub lower: u64,
     pub upper: u64,
     pub sequence: Vec<usize>,
+    /// How many nodes the search of a counted certificate opens, once that was checked.
+    pub nodes: Option<u64>,
 }
 
 /// What lines 1 to 4 of a text claim of a shop, and what follows them.
@@ -66,12 +69,13 @@ pub fn read<'a>(shop: &Shop, text: &'a [u8]) -> Result<(Claim, &'a [u8]), Fault>
         lower,
         upper,
         sequence,
+        nodes: None,
     };
     Ok((claim, rest))
 }
 
 /// Takes the next line off a text, and gives it without its LF; none where no LF ends it.
-fn take_line<'a>(rest: &mut &'a [u8]) -> Option<&'a [u8]> {
+pub fn take_line<'a>(rest: &mut &'a [u8]) -> Option<&'a [u8]> {
     let end = rest.iter().position(|&byte| byte == b'\n')?;
     let line = &rest[..end];
     *rest = &rest[end + 1..];
@@ -84,11 +88,12 @@ fn kind_of(line: &[u8]) -> Option<Kind> {
         b"flowshop certificate 1" => Some(Kind::Certificate(Bound::Machine)),
         b"flowshop certificate 2" => Some(Kind::Certificate(Bound::Released)),
         b"flowshop two-ended 1" => Some(Kind::TwoEnded),
+        b"flowshop counted 1" => Some(Kind::Counted),
         _ => None,
     }
 }
 
-/// The depth on line 2, whose jobs and machines are those of the shop. A two-ended certificate has none.
+/// The depth on line 2, whose jobs and machines are those of the shop. Certificates without trees have none.
 fn depth_of(shop: &Shop, kind: Kind, line: &[u8]) -> Option<usize> {
     let jobs = shop.jobs.len() as u64;
     let (sizes, depth) = match kind {
@@ -97,7 +102,7 @@ fn depth_of(shop: &Shop, kind: Kind, line: &[u8]) -> Option<usize> {
             let depth = sizes.pop()?;
             (sizes, depth)
         }
-        Kind::TwoEnded => (numbers(line, 2)?, 0),
+        Kind::TwoEnded | Kind::Counted => (numbers(line, 2)?, 0),
     };
     let fits = sizes == [jobs, shop.machines as u64] && depth <= MAX_DEPTH && depth <= jobs;
     usize::try_from(depth).ok().filter(|_| fits)
@@ -107,7 +112,7 @@ fn depth_of(shop: &Shop, kind: Kind, line: &[u8]) -> Option<usize> {
 fn values_of(kind: Kind, line: &[u8]) -> Option<(u64, u64)> {
     match kind {
         Kind::Certificate(_) => numbers(line, 1).map(|value| (value[0], value[0])),
-        Kind::TwoEnded => numbers(line, 2).map(|values| (values[0], values[1])),
+        Kind::TwoEnded | Kind::Counted => numbers(line, 2).map(|values| (values[0], values[1])),
     }
 }
 
@@ -140,7 +145,7 @@ fn numbers(line: &[u8], count: usize) -> Option<Vec<u64>> {
 }
 
 /// The number of a word: digits without leading zeros, at most 18,446,744,073,709,551,615.
-fn number(word: &[u8]) -> Option<u64> {
+pub fn number(word: &[u8]) -> Option<u64> {
     if word.is_empty() || (word.len() > 1 && word[0] == b'0') {
         return None;
     }

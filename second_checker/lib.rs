@@ -1,8 +1,9 @@
-//! The second checker of certificates and two-ended certificates of permutation flow shops, as a library.
+//! The second checker of certificates, two-ended and counted certificates of permutation flow shops, as a library.
 //!
 //! It was written apart from the proved checker of `flowshop`, by the same authors, from the rules of the texts alone,
-//! in plain safe Rust. It is not proved. A check calls itself once for each job of a list: with 800 jobs it needs 1.5 MB
-//! of stack. Threads of the standard library have 2 MB.
+//! in plain safe Rust. It is not proved. A check of trees or directions calls itself once for each job of a list: with
+//! 800 jobs it needs 1.5 MB of stack. Threads of the standard library have 2 MB. The search of a counted certificate
+//! does not call itself.
 //!
 //! ```
 //! use second_checker::{Fault, Shop};
@@ -22,9 +23,13 @@ mod check;
 mod directions;
 mod fault;
 mod heading;
+mod node;
+mod pack;
+mod search;
 mod shop;
 mod trees;
 
+pub use check::MOST_NODES;
 pub use fault::Fault;
 
 /// A shop of at most 800 jobs and 26 machines, with times of at most 999,999.
@@ -39,6 +44,8 @@ pub struct Bounds {
     pub upper: u64,
     /// The jobs of the sequence, which count from 1.
     pub sequence: Vec<usize>,
+    /// How many nodes the search of a counted certificate opens; none for a text of another kind.
+    pub nodes: Option<u64>,
 }
 
 impl Shop {
@@ -72,13 +79,27 @@ impl Shop {
         Some(Shop(shop::Shop::new(jobs, machines, &times)))
     }
 
-    /// Checks a certificate of any kind.
+    /// Checks a certificate of any kind; a counted one may say [`MOST_NODES`] at most.
     pub fn check(&self, text: &[u8]) -> Result<Bounds, Fault> {
-        let claim = check::check(&self.0, text)?;
+        self.check_at_most(text, MOST_NODES)
+    }
+
+    /// Checks a certificate of any kind; a counted one may say at most so many nodes, since its check opens them all.
+    ///
+    /// ```
+    /// use second_checker::{Fault, Shop};
+    /// let shop = Shop::from_jobs(&[[4, 0, 4], [0, 8, 0], [0, 2, 1]]).unwrap();
+    /// let text = b"flowshop counted 1\n3 3\n12 12\n3 1 2\n2\nend\n";
+    /// assert_eq!(shop.check_at_most(text, 2).unwrap().nodes, Some(2));
+    /// assert_eq!(shop.check_at_most(text, 1), Err(Fault::Certificate("Most")));
+    /// ```
+    pub fn check_at_most(&self, text: &[u8], most: u64) -> Result<Bounds, Fault> {
+        let claim = check::check(&self.0, text, most)?;
         Ok(Bounds {
             lower: claim.lower,
             upper: claim.upper,
             sequence: claim.sequence.iter().map(|job| job + 1).collect(),
+            nodes: claim.nodes,
         })
     }
 }

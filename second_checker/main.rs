@@ -1,4 +1,4 @@
-//! A second checker of certificates and two-ended certificates of permutation flow shops.
+//! A second checker of certificates, two-ended and counted certificates of permutation flow shops.
 //!
 //! It is a program of its own, in plain safe Rust. It was written apart from the proved checker of `flowshop`, by the
 //! same authors, from the rules of the texts alone. It is not proved, and shares no source file with a solver, nor with
@@ -10,7 +10,9 @@
 //! - `blocks.rs`: the benchmark text;
 //! - `heading.rs`: lines 1 to 4 of a text, which say what it claims;
 //! - `trees.rs`: the trees of a certificate;
+//! - `node.rs`: the nodes of the tree of a two-ended or counted certificate, and their bounds;
 //! - `directions.rs`: the directions of a two-ended certificate;
+//! - `search.rs`, `pack.rs`: the search of a counted certificate, and the bounds of many children at once;
 //! - `check.rs`, `fault.rs`: the check of a whole text, and what is wrong with one;
 //! - `files.rs`, `failure.rs`: files, and the lines of refused runs.
 //!
@@ -28,10 +30,13 @@ mod failure;
 mod fault;
 mod files;
 mod heading;
+mod node;
+mod pack;
+mod search;
 mod shop;
 mod trees;
 
-use check::check;
+use check::{check, MOST_NODES};
 use failure::Failure;
 use heading::Claim;
 use std::env;
@@ -42,13 +47,14 @@ use std::process::ExitCode;
 const HELP: &str = "\
 Checks a text that says what the least makespan of a permutation flow shop is, or between which bounds it is.
 
-Usage: second check FILE INDEX CERT [--sequence] [--optimal]
+Usage: second check FILE INDEX CERT [--sequence] [--optimal] [--most N]
 
   FILE        The file of the benchmark text, or stdin for standard input
   INDEX       The number of the block in the text, from 1
-  CERT        The file of the certificate or two-ended certificate; /dev/stdin for a pipe
+  CERT        The file of the certificate, two-ended or counted certificate; /dev/stdin for a pipe
   --sequence  Prints the sequence of the text and its makespan
   --optimal   Refuses a text whose bounds differ
+  --most N    Refuses a counted certificate of more than N nodes; of more than 10,000,000,000 where it is left out
   --help      Prints this
 
 It prints `optimal V` where V is the least makespan, or `bounds L U` where no sequence has a makespan below L and that
@@ -64,27 +70,24 @@ struct Request<'a> {
     cert: &'a str,
     sequence: bool,
     optimal: bool,
+    /// How many nodes a counted certificate may say at most.
+    most: u64,
 }
 
 /// Reads the command line: the word `check`, and behind it three names, and each option at most once, in any order.
 fn request_of(words: &[String]) -> Option<Request<'_>> {
-    let (mut sequence, mut optimal) = (false, false);
+    let (mut sequence, mut optimal, mut most) = (false, false, None);
     let mut names = Vec::new();
     let (command, words) = words.split_first()?;
-    for word in words {
-        let option = match word.as_str() {
-            "--sequence" => &mut sequence,
-            "--optimal" => &mut optimal,
-            other if other.starts_with('-') => return None,
-            other => {
-                names.push(other);
-                continue;
-            }
-        };
-        if *option {
-            return None;
+    let mut words = words.iter().map(String::as_str);
+    while let Some(word) = words.next() {
+        match word {
+            "--sequence" if !sequence => sequence = true,
+            "--optimal" if !optimal => optimal = true,
+            "--most" if most.is_none() => most = Some(words.next()?.parse().ok()?),
+            _ if word.starts_with('-') => return None,
+            _ => names.push(word),
         }
-        *option = true;
     }
     match names[..] {
         [file, index, cert] if command == "check" => Some(Request {
@@ -93,6 +96,7 @@ fn request_of(words: &[String]) -> Option<Request<'_>> {
             cert,
             sequence,
             optimal,
+            most: most.unwrap_or(MOST_NODES),
         }),
         _ => None,
     }
@@ -124,7 +128,7 @@ fn output(request: &Request) -> Result<String, Failure> {
     let cert = files::open(request.cert)?;
     let shop = blocks::read(&files::read_text(file)?, request.index)?;
     let text = files::read_certificate(cert)?;
-    let claim = check(&shop, &text)?;
+    let claim = check(&shop, &text, request.most)?;
     if request.optimal && claim.lower != claim.upper {
         return Err(Failure::Bounds(claim.lower, claim.upper));
     }

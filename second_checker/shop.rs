@@ -2,12 +2,14 @@
 //!
 //! All numbers here are small: the greatest makespan is that of 800 jobs on 26 machines, (800 + 26 - 1) times 999,999.
 
+use std::ops::Add;
+
 /// The most jobs and machines of a shop, and the greatest time.
 pub const MAX_JOBS: usize = 800;
 pub const MAX_MACHINES: usize = 26;
 pub const MAX_TIME: u32 = 999_999;
 
-/// A number for each machine; those beyond the last machine stay 0.
+/// A number for each machine, and for as many more as make the most. No job needs any time on those.
 pub type PerMachine = [u64; MAX_MACHINES];
 
 pub struct Job {
@@ -61,37 +63,42 @@ impl Shop {
         (0..self.jobs.len()).collect()
     }
 
-    /// Puts a job after the last of a list.
-    ///
-    /// The front of a list is its completion time on each machine. A job begins on a machine when it has left the
-    /// machine before and the list has left this machine, whichever is later.
-    pub fn put_after(&self, front: &mut PerMachine, job: usize) {
-        let mut done = 0;
-        for (entry, time) in front[..self.machines].iter_mut().zip(&self.jobs[job].times) {
-            done = done.max(*entry) + time;
-            *entry = done;
-        }
-    }
-
-    /// Puts a job before the first of a list.
-    ///
-    /// The back of a list is, for each machine, the least time from the start of its first job there to the end of its
-    /// last job on the last machine. Its rule is that of the front, from the last machine to the first.
-    pub fn put_before(&self, back: &mut PerMachine, job: usize) {
-        let times = &self.jobs[job].times[..self.machines];
-        let mut done = 0;
-        for (entry, time) in back[..self.machines].iter_mut().zip(times).rev() {
-            done = done.max(*entry) + time;
-            *entry = done;
-        }
-    }
-
     /// The makespan of a list: the time at which its last job leaves the last machine.
     pub fn makespan(&self, list: &[usize]) -> u64 {
         let mut front = [0; MAX_MACHINES];
         for &job in list {
-            self.put_after(&mut front, job);
+            put_after(&mut front, &self.jobs[job].times);
         }
         front[self.machines - 1]
+    }
+}
+
+/// Puts a job with these times after the last of a list.
+///
+/// The front of a list is its completion time on each machine. A job begins on a machine when it has left the machine
+/// before and the list has left this machine, whichever is later.
+pub fn put_after<T: Copy + Default + Ord + Add<Output = T>, const M: usize>(
+    front: &mut [T; M],
+    times: &[T; M],
+) {
+    let mut done = T::default();
+    for (entry, &time) in front.iter_mut().zip(times) {
+        done = done.max(*entry) + time;
+        *entry = done;
+    }
+}
+
+/// Puts a job with these times before the first of a list.
+///
+/// The back of a list is, for each machine, the least time from the start of its first job there to the end of its last
+/// job on the last machine. Its rule is that of the front, from the last machine to the first.
+pub fn put_before<T: Copy + Default + Ord + Add<Output = T>, const M: usize>(
+    back: &mut [T; M],
+    times: &[T; M],
+) {
+    let mut done = T::default();
+    for (entry, &time) in back.iter_mut().zip(times).rev() {
+        done = done.max(*entry) + time;
+        *entry = done;
     }
 }

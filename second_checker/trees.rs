@@ -13,7 +13,7 @@
 
 use crate::fault::Fault;
 use crate::heading::Bound;
-use crate::shop::{PerMachine, Shop, MAX_MACHINES};
+use crate::shop::{self, PerMachine, Shop, MAX_MACHINES};
 
 /// The reading of the trees. Each call of a list leaves the jobs left as it found them.
 struct Reader<'a> {
@@ -83,7 +83,7 @@ impl Reader<'_> {
         for place in 0..self.left.len() {
             let job = self.left.remove(place);
             let mut longer = *front;
-            self.shop.put_after(&mut longer, job);
+            shop::put_after(&mut longer, &self.shop.jobs[job].times);
             read(self, &longer)?;
             self.left.insert(place, job);
         }

@@ -8,12 +8,12 @@ import sys
 
 from counts import new_folder
 from flowshop import NotASequence, Shop, TextError, _texts
-from flowshop._library import MOST_TIMES, BlockRoom, Refused, call, u32
+from flowshop._library import MOST_JOBS, MOST_MACHINES, BlockRoom, Refused, call, u32
 
 PASSED_OVER = 77
 SWITCHES = "sequence", "optimal"
 OPTIONS = {
-    "improve": "width rounds seed work", "certify": "width rounds seed work directions workers",
+    "improve": "width rounds seed work", "certify": "width rounds seed work directions proof workers",
     "solve": "depth budget certificate workers",
 }
 
@@ -29,8 +29,8 @@ def placed(name, place):
 
 def block_of(text, index):
     """The shop of a block, or the first fault of the text."""
-    times = (u32 * MOST_TIMES)()
-    block = BlockRoom(times=times, times_count=MOST_TIMES)
+    times = (u32 * (MOST_JOBS * MOST_MACHINES))()
+    block = BlockRoom(times=times, times_count=len(times))
     try:
         call("block", text, len(text), index, block)
     except Refused as refused:
@@ -56,9 +56,9 @@ def printed(sequence, makespan):
     return f"sequence {' '.join(map(str, sequence))}\nmakespan {makespan}\n"
 
 
-def proved(shop, text, options):
-    """What a certificate proves, or its sequence."""
-    found = shop.check(text)
+def proved(shop, text, options, **numbers):
+    """What a certificate proves, or its sequence. The numbers are those of the check."""
+    found = shop.check(text, **numbers)
     if "optimal" in options and not found.optimal:
         raise Stop(f"refused bounds {found.lower} {found.upper}")
     if "sequence" in options:
@@ -92,7 +92,8 @@ def scheduled(shop, text, form):
 
 def searched(command, shop, start, options):
     """What a search writes."""
-    chosen = {name: int(options[name]) for name in OPTIONS[command].split() if name in options}
+    chosen = {name: options[name] if name == "proof" else int(options[name])
+              for name in OPTIONS[command].split() if name in options}
     if command == "improve":
         found = shop.improve(start, **chosen)
         return printed(found.sequence, found.value)
@@ -125,7 +126,9 @@ def output(words):
         return printed(shop.neh().sequence, shop.neh().value)
     if command in ("check", "schedule"):
         text = pathlib.Path(names[2]).read_bytes()
-        return proved(shop, text, options) if command == "check" else scheduled(shop, text, options.get("form"))
+        if command == "schedule":
+            return scheduled(shop, text, options.get("form"))
+        return proved(shop, text, options, **{"most": int(options[name]) for name in ("most",) if name in options})
     start = start_of(shop, pathlib.Path(options["start"]).read_bytes()) if "start" in options else None
     return searched(command, shop, start, options)
 

@@ -19,6 +19,7 @@ static void is(const char *what, uint64_t got, uint64_t wanted) {
 
 static void names(void) {
     is("a name", strcmp(flowshop_status_name(FLOWSHOP_OVER_BUDGET), "OVER_BUDGET") == 0, 1);
+    is("the last of a certificate", strcmp(flowshop_status_name(69), "MOST") == 0, 1);
     is("the first", strcmp(flowshop_status_name(0), "DONE") == 0, 1);
     is("the last", strcmp(flowshop_status_name(77), "INDEX") == 0, 1);
     is("no name", strcmp(flowshop_status_name(5), "?") == 0, 1);
@@ -61,6 +62,10 @@ static void *many(void *from) {
         wrong += better.makespan < least.upper || better.makespan > first.makespan;
         wrong += flowshop_prove(&shop, &root, least.upper, &part).status;
         wrong += part.found != FLOWSHOP_PROVED;
+        const uint64_t count = part.directions_length;
+        wrong += flowshop_run_counted(&shop, best, 4, least.upper, count, &text).status;
+        wrong += flowshop_check_within(&shop, bytes, text.length, count, &proved).status;
+        wrong += proved.lower != least.upper || proved.upper != least.upper;
         wrong += flowshop_certify(&shop, start, 4, &little, 1000, &proved, &text).status;
         wrong += proved.lower != least.upper || proved.upper != least.upper;
         wrong += flowshop_check(&shop, bytes, text.length, &least).status;

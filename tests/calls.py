@@ -27,6 +27,12 @@ MANY = 100_000
 # --- The calls ---
 
 
+def limits():
+    """All limits, by their names."""
+    found = results(records.Limits)
+    return call("limits", found) or {name: getattr(found, name) for name, _ in found._fields_}
+
+
 def generate(jobs, machines, seed, room=None):
     times = Room(U32, jobs * machines if room is None else room)
     return call("generate", U32(jobs), U32(machines), U32(seed), times) or times.taken(jobs * machines)
@@ -107,6 +113,10 @@ def check(shop, text, room=None):
     return proved("check", shop, given(U8, text), room, None)
 
 
+def check_within(shop, text, most, room=None):
+    return proved("check_within", shop, [*given(U8, text), U64(most)], room, None)
+
+
 def certify(shop, start, numbers=(0, 0, 1, 0, 1_000), room=None, text_room=4_300):
     """`numbers` are the width, the rounds, the seed, the work and the directions."""
     return proved("certify", shop, [*given(U16, start), Effort(*numbers[:4]), U32(numbers[4])], room, text_room)
@@ -157,6 +167,14 @@ def text_of(shop, sequence, lower, directions, room=4_300):
     data = Room(U8, room)
     text = results(Text, data)
     refused = call("run_text", shop_of(shop), *given(U16, sequence), U64(lower), *given(U8, directions), text)
+    return refused or bytes(data.taken(text.length))
+
+
+def counted_of(shop, sequence, lower, count, room=3_300):
+    """The counted text of a sequence, a lower bound, and how many directions there are."""
+    data = Room(U8, room)
+    text = results(Text, data)
+    refused = call("run_counted", shop_of(shop), *given(U16, sequence), U64(lower), U64(count), text)
     return refused or bytes(data.taken(text.length))
 
 
@@ -357,12 +375,14 @@ CALLS = {
     "solve": lambda shop, jobs: solve(shop, jobs, 9, 0, 0, 0, 0),
     "certify": lambda shop, jobs: certify(shop, jobs, (65_537, 100_000_001, 0, 1_000_001, 0), 0, 0),
     "run": lambda shop, jobs: run_of(shop, jobs, 0), "run_text": lambda shop, jobs: text_of(shop, jobs, 0, b"", 0),
+    "run_counted": lambda shop, jobs: counted_of(shop, jobs, 0, 0, 0),
     "beam": lambda shop, jobs: beam(shop, jobs, 0, 65_537, room=0),
     "rounds": lambda shop, jobs: rounds(shop, jobs, 100_000_001, 0, room=0),
 }
 # Those on a shop alone, or with lists that are none.
 OTHER_CALLS = {
     "neh": lambda shop: neh(shop, 0), "check": lambda shop: check(shop, b"", 0),
+    "check_within": lambda shop: check_within(shop, b"", 0, 0),
     "makespans": lambda shop: makespans(shop, [4], 0),
     "prove": lambda shop: prove(shop, 12, [4], [4], room=0),
     **{name: lambda shop, make=make: make(shop, [4]) for name, make in CALLS.items()},
@@ -432,6 +452,7 @@ def refuse_rooms():
         ("certify", lambda room: certify(SHOP, START, text_room=room), (*found, certified)),
         ("picture", lambda room: picture(SHOP, START, room), drawing),
         ("run_text", lambda room: text_of(SHOP, [3, 1, 2], 12, b"++", room), refusals.LEAST),
+        ("run_counted", lambda room: counted_of(SHOP, [3, 1, 2], 12, 2, room), refusals.COUNTED),
     ]:
         needed = len(wanted[-1] if isinstance(wanted, tuple) else wanted)
         for room in range(needed + 2):
@@ -449,6 +470,8 @@ def refuse_rooms():
         ("solve", lambda room: solve(SHOP, START, room=room)[0]),
         ("certify", lambda room: certify(SHOP, START, room=room)[0]),
         ("check", lambda room: check(SHOP, text, room)[0]),
+        ("check_within", lambda room: check_within(SHOP, refusals.COUNTED, 2, room)[0]),
+        ("check_within, above", lambda room: check_within(SHOP, refusals.COUNTED, 1, room)[0]),
     ]:
         for room in range(6):
             equal(f"{name} with room for {room} jobs", make(room) == "ROOM", room < 3)
@@ -488,18 +511,32 @@ def refuse_answers():
         equal(f"the answer {answer} to no task", put_to(run, task, *answer), ("ANSWER", 0))
 
 
+def compare_limits():
+    """The limits are those of the header, of refusals.py and of docs/manual.md."""
+    got, header = limits(), records.HEADER
+    stated = {name.lower(): int(number) for name, number in re.findall(r"FLOWSHOP_(M(?:AX|IN)_\w+) = (\d+)", header)}
+    equal("the limits of the header", {name: got[name] for name in stated}, stated)
+    bounds = {name: most for name, (_, most) in refusals.LIMITS.items()}
+    equal("those of refusals.py", {name: got[f"max_{name}"] for name in bounds}, bounds)
+    others = {"number": 4_294_967_295, "job": 65_535, "text": 16_777_216, "certificate": 1_000_000_000, "beside": 3_300,
+              "nodes": refusals.MOST_NODES}
+    equal("the others", {name: got[f"max_{name}"] for name in others}, others)
+    equal("how many there are", len(got), len({*stated, *(f"max_{name}" for name in {**bounds, **others})}))
+
+
 def refuse_null_pointers():
     """Each call with each of its pointers null."""
     records.last.has_nulls = True
     numbers, run = (16, 9, 1, 1), run_of(SHOP, START)
     for make in (
-        lambda: generate(3, 3, 1), lambda: block(b"one\n1 1 0 0 0\ntimes\n5\n", 1), lambda: makespan(SHOP, START),
-        lambda: makespans(SHOP, START + START), lambda: timetable(SHOP, START), lambda: picture(SHOP, START, 5_000),
-        lambda: neh(SHOP), lambda: improve(SHOP, START), lambda: check(SHOP, refusals.LEAST),
-        lambda: solve(SHOP, START),
-        lambda: certify(SHOP, START), lambda: next_of(run, numbers),
+        limits, lambda: generate(3, 3, 1), lambda: block(b"one\n1 1 0 0 0\ntimes\n5\n", 1),
+        lambda: makespan(SHOP, START), lambda: makespans(SHOP, START + START), lambda: timetable(SHOP, START),
+        lambda: picture(SHOP, START, 5_000), lambda: neh(SHOP), lambda: improve(SHOP, START),
+        lambda: check(SHOP, refusals.LEAST), lambda: solve(SHOP, START), lambda: certify(SHOP, START),
+        lambda: next_of(run, numbers),
         lambda: put_to(run, Task(1, 0, 13, 1), 3, 0, 0, 0),
-        lambda: text_of(SHOP, START, 10, b""), lambda: prove(SHOP, 13), lambda: beam(SHOP, START),
+        lambda: text_of(SHOP, START, 10, b""), lambda: counted_of(SHOP, START, 10, 0),
+        lambda: check_within(SHOP, refusals.COUNTED, 2), lambda: prove(SHOP, 13), lambda: beam(SHOP, START),
         lambda: rounds(SHOP, START), lambda: Shared(9, 3).put(Shared(9, 3).give(), 1),
     ):
         make()
@@ -511,10 +548,13 @@ def refuse_texts():
     for text, fault, *_ in refusals.TEXTS:
         equal(f"the block of {text}", block(text, 1, room=0), refusals.name_of(fault))
     for rows, text, line, _ in refusals.checks():
-        got = check(of_rows(rows), text)
-        got, wanted = (got, refusals.name_of(line)) if len(got) == 2 else (bounds_line(*got[1:]), line)
-        equal(f"a check of {text[:200]}", got, wanted)
-    for text in (refusals.BOUNDS, refusals.TREE):
+        for most in (None, refusals.MOST_NODES):
+            compare_check(rows, text, most, line)
+        if not text.startswith(b"flowshop counted 1\n"):
+            compare_check(rows, text, 0, line)
+    for each in refusals.counted_checks():
+        compare_check(*each)
+    for text in (refusals.BOUNDS, refusals.TREE, refusals.COUNTED):
         for count in range(len(text)):
             equal(f"{count} bytes of a certificate", check(SHOP, text[:count])[0] in LIBRARY_FAULTS, True)
     text = b"one\n2 2 5 9 8\ntimes\n1 14\n75 46\n\nnext\n1 1 0 4294967295 0\ntimes\n999999\n"
@@ -536,6 +576,49 @@ def refuse_texts():
 
 
 LIBRARY_FAULTS = "HEADER SIZE VALUE SEQUENCE NOT_ATTAINED TREE WEAK LOW END".split()
+
+
+def compare_check(rows, text, most, line):
+    """A check beside the line of the program, with the most nodes where they are named."""
+    shop = of_rows(rows)
+    got = check(shop, text) if most is None else check_within(shop, text, most)
+    got, wanted = (got, refusals.name_of(line)) if len(got) == 2 else (bounds_line(*got[1:]), line)
+    equal(f"a check of {text[:200]}", got, wanted)
+
+
+def compare_counted(shop, sequence, lower):
+    """The counted text of a lower bound that the plain search proves, and its checks: with as many nodes as it states
+    and with one fewer; and of texts that state one more and one fewer."""
+    directions, found = Search(shop).search(lower)
+    upper, count = reference.makespan(shop, sequence), len(directions)
+    equal("whether the lower bound is one", found, None)
+    text = counted_of(shop, sequence, lower, count)
+    sizes, bounds = " ".join(map(str, shop[:2])), f"{lower} {upper}"
+    equal("a counted text", text, refusals.text_of("counted 1", sizes, bounds, sequence, count))
+    wanted = list(sequence), lower, upper
+    equal("its check", check(shop, text), wanted)
+    for most in (count, count + 1, 2**64 - 1):
+        equal(f"its check within {most} nodes", check_within(shop, text, most), wanted)
+    equal("one node more", check(shop, counted_of(shop, sequence, lower, count + 1)), ("TREE", 5))
+    equal("far more", check(shop, counted_of(shop, sequence, lower, refusals.MOST_NODES)), ("TREE", 5))
+    equal("too many", check(shop, counted_of(shop, sequence, lower, refusals.MOST_NODES + 1)), ("MOST", 0))
+    if count:
+        equal("one node fewer", check(shop, counted_of(shop, sequence, lower, count - 1)), ("TREE", 5))
+        equal("no node", check_within(shop, counted_of(shop, sequence, lower, 0), 0), ("TREE", 5))
+        equal("with one node fewer", check_within(shop, text, count - 1), ("MOST", 0))
+
+
+def compare_counts():
+    """Counted texts of shops of some size, with lower bounds that the plain search proves; and the greatest numbers of
+    such a text, which nothing tests when it is written."""
+    for seed, lower in (((9, 5, 3), 637), ((9, 6, 11), 678), ((8, 10, 5), 958), ((10, 8, 7), 978), ((10, 8, 7), 950)):
+        shop = reference.generated(*seed)
+        compare_counted(shop, reference.start(shop), lower)
+    great = of_rows(refusals.GREAT)
+    jobs, most = range(1, 801), 2**64 - 1
+    text = counted_of(great, jobs, most, most)
+    bounds = f"{most} {reference.makespan(great, jobs)}"
+    equal("the greatest numbers", text, refusals.text_of("counted 1", "800 26", bounds, jobs, most))
 
 
 def compare_calls():
@@ -614,6 +697,7 @@ def compare_shop(draw):
     sequence, *bounds, text = certify(shop, start, (*effort, 1_000))
     equal("bounds that are certified", (bounds, reference.makespan(shop, sequence)), ([least, least], least))
     equal("a check of its text", check(shop, text), (sequence, least, least))
+    compare_counted(shop, sequence, draw.choice((0, least, max(0, least - 1))))
     equal("a plain check of it", plain_check(shop, text, 1_000), (sequence, least, least))
     most = draw.randint(1, 9)
     for numbers in ((*effort, 1_000), (*effort, most)):
@@ -623,6 +707,17 @@ def compare_shop(draw):
     equal("whether they are bounds", lower <= least <= upper <= reference.makespan(shop, start), True)
     equal("a check of few directions", check(shop, text), (sequence, lower, upper))
     equal("a plain check of them", plain_check(shop, text, most), (sequence, lower, upper))
+
+
+def compare_begun():
+    """All numbers of runs that have begun. All searches may write 850 of 459 parts of the directions, of which half is
+    kept, and one as many as the caller says, but no more than four fifths of these, or than fit in a text. Each search
+    costs 3 * 3 / 3 directions more. No threshold was over, and none was missed."""
+    for directions, limited, *fund in [(1_000, 0, 1_000, 926, 925), (1, 7, 1, 1, 0), (2, 1, 2, 2, 1),
+                                       (10**9, 1, 999_990_000, 925_925_926, 925_925_925)]:
+        run = run_of(SHOP, START, directions, limited)
+        wanted = [10, 13, 10, 13, *fund, 3, 0, 10, 13, 1, 2**64 - 1, 0, 10**9, 1, 0, min(1, limited)]
+        equal("a run that has begun", [getattr(run, name) for name, _ in Run._fields_], wanted)
 
 
 def compare_runs():
@@ -721,7 +816,10 @@ def main():
     """Runs all, and says how many were as they should be."""
     major, minor, patch = map(int, (TOP / "VERSION").read_text().split("."))
     equal("the version", LIBRARY.flowshop_version(), major * 1_000_000 + minor * 1_000 + patch)
-    for part in (refuse_arguments, refuse_rooms, refuse_answers, refuse_null_pointers, refuse_texts, compare_calls):
+    for part in (
+        compare_limits, compare_begun, refuse_arguments, refuse_rooms, refuse_answers, refuse_null_pointers,
+        refuse_texts, compare_calls, compare_counts,
+    ):
         part()
     draw = random.Random(20_261_125)
     for _ in range(200):

@@ -8,12 +8,15 @@ standard input, or else none; a name under which its output is kept; what of the
 by which it is made, in which "$@" is the program with its words; and the most memory that it may hold, in KB."""
 
 import collections
+import functools
 import hashlib
 import itertools
 import pathlib
 import re
 import subprocess
+from functools import partial
 
+import reference
 from counts import EXAMPLES, TOP
 from plain_texts import bounds_line, plain_block, proved
 from refusals import TREE, block_of, text_of
@@ -49,10 +52,33 @@ def ones(count):
     return block_of([[1, 1]] * count + [[10, 10]])
 
 
-def of_ones(count, lower, signs):
-    """The text of that shop with the starting sequence, a lower bound and so many pluses."""
+def of_ones(count, lower, signs, kind="two-ended 1"):
+    """The text of that shop with the starting sequence, a lower bound and so many pluses, or the number of them."""
     order = [*range(count, 0, -1), count + 1]
-    return text_of("two-ended 1", f"{count + 1} 2", f"{lower} {count + 20}", order, "+" * signs).decode()
+    proof = "+" * signs if kind == "two-ended 1" else str(signs)
+    return text_of(kind, f"{count + 1} 2", f"{lower} {count + 20}", order, proof).decode()
+
+
+@functools.lru_cache(None)
+def searched(size_, lower):
+    """A starting sequence of a drawn shop, its makespan, and the directions of the search below a lower bound."""
+    shop = reference.generated(*size_)
+    first = reference.start(shop)
+    directions, reached = reference.Search(shop).search(lower)
+    assert reached is None
+    return first, reference.makespan(shop, first), directions
+
+
+def of_search(size_, lower, kind):
+    """A certificate of these, with the directions or their number."""
+    first, upper, directions = searched(size_, lower)
+    proof = directions if kind == "two-ended 1" else str(len(directions))
+    return [text_of(kind, f"{size_[0]} {size_[1]}", f"{lower} {upper}", first, proof)]
+
+
+def bounds_of_search(size_, lower):
+    """What a check prints of it."""
+    return bounds_line(lower, searched(size_, lower)[1]) + "\n"
 
 
 def pieces(head, piece, count):
@@ -114,7 +140,8 @@ def version():
     source = (TOP / "crates" / "flow_words" / "src" / "grammar.rt").read_text()
     kit = re.search('^(its release is proved and built with .*)";$', source, re.M)[1]
     number = (TOP / "VERSION").read_text().strip()
-    return f"flowshop {number}, certificates of versions 1 and 2, two-ended certificates of version 1; {kit}\n"
+    texts = "certificates of versions 1 and 2, two-ended and counted certificates of version 1"
+    return f"flowshop {number}, {texts}; {kit}\n"
 
 
 def multiplied(name, factor):
@@ -212,6 +239,10 @@ CASES["certify"] = [
         text_of("two-ended 1", "3 3", "10 13", [2, 1, 3], "").decode()),
     Run("certify three_machines.txt 1 --time-limit 4294967295(| --workers 2)", expected("two_ended")),
     Run("certify stdin 1 --rounds 0 --seed 2147483646", expected("two_ended"), stdin="three_machines.txt"),
+    Run("certify three_machines.txt 1 --proof signs", expected("two_ended")),
+    Run("certify three_machines.txt 1 --proof count(| --start start| --workers 2)", expected("counted")),
+    Run("certify three_machines.txt 1 --time-limit 0 --proof count",
+        text_of("counted 1", "3 3", "10 13", [2, 1, 3], "0").decode()),
     # A shop whose empty lists have the least makespan as their bound has no direction.
     Run("certify two_machines.txt 1 --width 0 --rounds 0 --directions 1",
         text_of("two-ended 1", "3 2", "9 9", [2, 3, 1], "").decode()),
@@ -246,6 +277,21 @@ CASES["certify"] = [
     Run("certify ones 1 --width 0 --rounds 0 --directions (1|109600|109600 --workers 3)", of_ones(8, 19, 0)),
     Run("certify ones 1 --work 10 --directions 1", "bounds 19 28\n", keep="certified", view=of_two_ended("ones")),
     Run("check ones 1 (certified|bounds_of_ones)", "bounds 19 28\n"), Run("check ones 1 of_ones", "optimal 28\n"),
+    # The same directions, counted. What one says becomes the other, and a check counts no more than it may.
+    File("counted", of_ones(8, 28, 109_601, "counted 1")),
+    Run("certify ones 1 --width 0 --rounds 0 --proof count(| --workers 3)", of_ones(8, 28, 109_601, "counted 1")),
+    Run("check ones 1 counted(| --most 109601| --optimal| --workers 1| --workers 3| --workers 64 --most 109601)",
+        "optimal 28\n"),
+    Run("signs ones 1 counted", of_ones(8, 28, 109_601)),
+    Run("check ones 1 counted --most (0|109600|109600 --workers 3)", line="refused certificate Most"),
+    *[row for count in (109_600, 109_602) for row in (
+        File("counted", of_ones(8, 28, count, "counted 1")),
+        Run("check ones 1 counted(| --workers 3)", line="refused certificate Tree 5"),
+        Run("signs ones 1 counted", line="refused certificate Tree 5"),
+    )],
+    File("counted", of_ones(8, 29, 109_601, "counted 1")),
+    Run("(check|signs) ones 1 counted", line="refused certificate Low 5"),
+    Run("check ones 1 counted --workers 3", line="refused certificate Low 5"),
     File("ones", ones(10)), File("of_ones", of_ones(10, 30, 9_864_101)),
     Run("certify ones 1 --width 0 --rounds 0(| --workers 4)", sha256(of_ones(10, 30, 9_864_101).encode()), view=sha256),
     Run("check ones 1 of_ones --optimal", "optimal 30\n"), File("ones", ones(13)),
@@ -279,6 +325,28 @@ CASES["check"] = [
     Run("check three_machines.txt 1 bounds( --optimal| --sequence --optimal| --verbose --optimal)",
         line="refused bounds 11 13"),
     Run("check three_machines.txt 1 bounds --verbose --sequence", line="refused command line"),
+    # A counted certificate. What it may state is looked at before it is searched, and the workers before the text.
+    Run("check three_machines.txt 1 counted(| --optimal| --most 2| --workers 64)", "optimal 12\n"),
+    Run("check three_machines.txt 1 counted --verbose", f"optimal 12\n{VERBOSE}nodes 2\nSHA-256 of the certificate "
+        + sha256(FILES["counted"])),
+    Run("check three_machines.txt 1 counted --sequence --optimal", expected("sequence")),
+    Run("check three_machines.txt 1 counted --most (0|1)", line="refused certificate Most"),
+    Run("check three_machines.txt 1 (certificate|two_ended) --most 0 --workers 64", "optimal 12\n"),
+    Run("check three_machines.txt 1 (counted|certificate|start) --workers (0|65)", line="refused option Workers"),
+    Run("check three_machines.txt 2 counted --workers 65", line="refused index"),
+    File("many", text_of("counted 1", "3 3", "12 12", [3, 1, 2], f"{10**10 + 1}")),
+    Run("(check|schedule) three_machines.txt 1 many", line="refused certificate Most"),
+    Run("check three_machines.txt 1 many --most (10000000001|18446744073709551615)",
+        line="refused certificate Tree 5"),
+    # signs takes counted certificates alone, and none with more nodes than signs are written.
+    Run("signs three_machines.txt 1 counted", expected("two_ended")),
+    Run("signs three_machines.txt 1 (certificate|two_ended|start|/dev/null)", line="refused certificate Header"),
+    Run("signs three_machines.txt 1 many", line="refused certificate Most"),
+    File("many", text_of("counted 1", "3 3", "12 12", [3, 1, 2], "999990000")),
+    Run("signs three_machines.txt 1 many", line="refused certificate Tree 5"),
+    File("many", text_of("counted 1", "3 3", "12 12", [3, 1, 2], "999990001")),
+    Run("signs three_machines.txt 1 many", line="refused certificate Most"),
+    Run("check three_machines.txt 1 many", line="refused certificate Tree 5"),
     # Certificates of the greatest size. Line 5 has no sign in one two-ended text, and nothing but signs in the other,
     # which needs two.
     File("long", lambda: [10**9]),
@@ -290,6 +358,18 @@ CASES["check"] = [
     File("long", pieces(b"flowshop two-ended 1\n3 3\n12 12\n3 1 2\n", b"+", 999_999_963)),
     Run("check three_machines.txt 1 long", line="refused certificate Tree 5", most=FOR_CERTIFICATE),
 ]
+# The search of drawn shops, by the plain search of reference.py, which reaches no sequence below these numbers. The
+# upper bound is the makespan of the starting sequence.
+CASES["counted"] = [row for size_, lower in (
+    ((9, 5, 3), 637), ((9, 6, 11), 678), ((9, 6, 11), 660), ((8, 10, 5), 958), ((10, 8, 7), 978), ((10, 8, 7), 950),
+) for row in (
+    Made("shop", f"gen {' '.join(map(str, size_))}"),
+    File("counted", partial(of_search, size_, lower, "counted 1")),
+    Run("check shop 1 counted(| --workers 3)", partial(bounds_of_search, size_, lower)),
+    File("two_ended", partial(of_search, size_, lower, "two-ended 1")),
+    Run("signs shop 1 counted", lambda: pathlib.Path("two_ended").read_text()),
+    Run("check shop 1 two_ended", partial(bounds_of_search, size_, lower)),
+)]
 CASES["solve"] = [
     Run("solve three_machines.txt 1 --depth 0", expected("certificate")),
     Run("solve three_machines.txt 1(| --workers 1| --workers 2| --workers 3| --workers 64)", LEAST_AT_ONE),
@@ -338,7 +418,7 @@ CASES["schedule"] = [
     Run("schedule three_machines.txt 1 start", "job,machine,start,end\n1,1,0,4\n1,2,4,4\n1,3,4,8\n2,1,4,4\n2,2,4,12\n"
         "2,3,12,12\n3,1,4,4\n3,2,12,14\n3,3,14,15\n"),
     Run("check three_machines.txt 1 (certificate|two_ended) --sequence", expected("sequence"), keep="of_check"),
-    Run("schedule three_machines.txt 1 (of_check|certificate|two_ended)", TIMETABLE),
+    Run("schedule three_machines.txt 1 (of_check|certificate|two_ended|counted)", TIMETABLE),
     *[Run("schedule three_machines.txt 1 /dev/stdin", TIMETABLE, stdin=name) for name in ("certificate", "two_ended")],
     Run("solve three_machines.txt 1 --depth 0 --start of_check", TREE.decode().replace("C++.B", "C+AB")),
     Run("schedule three_machines.txt 1 sequence --form svg", "right\n", view=picture_of("times.csv")),
@@ -348,7 +428,7 @@ CASES["schedule"] = [
     File("bounds", "flowshop two-ended 1\n3 3\n11 13\n2 1 3\n-\nend\n"),
     *[Run(f"schedule three_machines.txt 1 {name} --form svg", f"{title}, jobs 3, machines 3\n",
           view=matches("\n<title>([^<]*)")) for name, title in (
-        ("(two_ended|certificate)", "optimal 12"), ("bounds", "makespan 13, lower bound 11"),
+        ("(two_ended|certificate|counted)", "optimal 12"), ("bounds", "makespan 13, lower bound 11"),
         ("sequence", "makespan 12"),
     )],
     # A bar and a time of the greatest shop: 20,800 of them, below 8 MB.
@@ -398,7 +478,8 @@ CASES["the greatest"] = [
 COMMANDS = ("neh two_machines.txt 1", "span two_machines.txt 1 2 3 1", "gen 2 2 1", "solve two_machines.txt 1",
             "--help", "improve two_machines.txt 1", "certify two_machines.txt 1", "certify ones 1 --width 0 --rounds 0",
             "check three_machines.txt 1 certificate", "check three_machines.txt 1 certificate --sequence",
-            "schedule three_machines.txt 1 sequence", "schedule three_machines.txt 1 sequence --form svg")
+            "schedule three_machines.txt 1 sequence", "schedule three_machines.txt 1 sequence --form svg",
+            "signs three_machines.txt 1 counted", "check three_machines.txt 1 counted --workers 2")
 PROGRESS = Run("certify ones 1 --width 0 --rounds 0 --progress", of_ones(8, 28, 109_601))
 # Streams that are full, that are closed, and that do not end. The limit on the size of files has its signal ignored.
 # What certify --progress says changes nothing, also where standard error is closed or full; and a full pipe that nobody
@@ -437,7 +518,7 @@ CASES["streams"] = [
 ]
 # The commands, and command lines that are refused. docs/refusals.md says of some what to write instead.
 CASES["words"] = [
-    Run("(--help|-h|help)", "certify\nspan\ngen\nneh\nimprove\nsolve\ncheck\nschedule\nhelp\n",
+    Run("(--help|-h|help)", "certify\nspan\ngen\nneh\nimprove\nsolve\ncheck\nsigns\nschedule\nhelp\n",
         view=matches("(?m)^  ([a-z]+)  .*")),
     Run("(--version|-V)", version()),
     Run("(|sort|gen 1 1 1 1|gen 1 1 4294967296|mirror two_machines.txt 1|neh two_machines.txt x)",
@@ -446,6 +527,11 @@ CASES["words"] = [
     Run("solve two_machines.txt 1 (--workers -1|--mirrored|--target 9|--start)", line="refused command line"),
     Run("check (two_machines.txt 1|three_machines.txt 1 certificate --either|three_machines.txt certificate)",
         line="refused command line"),
+    Run("check three_machines.txt 1 counted --most(| -1| x| 18446744073709551616| 1 --most 2)",
+        line="refused command line"),
+    Run("(signs three_machines.txt 1|signs three_machines.txt 1 counted --most 2"
+        "|check three_machines.txt 1 counted --proof count)", line="refused command line"),
+    Run("certify three_machines.txt 1 --proof(| sign| Count| count --proof signs)", line="refused command line"),
     Run("certify three_machines.txt(| 1 -o certificate| 1 --output certificate| 1 --time 60| 1 --rounds 1,000"
         "| 1 --bounds| 1 --certificate 1| 1 --mirrored| 1 --progress --progress| 1 --progress=1"
         "| 1 --time-limit 1.5| 1 --time-limit 10s)",

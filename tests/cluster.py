@@ -432,7 +432,7 @@ def stopped_after(tasks, call):
 def resume_runs():
     """Runs that are stopped at drawn moments and gone on with, by a certificate, a state and a file of it: what is kept
     is lawful at each, and the text is that of a run that was not stopped."""
-    draw, ended = random.Random(11), 0
+    draw, ended, stops = random.Random(11), 0, 0
     for shop, choice in drawn_runs():
         if choice["directions"] > 200_000:
             continue
@@ -441,6 +441,7 @@ def resume_runs():
         found = stopped_after(draw.randint(0, 9), lambda: shop.certify(**choice, workers=draw.randint(1, 2)))
         while found.state is not None:
             equal("what a run keeps that is stopped", lawful(shop, found), True)
+            stops += 1
             with tempfile.TemporaryDirectory() as folder:
                 path = pathlib.Path(folder, "state")
                 path.write_bytes(found.state)
@@ -448,7 +449,7 @@ def resume_runs():
                 found = stopped_after(draw.randint(1, 9), lambda: shop.certify(resume=kept, workers=draw.randint(1, 2)))
         ended += 1
         equal(f"the text of {shop!r} with {choice}, gone on with", found.text == wanted.text, True)
-    equal("that there are such runs", ended > 15, True)
+    equal("that there are such runs", (ended >= 20, stops >= 20), (True, True))
 
 
 def set_token():
@@ -666,6 +667,23 @@ def lose_worker():
                 got = type(error).__name__
             equal("the error of a killed process", got, "BrokenProcessPool")
             equal("how soon it comes", time.monotonic() - begun < seconds + 10, True)
+
+
+def drop_calls():
+    """What becomes of calls that nobody waits for: a future that can be released is, also where it cannot be cancelled,
+    and another one is cancelled. Rounds that have ended are none of them."""
+    for names, wanted in [(["cancel"], "cancel"), (["release"], "release"), (["cancel", "release"], "release")]:
+        future = mock.Mock(spec=[*names, "add_done_callback"])
+        calls = _spread.Calls(mock.Mock(**{"submit.return_value": future}), None)
+        calls.begin(first, 1)
+        calls.drop()
+        got = [name for name in names if getattr(future, name).called], len(calls)
+        equal(f"a call that is dropped of a future with {names}", got, ([wanted], 0))
+    start = SOME._in_order()
+    with _spread.Spread(SOME._parts[:3], _spread.Workers(None, 2), int) as spread:
+        waits = [spread.begin("rounds", start, 2, seed, 10**6) for seed in (1, 2)]
+        counts = [(len(spread._ahead), wait().makespan > 0, len(spread._ahead)) for wait in waits]
+    equal("rounds that are waited for", counts, [(2, True, 1), (1, True, 0)])
 
 
 class Faulty:
@@ -1392,9 +1410,9 @@ def use_local():
         interrupt_runs(pool)
         lose_results()
         lose_progress(pool)
-    for part in (lose_worker, stop_threads, use_eight_threads, use_command, use_odd_names, keep_links_and_pipes,
-                 keep_streams, refuse_words, use_terminal, stop_command, stop_at_pipes, write_to_full_pipes,
-                 restore_handler, kill_command, end_writing, use_page):
+    for part in (lose_worker, drop_calls, stop_threads, use_eight_threads, use_command, use_odd_names,
+                 keep_links_and_pipes, keep_streams, refuse_words, use_terminal, stop_command, stop_at_pipes,
+                 write_to_full_pipes, restore_handler, kill_command, end_writing, use_page):
         part()
 
 

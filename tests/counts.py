@@ -21,6 +21,15 @@ os.environ["PYTHONPATH"] = str(TOP / "python")
 counts = {True: 0, False: 0}
 
 
+def reads_counted(program):
+    """Whether a program reads counted certificates. Where it does not, a line says that they are passed over."""
+    text, words = b"flowshop counted 1\n3 3\n0 12\n3 1 2\n0\nend\n", ["check", EXAMPLES / "three_machines.txt", "1"]
+    run = subprocess.run([program, *words, "/dev/stdin"], input=text, capture_output=True, check=False)
+    if run.stdout != b"bounds 0 12\n":
+        print("no counted certificates are read by the program: their runs were passed over")
+    return run.stdout == b"bounds 0 12\n"
+
+
 def optional(name):
     """A package, or None where it is not here."""
     try:

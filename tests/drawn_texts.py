@@ -51,6 +51,11 @@ def two_ended_text(shop, lower, upper, sequence, signs):
     return text_of("two-ended 1", f"{shop[0]} {shop[1]}", f"{lower} {upper}", sequence, signs)
 
 
+def counted_text(shop, lower, upper, sequence, count):
+    """The counted certificate of these bounds and so many nodes."""
+    return text_of("counted 1", f"{shop[0]} {shop[1]}", f"{lower} {upper}", sequence, count)
+
+
 def drawn_directions(draw, search, lower, node=None):
     """Drawn directions that prove a number for a node of a Search; or those up to the first sequence below it, and
     False."""
@@ -182,6 +187,7 @@ def change_lines(draw, text):
 ENDS = [
     (b"\n", b"\r\n"), (b"\n", b"\r"), (b" ", b"  "), (b" ", b"\t"), (b"certificate 1", b"certificate 2"),
     (b"certificate 2", b"certificate 1"), (b"two-ended 1", b"two-ended 2"), (b"two-ended 1", b"certificate 1"),
+    (b"two-ended 1", b"counted 1"), (b"counted 1", b"two-ended 1"), (b"counted 1", b"counted 2"),
     (b"end\n", b"end"), (b"end\n", b"end\n\n"), (b"flowshop", b"\xef\xbb\xbfflowshop"),
 ]
 

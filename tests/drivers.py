@@ -1,10 +1,12 @@
 """tests/drivers.py THREADS CHECKER: one run of certify by all who make it: the program by one thread and by three, the
-example THREADS in C by one and by four, the package by one, by three threads and by two processes. They write one text
-for 40 shops of all sizes, whose searches end within their budgets or not. Then 50 runs that are stopped at drawn
-moments: what each leaves is read by the package, by the program, by the second checker CHECKER, and by the one in plain
-Python. A name that is none is passed over."""
+example THREADS in C by one and by four, the package by one, by three threads, by two processes and by two workers of
+dask, where it is there. They write one text for 40 shops of all sizes, whose searches end within their budgets or not.
+Then 50 runs that are stopped at drawn moments: what each leaves is read by the package, by the program, by the second
+checker CHECKER, and by the one in plain Python. A name that is none is passed over."""
 
 import concurrent.futures
+import contextlib
+import importlib.util
 import random
 import subprocess
 import sys
@@ -39,8 +41,21 @@ def run(*words):
     return subprocess.run([*map(str, words)], stdout=subprocess.PIPE, check=False, timeout=120).stdout
 
 
-def compare_drivers(pool, folder):
-    """The texts of all who make a run."""
+@contextlib.contextmanager
+def dask_client():
+    """A client of two workers of dask on this machine; or none where dask is not there."""
+    if importlib.util.find_spec("distributed") is None:
+        print("no distributed: dask was passed over")
+        yield None
+        return
+    distributed = __import__("distributed")
+    with distributed.LocalCluster(n_workers=2, threads_per_worker=1, dashboard_address=None) as cluster:
+        with distributed.Client(cluster) as client:
+            yield client
+
+
+def compare_drivers(workers, folder):
+    """The texts of all who make a run; the package by these workers, too."""
     over, proved = 0, 0
     for shop, numbers in drawn():
         shop.write(folder / "shop")
@@ -50,8 +65,8 @@ def compare_drivers(pool, folder):
         if THREADS:
             for count in (1, 4):
                 texts[f"C by {count}"] = run(THREADS, folder / "shop", 1, count, *numbers.values())
-        for name, workers in (("one", 1), ("three threads", 3), ("processes", pool)):
-            texts[f"the package by {name}"] = shop.certify(**numbers, workers=workers).text
+        for name, each in {"one": 1, "three threads": 3, **workers}.items():
+            texts[f"the package by {name}"] = shop.certify(**numbers, workers=each).text
         for name, text in texts.items():
             equal(f"the text of {shop!r} with {numbers} by {name}", text == wanted, True)
         found = shop.check(wanted)
@@ -78,8 +93,8 @@ def read_stopped(folder):
 
 
 if __name__ == "__main__":
-    with concurrent.futures.ProcessPoolExecutor(2) as made, new_folder() as place:
+    with concurrent.futures.ProcessPoolExecutor(2) as made, new_folder() as place, dask_client() as dask:
         list(made.map(abs, range(4)))  # its processes start before any thread does
-        compare_drivers(made, place)
+        compare_drivers({"processes": made, **({"dask": dask} if dask else {})}, place)
         read_stopped(place)
     end("drivers")

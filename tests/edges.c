@@ -103,8 +103,8 @@ static struct {
     flowshop_shop shop;
     uint32_t times[MOST_TIMES];
     uint16_t start[MOST_JOBS];
-    uint8_t benchmark[MOST_TEXT], certificate[MOST_TEXT];
-    size_t benchmark_count, certificate_count;
+    uint8_t benchmark[MOST_TEXT], certificate[MOST_TEXT], counted[MOST_TEXT];
+    size_t benchmark_count, certificate_count, counted_count;
     uint64_t upper;
 } of;
 
@@ -131,6 +131,16 @@ static void prepare(uint32_t jobs, uint32_t machines) {
     is("status", flowshop_certify(&of.shop, of.start, jobs, &LITTLE, DIRECTIONS_MOST, &bounds, &text).status, 0);
     of.certificate_count = text.length;
     of.upper = bounds.upper;
+    /* The count is how many bytes line 5 has. */
+    size_t begin = 0, end = 0;
+    for (int line = 0; line < 5; line++) {
+        begin = end;
+        while (of.certificate[end++] != '\n') continue;
+    }
+    flowshop_text counted = {of.counted, MOST_TEXT, 0};
+    called = "run_counted";
+    is("status", flowshop_run_counted(&of.shop, sequence, jobs, bounds.lower, end - begin - 1, &counted).status, 0);
+    of.counted_count = counted.length;
 }
 
 /* --- What is lent --- */
@@ -143,7 +153,7 @@ static struct {
     void *slices[LENGTHS];
     size_t lengths[LENGTHS];
     const flowshop_shop *shop;
-    const uint8_t *benchmark, *certificate;
+    const uint8_t *benchmark, *certificate, *counted;
     const flowshop_effort *effort;
     const flowshop_plan *plan;
     const flowshop_beam_options *beam;
@@ -209,6 +219,7 @@ static void lend_all(const size_t *lengths) {
     lent.node = lend(&node, sizeof node);
     lent.benchmark = lend(of.benchmark, of.benchmark_count);
     lent.certificate = lend(of.certificate, of.certificate_count);
+    lent.counted = lend(of.counted, of.counted_count);
     lent.effort = lend(of.shop.jobs > SMALL ? &LITTLE : &EFFORT, sizeof EFFORT);
     lent.plan = lend(&PLAN, sizeof PLAN);
     lent.beam = lend(&BEAM, sizeof BEAM);
@@ -272,10 +283,13 @@ CALL(picture, flowshop_picture(ON_SHOP, of.upper, lent.text))
 CALL(neh, flowshop_neh(lent.shop, lent.reached))
 CALL(improve, flowshop_improve(ON_SHOP, lent.effort, lent.reached))
 CALL(check, flowshop_check(lent.shop, lent.certificate, of.certificate_count, lent.bounds))
+CALL(check_counted, flowshop_check(lent.shop, lent.counted, of.counted_count, lent.bounds))
+CALL(check_within, flowshop_check_within(lent.shop, lent.counted, of.counted_count, DIRECTIONS_MOST, lent.bounds))
 CALL(solve, flowshop_solve(ON_SHOP, lent.plan, lent.bounds, lent.text))
 CALL(certify, flowshop_certify(ON_SHOP, lent.effort, DIRECTIONS_MOST, lent.bounds, lent.text))
 CALL(run, flowshop_run(ON_SHOP, DIRECTIONS_MOST, 1, lent.run))
 CALL(run_text, flowshop_run_text(ON_SHOP, 5, lent.certificate, of.certificate_count, lent.text))
+CALL(run_counted, flowshop_run_counted(ON_SHOP, 5, 7, lent.text))
 CALL(prove, flowshop_prove(lent.shop, lent.root, of.upper, lent.part))
 CALL(prove_node, flowshop_prove(lent.shop, lent.node, of.upper + 1, lent.part))
 CALL(beam, flowshop_beam(ON_SHOP, lent.beam, lent.reached))
@@ -293,9 +307,11 @@ static const struct call {
     {"makespans", makespans, BIT(SHOP_TIMES) | BIT(STARTS)},
     {"timetable", timetable, READ | BIT(STARTS) | BIT(ENDS)}, {"picture", picture, READ | BIT(TEXT)},
     {"neh", neh, BIT(SHOP_TIMES) | BIT(SEQUENCE)}, {"improve", improve, READ | BIT(SEQUENCE)},
-    {"check", check, BIT(SHOP_TIMES) | BIT(SEQUENCE)}, {"solve", solve, READ | BIT(SEQUENCE) | BIT(TEXT)},
+    {"check", check, BIT(SHOP_TIMES) | BIT(SEQUENCE)}, {"check", check_counted, BIT(SHOP_TIMES) | BIT(SEQUENCE)},
+    {"check_within", check_within, BIT(SHOP_TIMES) | BIT(SEQUENCE)},
+    {"solve", solve, READ | BIT(SEQUENCE) | BIT(TEXT)},
     {"certify", certify, READ | BIT(SEQUENCE) | BIT(TEXT)}, {"run", run, READ},
-    {"run_text", run_text, READ | BIT(TEXT)},
+    {"run_text", run_text, READ | BIT(TEXT)}, {"run_counted", run_counted, READ | BIT(TEXT)},
     {"prove", prove, BIT(SHOP_TIMES) | BIT(SEQUENCE) | BIT(REST)},
     {"prove of a node", prove_node, BIT(SHOP_TIMES) | BIT(SEQUENCE) | BIT(REST)},
     {"beam", beam, READ | BIT(SEQUENCE)}, {"rounds", rounds, READ | BIT(SEQUENCE)}};
@@ -342,12 +358,25 @@ static void too_short(const struct call *call, const size_t *exact) {
     }
 }
 
+/* A certificate that is cut off at the edge, after every so many bytes: the same as where more bytes stand behind. */
+static void check_cut(const uint8_t *text, size_t length, size_t step) {
+    static uint16_t sequence[MOST_JOBS];
+    flowshop_bounds bounds = {sequence, of.shop.jobs, 0, 0};
+    called = "check";
+    for (size_t count = 0; count < length; count += step) {
+        const flowshop_outcome wanted = flowshop_check(&of.shop, text, count, &bounds);
+        const flowshop_outcome outcome = flowshop_check(&of.shop, lend(text, count), count, &bounds);
+        is("status", outcome.status, wanted.status);
+        is("place", outcome.place, wanted.place);
+        is("whether it is refused", outcome.status >= FLOWSHOP_HEADER, 1);
+        give_back();
+    }
+}
+
 /* A text that is cut off at the edge, after every so many bytes: the same as where more bytes stand behind it. */
 static void cut_off(size_t step) {
     static uint32_t times[MOST_TIMES];
-    static uint16_t sequence[MOST_JOBS];
     flowshop_benchmark block = {0, 0, times, MOST_TIMES, 0, 0, 0};
-    flowshop_bounds bounds = {sequence, of.shop.jobs, 0, 0};
     how = "of a text that is cut off";
     for (size_t count = 0; count < of.benchmark_count; count += step) {
         called = "block";
@@ -357,15 +386,8 @@ static void cut_off(size_t step) {
         is("place", outcome.place, wanted.place);
         give_back();
     }
-    for (size_t count = 0; count < of.certificate_count; count += step) {
-        called = "check";
-        const flowshop_outcome wanted = flowshop_check(&of.shop, of.certificate, count, &bounds);
-        const flowshop_outcome outcome = flowshop_check(&of.shop, lend(of.certificate, count), count, &bounds);
-        is("status", outcome.status, wanted.status);
-        is("place", outcome.place, wanted.place);
-        is("whether it is refused", outcome.status >= FLOWSHOP_HEADER, 1);
-        give_back();
-    }
+    check_cut(of.certificate, of.certificate_count, step);
+    check_cut(of.counted, of.counted_count, step);
 }
 
 /* Each request for memory refused in turn, alone or with all behind it; how many calls were refused for it. */

@@ -17,6 +17,7 @@ import re
 import resource
 import subprocess
 import sys
+import threading
 import types
 import warnings
 import xml.etree.ElementTree
@@ -26,7 +27,7 @@ import package_input
 import refusals
 from counts import BLOCKS, EXAMPLES, TOP, called, end, equal, new_folder, optional, refused
 from reference import makespan, of_rows, root_bound
-from refusals import BOUNDS, LEAST, THREE as ROWS, TREE
+from refusals import BOUNDS, COUNTED, LEAST, THREE as ROWS, TREE
 
 import flowshop
 from flowshop import Certificate, FlowshopError, Operation, Shop, Start
@@ -62,7 +63,7 @@ def run_examples():
     runner = doctest.DocTestRunner()
     with new_folder(is_here=True):
         tests = doctest.DocTestFinder(recurse=False).find(flowshop)
-        for name in flowshop.__all__:
+        for name in package_input.PUBLIC:
             found = getattr(flowshop, name)
             tests += doctest.DocTestFinder().find(found, name, False, globs={**vars(flowshop), "shop": SHOP})
             if not (inspect.isclass(found) and FlowshopError in found.__bases__):
@@ -79,7 +80,7 @@ def compare_header():
     """The version is that of the library and of the file VERSION; statuses and limits are those of the header."""
     version = (TOP / "VERSION").read_text().strip()
     equal("the versions", (flowshop.__version__, _library.version()), (version, version))
-    equal("a library of another version", refused(_library.require, "0.0.0"), ImportError)
+    equal("a library of another version", refused(_library.limits_of, "0.0.0"), ImportError)
     numbers = {name: int(number) for name, number in re.findall(r"FLOWSHOP_(\w+) = (\d+)", HEADER)}
     listed = re.findall(r"FLOWSHOP_(\w+)", HEADER.partition("enum flowshop_status {")[2].partition("};")[0])
     equal("the statuses", {0: "DONE", **_library.STATUSES}, {numbers[name]: name for name in listed})
@@ -89,11 +90,16 @@ def compare_header():
     counts = {name: words.count(",") + (words != "void") for name, words in re.findall(form, HEADER, re.MULTILINE)}
     equal("the calls", counts, {name: len(types) for name, types in _library.CALLS.items()})
     equal("that no call has more than seven arguments", max(counts.values()), 7)
-    for name, (least, most) in _options.LIMITS.items():
+    for name, (least, most) in _options.RANGES.items():
         wanted = numbers.get(f"MIN_{name.upper()}", 0 if name in ("width", "rounds", "work", "depth") else 1)
         equal(f"the limits of {name}", (least, most), (wanted, numbers[f"MAX_{name.upper()}"]))
-    got = _options.MOST_TREES, _stack.STACK >= numbers["STACK"], _library.MOST_TIME
+    got = _library.LIMITS.max_prefixes, _stack.STACK >= numbers["STACK"], _library.MOST_TIME
     equal("trees, stack and time", got, (numbers["MAX_PREFIXES"], True, numbers["MAX_TIME"]))
+    most = inspect.signature(Shop.check).parameters["most"].default
+    equal("the nodes of a check", (most, _library.LIMITS.max_nodes), (refusals.MOST_NODES,) * 2)
+    code = (TOP / "crates" / "flow_commands" / "src" / "certify.rt").read_text().replace("_", "")
+    unasked = int(re.search(r"const MOSTUNASKED: usize = (\d+);", code)[1])
+    equal("signs that nobody asked for", [_options.has_signs(None, unasked + more) for more in (0, 1)], [True, False])
 
 
 def make_shops():
@@ -308,14 +314,22 @@ def use_results():
 
 
 def use_texts():
-    """Texts in each form that a check takes, and certificates of both kinds."""
+    """Texts in each form that a check takes, and certificates of each kind."""
     checked = SHOP.check(BOUNDS)
     got = checked.lower, checked.upper, checked.sequence, checked.text, checked.optimal
     equal("bounds", got, (11, 13, (2, 1, 3), BOUNDS, False))
     long = Certificate(1, 2, (1, 2), b"flowshop two-ended 1\n2 1\n1 2\n1 2\n" + b"+" * 10**7 + b"\nend\n")
     for found, wanted in [(checked, "bounds 11 to 13, 1 direction"), (SHOP.check(LEAST), "optimal 12, 2 directions"),
-                          (SHOP.check(TREE), "optimal 12, 1 tree"), (long, "bounds 1 to 2, 10,000,000 directions")]:
+                          (SHOP.check(TREE), "optimal 12, 1 tree"), (long, "bounds 1 to 2, 10,000,000 directions"),
+                          (SHOP.check(COUNTED), "optimal 12, 2 nodes")]:
         equal("what is shown of a certificate", repr(found), f"Certificate({wanted})")
+    for text, wanted in ((BOUNDS, ("two-ended", 1)), (TREE, ("trees", None)), (COUNTED, ("counted", 2))):
+        found = SHOP.check(text)
+        equal("what its text has", (found.kind, found.count), wanted)
+    for line, count in ((b"x", None), (b"", None), (b"1" * 21, 11_111_111_111_111_111_111), (b"7", 7)):
+        unread = Certificate(1, 2, (1, 2), b"flowshop counted 1\n2 1\n1 2\n1 2\n" + line + b"\nend\n")
+        equal(f"the count of {line!r}", (unread.kind, unread.count), ("counted", count))
+    equal("that of no lines", Certificate(1, 2, (1, 2), b"flowshop counted 1").count, None)
     with new_folder() as folder:
         path = folder / "certificate"
         checked.save(path)
@@ -334,6 +348,67 @@ def use_texts():
     found = long.certify(**FEW)
     got = found.lower, found.upper, long.bound(), long.check(found.text)
     equal("bounds that are certified", got, (25, 34, 25, found))
+
+
+def use_counts():
+    """Certificates with signs and with a count: what is asked for, what is left out, and what a check of them does."""
+    asked = {proof: SHOP.certify(proof=proof, **FEW) for proof in (None, "signs", "count")}
+    kinds = {proof: (found.kind, found.count, found.lower, found.upper) for proof, found in asked.items()}
+    signs = "two-ended", 2, 12, 12
+    equal("what a proof is", kinds, {None: signs, "signs": signs, "count": ("counted", 2, 12, 12)})
+    wanted = COUNTED.replace(b"3 1 2", " ".join(map(str, asked["count"].sequence)).encode())
+    equal("a counted certificate", asked["count"].text, wanted)
+    with mock.patch.object(_options, "_MOST_UNASKED", 1):
+        unasked = SHOP.certify(**FEW)
+    equal("where there are more than are written unasked", unasked, asked["count"])
+    for more in ({"time_limit": 9}, {"workers": 3}, {"token": threading.Event()}):
+        equal(f"a count with {[*more]}", SHOP.certify(proof="count", **FEW, **more).text, wanted)
+    for value in ("sign", "Count", 1, True, b"count"):
+        sentence = f"proof is {value!r}, and has to be 'signs' or 'count', or None"
+        got = refused(SHOP.certify, proof=value, **FEW)
+        equal(f"a proof as {value!r}", got, ("OptionError", "PROOF", 0, sentence))
+    for most, wanted in [(2, 12), (2**64 - 1, 12), (1, "MOST"), (0, "MOST")]:
+        got = refused(Shop.from_jobs(ROWS).check, COUNTED, most=most)
+        equal(f"{most} nodes", got[1] if isinstance(got, tuple) else got.upper, wanted)
+        got = [SHOP.check(text, most=most).upper for text in (LEAST, TREE, BOUNDS)]
+        equal("those of other texts", got, [12, 12, 13])
+    sentence = "line 5 is '2', how many nodes the search opens, and this check opens 1 at most; "
+    sentence += "a greater most allows more, and takes longer"
+    equal("what is said of too many", refused(SHOP.check, COUNTED, most=1), ("NotLawful", "MOST", 5, sentence))
+    for most, said in ((-1, "-1"), (2**64, "18,446,744,073,709,551,616"), (1.5, "1.5")):
+        sentence = f"most is {said}, and has to be a whole number from 0 to 18,446,744,073,709,551,615"
+        equal(f"most as {most}", refused(SHOP.check, COUNTED, most=most), ("OptionError", "MOST", 0, sentence))
+    check_once(asked["count"])
+    hard, token = Shop.generate(20, 20, 1), threading.Event()
+    token.set()
+    goes_on = hard.certify(proof="count", token=token)
+    equal("a run that was stopped", (goes_on.kind, goes_on.state is None), ("counted", False))
+    equal("its check", hard.check(goes_on), goes_on)
+    for proof, kind in ((None, "two-ended"), ("count", "counted")):
+        equal("one that goes on", hard.certify(resume=goes_on, proof=proof, token=token).kind, kind)
+    got = [refused(SHOP.certify, resume=given)[:2] for given in (asked["count"], COUNTED)]
+    equal("a text in the place of a state", got, [("OptionError", "RESUME")] * 2)
+
+
+def check_once(found):
+    """The last counted certificate is searched for once, by whatever asks for it; another shop searches for itself."""
+    shop, call = Shop.from_jobs(ROWS), _library._CALLS["check_within"]
+    keep = mock.Mock(side_effect=call)
+    with mock.patch.dict(_library._CALLS, check_within=keep):
+        for most in (None, 2, 10):
+            equal("a check", shop.check(found, **({} if most is None else {"most": most})), found)
+        equal("a picture", "optimal 12" in shop.gantt(found), True)
+        equal("a timetable", shop.schedule(found).lower, 12)
+        equal("a report", "this one is optimal" in shop.report(found), True)
+        equal("how often it is searched for", keep.call_count, 1)
+        equal("one that is searched for no more", refused(shop.check, found, most=1)[1], "MOST")
+        other = found.text.replace(b"\n2\nend", b"\n3\nend")
+        equal("another count", refused(shop.check, other)[:3], ("NotLawful", "TREE", 5))
+        equal("how often, with both", keep.call_count, 3)
+        for _ in range(2):
+            equal("one with signs", shop.check(LEAST).upper, 12)
+        equal("how often, with signs", keep.call_count, 5)
+        equal("another shop", refused(Shop.from_jobs([[1] * 3] * 3).check, found)[1], "NOT_ATTAINED")
 
 
 def draw_timetables():
@@ -630,12 +705,15 @@ def check_bounds():
 
 def refuse_texts():
     """Texts that are no lawful certificate, with the line at fault; and lawful ones of other shops."""
-    lines = {"HEADER": 1, "SIZE": 2, "VALUE": 3, "SEQUENCE": 4, "NOT_ATTAINED": 4}
-    for rows, text, line, sentence in refusals.checks():
-        got = refused(Shop.from_jobs(rows).check, text)
+    lines = {"HEADER": 1, "SIZE": 2, "SEQUENCE": 4, "NOT_ATTAINED": 4, "MOST": 5}
+    counted = [(rows, text, line, "", most) for rows, text, most, line in refusals.counted_checks()]
+    for rows, text, line, sentence, most in [*[(*each, None) for each in refusals.checks()], *counted]:
+        got = refused(Shop.from_jobs(rows).check, text, **({} if most is None else {"most": most}))
         if isinstance(got, tuple):
             name, place = refusals.name_of(line)
-            got, wanted = (*got[:3], got[3][: len(sentence)]), ("NotLawful", name, lines.get(name, place), sentence)
+            at = {3, 5} & {got[2]} if name == "VALUE" else {lines.get(name, place)}
+            equal(f"the line of {name}", got[3].startswith(f"line {got[2]} ") or name == "END", True)
+            got, wanted = (*got[:2], {got[2]}, got[3][: len(sentence)]), ("NotLawful", name, at, sentence)
         else:
             _, lower, *upper = line.split()
             got, wanted = (got.lower, got.upper), (int(lower), int(*upper or [lower]))
@@ -671,7 +749,7 @@ def refuse_options():
     """Numbers that the calls do not take, each with its limits."""
     for call, options in OPTIONS:
         for name in options:
-            least, most = _options.LIMITS[name]
+            least, most = _options.RANGES[name]
             for value, shown in [(least - 1, f"{least - 1}"), (most + 1, f"{most + 1:,}"), (2**32, "4,294,967,296"),
                                  (1.5, "1.5"), (None, "None"), ("3", "'3'")]:
                 sizes = {"jobs": 1, "machines": 1, "seed": 1} if call == Shop.generate else {}
@@ -757,6 +835,18 @@ def search_parts():
     equal("directions", SHOP.prove(12, budget=2).directions, signs)
     equal("a sequence below the number", (below.sequence, below.value), ((3, 1, 2), 12))
     equal("a search over its budget", (over.directions, len(over.parts) > 0), (signs[:1], True))
+    # The bound of the shop is 10: machine 2 takes 0 + 8 + 2, with nothing before its first job and after its last one.
+    proved = [SHOP.prove(12), SHOP.prove(12, time_limit=9), SHOP.prove(15, front=[1, 2])]
+    equal("lower bounds of proofs", [each.lower for each in proved], [12, 12, 15])
+    others = below, over, SHOP.prove(12, time_limit=9, budget=1)
+    equal("those of what proves less", [each.lower for each in others], [10] * 3)
+    known = [[hasattr(each, name) for each in (proved[0], over)] for name in ("value", "upper", "gap")]
+    equal("that they have no makespan", known, [[False, False]] * 3)
+    # Door first: 1 and then 2 on Drill, which Shelf needs from 4 to 11; Shelf first: Drill ends at 12.
+    plan = flowshop.Plan.of([["Order", "Saw", "Drill"], ["Shelf", 3, 7], ["Door", 1, 2]])
+    equal("a plan", (plan.value, plan.lower, plan.upper, plan.gap), (11, 11, 11, 0.0))
+    few = flowshop.Plan(SHOP, SHOP.check(BOUNDS), None, "")
+    equal("one with a gap", (few.value, few.lower, few.upper, round(few.gap, 3)), (13, 11, 13, 0.154))
     node = SHOP.prove(14, front=[2, 1], back=[3], budget=0)
     equal("a node of three jobs", (node.sequence, node.value, node.directions), ((2, 1, 3), 13, b""))
     shop = _parts.Instance(*SHOP._parts[:3])
@@ -806,6 +896,7 @@ def keep_errors():
         got = type(kept), str(kept), kept.name, kept.place, isinstance(error, FlowshopError)
         equal(f"a kept {name}", got, (type(error), "a sentence", "JOB", (2, 3), True))
         equal(f"the base of {name}", isinstance(error, ValueError), True)
+        equal(f"the module that {name} names", type(error).__module__, "flowshop")
     kept = pickle.loads(pickle.dumps(flowshop.Interrupted(SHOP.neh())))
     got = type(kept), kept.result, str(kept), isinstance(kept, KeyboardInterrupt)
     equal("an interrupt", got, (flowshop.Interrupted, SHOP.neh(), "Start(makespan 13: 2, 1, 3)", True))
@@ -815,7 +906,7 @@ if __name__ == "__main__":
     # A warning of the package is an error.
     warnings.filterwarnings("error", module="flowshop")
     for part in (run_examples, compare_header, make_shops, compare_shops, use_names, escape_names, use_arrays,
-                 use_frames, use_results, use_texts, draw_timetables, use_files, use_labels, refuse_labels,
+                 use_frames, use_results, use_texts, use_counts, draw_timetables, use_files, use_labels, refuse_labels,
                  refuse_files, refuse_tables, refuse_sequences, check_bounds, refuse_texts, pass_options,
                  refuse_options, compare_page, keep_rooms, search_parts, keep_stacks, keep_errors,
                  compare_random_shops, *package_input.PARTS):

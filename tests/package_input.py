@@ -36,6 +36,7 @@ from flowshop.__main__ import main
 numpy, pandas, sparse = map(optional, ("numpy", "pandas", "scipy.sparse"))
 
 SHOP = Shop.from_jobs(ROWS)
+PUBLIC = [name for name in vars(flowshop) if name[0] != "_"]
 WHOLE = "and has to be a whole number"
 UNIT = f"{WHOLE}; choose a unit in which all are whole, and convert them to int"
 SCALED = "or give scale={}, by which all are multiplied"
@@ -488,15 +489,22 @@ def test_plots():
 
 
 def test_help():
-    """The page of help has each public name, and nothing that Python gives to every text and every error."""
-    page = pydoc.plain(pydoc.render_doc(flowshop))
-    kinds = Shop, flowshop.Certificate, flowshop.Timetable
-    wanted = [name for kind in kinds for name in vars(kind) if name[0] != "_"]
-    equal("what help leaves out", [name for name in wanted + flowshop.__all__ if name not in page], [])
-    equal("what help has too much", [name for name in ("casefold", "with_traceback", "zfill") if name in page], [])
-    equal("that help is short", page.count("\n") < 1200, True)
+    """The page of help of the package is an overview with each public name and all errors; that of a class has all that
+    is public, and nothing that Python gives to every text and every error."""
+    page, pages = pydoc.plain(pydoc.render_doc(flowshop)), ""
+    equal("what help leaves out", [name for name in PUBLIC if not re.search(rf"\b{name}\b", page)], [])
+    equal("that help is short", page.count("\n") < 400, True)
+    overview = page.partition("PACKAGE CONTENTS")[0]
+    got = overview.count("\n") < 40, "help(flowshop.Shop)" in overview
+    equal("that it begins with an overview", got, (True, True))
+    for kind in (getattr(flowshop, name) for name in PUBLIC):
+        pages += (own := pydoc.plain(pydoc.render_doc(kind)))
+        wanted = [name for name in vars(kind) if name[0] != "_"] if isinstance(kind, type) else []
+        equal(f"what help of {kind.__name__} leaves out", [name for name in wanted if name not in own], [])
+    too_much = [name for name in ("casefold", "with_traceback", "zfill") if name in page + pages]
+    equal("what help has too much", too_much, [])
     equal("that objects have all names", {"casefold", "save"} <= set(dir(SHOP.gantt([1, 2, 3]))), True)
-    texts = [re.sub(r"[\s|]+", " ", page), *said_texts()]
+    texts = [re.sub(r"[\s|]+", " ", page + pages), *said_texts()]
     named = [found for text in texts for found in re.findall(r"(?:docs|examples|library)/[\w.]+.{0,13}", text)]
     equal("files that no wheel has", [each for each in named if not each.endswith(" in the clone")], [])
 

@@ -89,13 +89,13 @@ def proved_by_trees(shop, text):
     return value, value, sequence
 
 
-def proved(shop, text):
-    """The bounds and the sequence of a text, which is read as two-ended as examples/python/check_two_ended.py reads it.
-    Refused where it is no certificate."""
-    if not text.startswith(b"flowshop two-ended 1\n"):
+def proved(shop, text, most=check_two_ended.MOST):
+    """The bounds and the sequence of a text, which is read as two-ended, or as counted with at most so many nodes, as
+    examples/python/check_two_ended.py reads it. Refused where it is no certificate."""
+    if not text.startswith((b"flowshop two-ended 1\n", b"flowshop counted 1\n")):
         return proved_by_trees(shop, text)
     try:
-        return check_two_ended.check(rows_of(shop), text)
+        return check_two_ended.check(rows_of(shop), text, most)
     except check_two_ended.Fault as fault:
         raise Refused(f"refused certificate {fault}") from None
 
@@ -105,10 +105,10 @@ def bounds_line(lower, upper):
     return f"optimal {upper}" if lower == upper else f"bounds {lower} {upper}"
 
 
-def reading(shop, text):
-    """What a check of a text should print."""
+def reading(shop, text, most=check_two_ended.MOST):
+    """What a check of a text should print, where a counted one has at most so many nodes."""
     try:
-        return bounds_line(*proved(shop, text)[:2])
+        return bounds_line(*proved(shop, text, most)[:2])
     except Refused as refused:
         return str(refused)
 

@@ -17,9 +17,11 @@ static const flowshop_answer ANSWER = {FLOWSHOP_OVER, 0, 0, 0};
 static const flowshop_searched SEARCHED = {1, 1, 0};
 static const char BLOCK[] = "one\n2 2 5 9 8\ntimes\n1 14\n75 46\n";
 static const char CERTIFICATE[] = "flowshop two-ended 1\n3 3\n12 12\n3 1 2\n-+\nend\n";
+static const char COUNTED[] = "flowshop counted 1\n3 3\n12 12\n3 1 2\n2\nend\n";
 
 /* Lists and texts that calls write to, and records of them. */
 struct rooms {
+    flowshop_limit_numbers limits;
     uint64_t makespan, starts[9], ends[9];
     uint32_t times[9];
     uint16_t sequence[3], rest[28];
@@ -71,9 +73,11 @@ static void made(const char *name, flowshop_outcome outcome) {
 int main(void) {
     const flowshop_node root = flowshop_root();
     const uint8_t *block = (const uint8_t *)BLOCK, *certificate = (const uint8_t *)CERTIFICATE;
+    const uint8_t *counted = (const uint8_t *)COUNTED;
     if (flowshop_version() != FLOWSHOP_LIBRARY_VERSION) return 1;
     /* The first one tests the processor. It takes arguments in all places in which they are handed over. */
     MAKE(certify, &SHOP, START, 3, &EFFORT, 1000, &rooms.bounds, &rooms.text);
+    MAKE(limits, &rooms.limits);
     MAKE(generate, 3, 3, 1, rooms.times, 9);
     MAKE(block, block, sizeof BLOCK - 1, 1, &rooms.block);
     MAKE(makespan, &SHOP, START, 3, &rooms.makespan);
@@ -83,6 +87,7 @@ int main(void) {
     MAKE(neh, &SHOP, &rooms.reached);
     MAKE(improve, &SHOP, START, 3, &EFFORT, &rooms.reached);
     MAKE(check, &SHOP, certificate, sizeof CERTIFICATE - 1, &rooms.bounds);
+    MAKE(check_within, &SHOP, counted, sizeof COUNTED - 1, 2, &rooms.bounds);
     MAKE(solve, &SHOP, START, 3, &PLAN, &rooms.bounds, &rooms.text);
     MAKE(prove, &SHOP, &root, 12, &rooms.part);
     MAKE(run, &SHOP, START, 3, 1000, 0, &rooms.run);
@@ -90,6 +95,7 @@ int main(void) {
     MAKE(run_next, &rooms.run, &EFFORT, &rooms.task);
     MAKE(run_put, &rooms.run, &TASK, &ANSWER, &rooms.better);
     MAKE(run_text, &SHOP, START, 3, 10, certificate, 0, &rooms.text);
+    MAKE(run_counted, &SHOP, START, 3, 10, 0, &rooms.text);
     MAKE(search, 9, rooms.places, 2, &rooms.search);
     search = rooms.search;
     memcpy(places, rooms.places, sizeof places);

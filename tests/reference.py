@@ -150,6 +150,13 @@ class Search:
         return text, None
 
 
+class PlainSearch(Search):
+    """The search by the plain rule, without the look-ahead."""
+
+    def weight(self, number, children):
+        return 0
+
+
 def bound(node):
     """The bound of a node."""
     return max(map(sum, zip(node.front, node.owed, node.back)))

@@ -76,6 +76,7 @@ _WORD = f"{_ROW}, or this line does not begin with a digit; {_TABLES}"
 _OTHER = "this text begins as a certificate does, and the file of the shop is wanted here"
 BOUNDS = b"flowshop two-ended 1\n3 3\n11 13\n2 1 3\n-\nend\n"
 LEAST = b"flowshop two-ended 1\n3 3\n12 12\n3 1 2\n++\nend\n"
+COUNTED = b"flowshop counted 1\n3 3\n12 12\n3 1 2\n2\nend\n"
 TREE = b"flowshop certificate 1\n3 3 0\n12\n3 1 2\n+BC++.B\nend\n"
 CUT = b"flowshop certificate 1\n3 3 1\n12\n3 1 2\nB\nC\n++.B\nend\n"
 _BLOCK = b"a\n1 1 0 0 0\nb\n"
@@ -114,7 +115,7 @@ TEXTS = [
 
 _CHANGED = "the text was cut off or changed, or is of another shop"
 _SPAN = f"a sequence of another makespan than line 3 says; {_CHANGED}"
-_END = "what follows the last tree, or the directions, is not the line"
+_END = "what follows the last tree, the directions or the number of nodes is not the line"
 _PROOF = "which is not one whole proof"
 # Changes of these texts: what is put in the place of some bytes, and the first fault then.
 CHANGES = [
@@ -210,6 +211,83 @@ OTHERS = [
     (UNEVEN, _great("certificate 1", " 3", SPAN, "Z", sequence=_LAST), "refused certificate Weak 5"),
     (UNEVEN, _great("certificate 2", " 3", SPAN, "Z", sequence=_LAST), "refused certificate Weak 5"),
 ]
+
+# --- Counted certificates ---
+
+MOST_NODES = 10_000_000_000
+# Changes of the text COUNTED: what is put in the place of some bytes, the most nodes that a check may open where it is
+# named, and the first fault then, or the bounds. The search below 10 opens no node of the shop, that below 11 one, that
+# below 12 two; that below 13 opens three, and meets the sequence 3 1 2.
+_COUNTED = [
+    (b"", b"", None, "12 12"), (b"", b"", 2, "12 12"), (b"", b"", MOST, "12 12"),
+    (b"", b"", 1, "Most"), (b"", b"", 0, "Most"),
+    (b"12 12\n3 1 2\n2", b"11 13\n2 1 3\n1", 1, "11 13"), (b"12 12\n3 1 2\n2", b"11 13\n2 1 3\n1", 0, "Most"),
+    (b"12 12\n3 1 2\n2", b"11 13\n2 1 3\n0", 0, "Tree 5"), (b"12 12\n3 1 2\n2", b"11 13\n2 1 3\n2", 2, "Tree 5"),
+    (b"12 12\n3 1 2\n2", b"10 12\n3 1 2\n0", 0, "10 12"), (b"12 12\n3 1 2\n2", b"10 12\n3 1 2\n1", None, "Tree 5"),
+    (b"12 12\n3 1 2\n2", b"0 12\n3 1 2\n0", None, "0 12"), (b"12 12", b"11 12", None, "Tree 5"),
+    (b"\n2\n", b"\n0\n", None, "Tree 5"), (b"\n2\n", b"\n1\n", None, "Tree 5"), (b"\n2\n", b"\n3\n", None, "Tree 5"),
+    (b"\n2\n", b"\n%d\n" % MOST_NODES, None, "Tree 5"), (b"\n2\n", b"\n%d\n" % (MOST_NODES + 1), None, "Most"),
+    (b"\n2\n", b"\n%d\n" % MOST, MOST - 1, "Most"), (b"\n2\n", b"\n%d\n" % MOST, MOST, "Tree 5"),
+    (b"\n2\n", b"\n%d\n" % (MOST + 1), MOST, "Value"), (b"\n2\n", b"\n02\n", 0, "Value"),
+    (b"\n2\n", b"\n\n", None, "Value"), (b"\n2\n", b"\n+2\n", None, "Value"), (b"\n2\n", b"\n-2\n", None, "Value"),
+    (b"\n2\n", b"\n 2\n", None, "Value"), (b"\n2\n", b"\n2 \n", None, "Value"), (b"\n2\n", b"\n2 2\n", None, "Value"),
+    (b"\n2\n", b"\n2\r\n", None, "Value"), (b"\n2\n", b"\n++\n", None, "Value"), (b"\n2\n", b"\n\xb2\n", None, "Value"),
+    (b"\n2\n", b"\n2" + b"0" * MEGABYTE + b"\n", None, "Value"), (b"\n2\nend\n", b"\n2", None, "Value"),
+    (b"2\nend\n", b"", None, "Value"), (b"12 12\n3 1 2\n2", b"13 12\n3 1 2\n2", 2, "Tree 5"),
+    (b"12 12\n3 1 2\n2", b"13 12\n3 1 2\n3", 3, "Low 5"), (b"12 12\n3 1 2\n2", b"13 12\n3 1 2\n4", None, "Low 5"),
+    (b"12 12\n3 1 2\n2", b"13 12\n3 1 2\n3", 2, "Most"),
+    (b"12 12\n3 1 2\n2", b"%d 12\n3 1 2\n0" % MOST, None, "Tree 5"),
+    (b"12 12\n3 1 2\n2", b"%d 12\n3 1 2\n%d" % (MOST, MOST), MOST, "Low 5"),
+    (b"\nend\n", b"\nend", None, "End"), (b"\nend\n", b"\n", None, "End"), (b"\nend\n", b"\nend\n\n", None, "End"),
+    (b"\n2\nend\n", b"\n1\nEnd\n", None, "Tree 5"), (b"\n2\nend\n", b"\n2\nEnd\n", 1, "Most"),
+    (b"counted 1", b"counted 2", None, "Header"), (b"counted 1", b"counted 1 ", None, "Header"),
+    (b"counted 1", b"counted", None, "Header"), (b"3 3", b"3 2", None, "Size"), (b"3 3", b"3 3 0", None, "Size"),
+    (b"12 12", b"12", None, "Value"), (b"12 12", b"%d 12" % (MOST + 1), None, "Value"),
+    (b"12 12", b"12 012", None, "Value"), (b"3 1 2", b"3 1 1", None, "Sequence"), (b"3 1 2", b"3 1", None, "Sequence"),
+    (b"12 12", b"12 13", None, "NotAttained"), (b"3 1 2\n2", b"1 2 3\n2", 0, "NotAttained"),
+]
+
+
+def _alike(rows, span, most=None):
+    """Rows of a shop whose sequences all have this makespan, which is its bound with no job put; those with at most so
+    many nodes. A search below more opens the node of no list and one for each job but the last, and meets a sequence.
+    """
+    jobs, sizes = range(1, len(rows) + 1), f"{len(rows)} {len(rows[0])}"
+    for lower, count, said in (
+        (span, 0, f"{span} {span}"), (span, 1, "Tree 5"), (0, 0, f"0 {span}"), (span + 1, len(rows), "Low 5"),
+        (span + 1, len(rows) - 1, "Tree 5"), (MOST, len(rows), "Low 5"), (MOST, 0, "Tree 5"),
+    ):
+        if most is None or count <= most:
+            yield rows, sizes, f"{lower} {span}", jobs, count, said
+
+
+# What is said of counted texts of other shops, with no most nodes named: the shop, sizes and numbers, a sequence, the
+# count, and the first fault or the bounds. In the first shop the search below 10 opens the nodes of no list, of 2 and
+# of 2 1, and meets 2 1 3.
+_COUNTED_OTHERS = [
+    (TWO, "3 2", "9 9", [2, 3, 1], 0, "9 9"), (TWO, "3 2", "9 9", [2, 3, 1], 1, "Tree 5"),
+    (TWO, "3 2", "10 9", [2, 3, 1], 3, "Low 5"), (TWO, "3 2", "10 9", [2, 3, 1], 2, "Tree 5"),
+    *_alike([[0]] * 4, 0), *_alike(GREAT, SPAN, most=1),
+    (GREAT, "800 26", f"{SPAN + 1} {SPAN}", range(1, 801), 0, "Tree 5"),
+    (GREAT, "800 26", f"{SPAN} {SPAN}", range(1, 801), MOST_NODES + 1, "Most"),
+]
+for _time in (7, 8_191, 10_922, 12_000, 16_383, 16_384, 32_766, 32_767, TIME):
+    _COUNTED_OTHERS += [*_alike([[_time]], _time), *_alike([[_time] * 2] * 2, 3 * _time)]
+for _machines in (5, 6, 10, 11, 20, 21, 26):
+    _COUNTED_OTHERS += _alike([[0] * (_machines - 1) + [5]] * 3, 15)
+
+
+def counted_checks():
+    """What a check says of counted certificates: the shop, the text, the most nodes or None, and the line."""
+    rows = [(THREE, COUNTED.replace(old, new, 1), most, said) for old, new, most, said in _COUNTED]
+    rows += [(shop, text_of("counted 1", sizes, values, jobs, count), None, said)
+             for shop, sizes, values, jobs, count, said in _COUNTED_OTHERS]
+    for shop, text, most, said in rows:
+        if said[0].isalpha():
+            yield shop, text, most, f"refused certificate {said}"
+        else:
+            lower, upper = said.split()
+            yield shop, text, most, f"optimal {upper}" if lower == upper else f"bounds {lower} {upper}"
 
 
 def checks():

@@ -1,7 +1,7 @@
 """Texts that several tests read, which were worked out apart from the program: by hand in docs/formats.md, by
 bench/plain.rs, and by bench/improve.rs. They stand beside the files of examples/ where tests/program runs."""
 
-from refusals import LEAST, TREE, text_of
+from refusals import COUNTED, LEAST, TREE, text_of
 
 _TREES = ("C C D D D D D C C C C C C C C C C C C C C C B B C C C C D C D D D D D D C C C C D D "
           "+CC+BCCC+BCD+ABDD+CC+BBCC++C+BA++.A++BD+BDD+BC+A+.DDD C C C D ++CC+BBCCD++CAC++AC+ADD+ABDDCCCDD D D D D D "
@@ -17,7 +17,7 @@ def _several(index, sizes, value, sequence, trees):
 
 FILES = {
     "sequence": b"sequence 3 1 2\nmakespan 12\n", "start": b"sequence 1 2 3\nmakespan 15\n", "certificate": TREE,
-    "two_ended": LEAST, "improved_100_5": f"{_SEQUENCE}\nmakespan 5206\n".encode(),
+    "two_ended": LEAST, "counted": COUNTED, "improved_100_5": f"{_SEQUENCE}\nmakespan 5206\n".encode(),
     **_several("1", "5 3 1", 303, "1 2 4 3 5", "++B+BA+CAB++BACB++CACB ++B+BA+CABBB B B B"),
     **_several("2", "8 4 1", 421, "7 1 6 5 4 8 3 2",
                "D C C C D D ++CC+BCCC+BCD+ABDD+CC+BBCC++C+BA++.A++BD+BDD+BC+A+.DDDCCCCDD D"),

@@ -20,7 +20,7 @@ from ._files import (
     works_of
 )
 from ._meter import Meter
-from ._options import OF_PARTS
+from ._options import OF_PARTS, Proof
 from ._rows import Row, Table
 from ._saving import target_of
 from ._spread import Workers
@@ -61,17 +61,21 @@ def words(parsers: "argparse._SubParsersAction[argparse.ArgumentParser]") -> Non
     for name, default in _EFFORT.items():
         about = f"as of Shop.certify; else {default}"
         parser.add_argument(f"--{name}", type=int, default=default, metavar="N", help=about)
+    proof = "what each certificate has: a sign for each direction, or their count; else signs, since a count is tested "
+    proof += "by a search, which a run that goes on would make again"
+    parser.add_argument("--proof", choices=("signs", "count"), default="signs", help=proof)
     parser.set_defaults(run=run)
 
 
 class _Search(NamedTuple):
-    """How blocks are searched: by whom, from which starts, by the path of the certificate, with which numbers, and the
-    lines that say how far it has come."""
+    """How blocks are searched: by whom, from which starts, by the path of the certificate, with which numbers and which
+    proof, and the lines that say how far it has come."""
 
     workers: Workers
     starts: Dict[Path, bytes]
     effort: Effort
     directions: int
+    proof: Proof
     time_limit: Optional[float]
     lines: Lines
 
@@ -132,7 +136,7 @@ def _certified(work: Work, search: _Search) -> Row:
     watch = Watch(search.time_limit, lambda progress: search.lines(f"{work.file} {work.block}: {progress}"))
     start, workers = search.starts.get(work.path), search.workers._replace(meter=meter)
     state = work.shop._begin(start, search.effort, search.directions, watch.is_limited)
-    found = work.shop._certify(state, workers, watch)
+    found, _ = work.shop._certify(state, workers, watch, search.proof)
     times = meter.seconds(), time.monotonic() - begun
     save_certificate(work.path, found.text)
     return row_of(work, found, times)
@@ -239,7 +243,7 @@ def run(options: argparse.Namespace) -> int:
     try:
         with _one_interrupt(), _workers(options.executor, count) as workers, closing(Lines(sys.stderr)) as lines:
             table = Table(PROVED, options.files, options, sys.stdout)
-            _all_certified(works, table, _Search(workers, starts, effort, directions, limit, lines))
+            _all_certified(works, table, _Search(workers, starts, effort, directions, options.proof, limit, lines))
     except (BrokenExecutor, CancelledError) as error:
         Lines(sys.stderr).keep(f"flowshop: a worker has ended: {error}")
         return 1

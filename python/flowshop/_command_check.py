@@ -6,7 +6,9 @@ import sys
 from typing import Optional
 
 from ._errors import FlowshopError
-from ._files import PROVED, WordError, Work, row_of, words_of_blocks, works_of
+from ._files import PROVED, WordError, Work, row_of, whole_of, words_of_blocks, works_of
+from ._library import LIMITS
+from ._options import OF_PARTS
 from ._results import Certificate
 from ._rows import Table, tables_of
 from ._waiting import Lines
@@ -19,13 +21,15 @@ def words(parsers: "argparse._SubParsersAction[argparse.ArgumentParser]") -> Non
     words_of_blocks(parser)
     optimal = "refuse each text that does not prove a least makespan: one whose bounds differ"
     parser.add_argument("--optimal", action="store_true", help=optimal)
+    most = f"refuse each counted certificate of more nodes before its search; else of more than {LIMITS.max_nodes:,}"
+    parser.add_argument("--most", type=int, default=LIMITS.max_nodes, metavar="N", help=most)
     parser.set_defaults(run=run)
 
 
-def _found(work: Work, is_optimal: bool) -> Certificate:
+def _found(work: Work, is_optimal: bool, most: int) -> Certificate:
     """What the certificate of a block proves. FlowshopError where it is not lawful, or is to prove a least makespan and
     does not; OSError where it is not read."""
-    found = work.shop.check(work.path)
+    found = work.shop.check(work.path, most=most)
     if is_optimal and not found.optimal:
         raise FlowshopError("BOUNDS", 0, f"refused bounds {found.lower} {found.upper}")
     return found
@@ -47,6 +51,7 @@ def _worth(work: Work, found: Certificate) -> Optional[str]:
 def run(options: argparse.Namespace) -> int:
     """Runs the command. Its status is 1 where a certificate is refused, or not there; then no file of a table is
     written, so that none lacks a row."""
+    most = whole_of("most", options.most, OF_PARTS)
     works = works_of(options)
     if not os.path.isdir(options.out):
         raise WordError(f"--out is {options.out}, and there is no such folder")
@@ -54,7 +59,7 @@ def run(options: argparse.Namespace) -> int:
     status = 0
     for work in works:
         try:
-            found = _found(work, options.optimal)
+            found = _found(work, options.optimal, most)
             table.add(row_of(work, found))
             worth = _worth(work, found)
             if worth:

@@ -49,7 +49,8 @@ class NotASequence(FlowshopError):
 
 class NotLawful(FlowshopError):
     """A text that is no lawful certificate of the shop: HEADER, SIZE, VALUE, SEQUENCE, NOT_ATTAINED, TREE, WEAK, LOW or
-    END; or a file that has too many bytes for one: TOO_LONG."""
+    END; one that may be lawful, but states more nodes than the check may open: MOST; or a file that has too many bytes
+    for one: TOO_LONG."""
 
 
 class TextError(FlowshopError):
@@ -60,7 +61,8 @@ class TextError(FlowshopError):
 
 class OptionError(FlowshopError):
     """A number that a call does not take: JOBS, MACHINES, SEED, DEPTH, BUDGET, VERSION, WIDTH, ROUNDS, WORK,
-    DIRECTIONS, UPPER, LOWER, BOUND, WORKERS, TIME_LIMIT or BY; what is no function, as MAP or PROGRESS; TOKEN, RESUME;
+    DIRECTIONS, UPPER, LOWER, BOUND, MOST, WORKERS, TIME_LIMIT or BY; what is no function, as MAP or PROGRESS; TOKEN,
+    PROOF, RESUME;
     PLAN_DEPTH or PLAN_PREFIXES, where the shop has no lists of so many jobs, or too many; SCALE of a table; START or
     UNIT of a report, PATH where it or a picture is saved, and to the command `report` INDEX."""
 

@@ -10,7 +10,7 @@ from pathlib import Path
 from typing import Collection, Dict, Iterable, List, NamedTuple, Optional, Sequence, Tuple, Union
 
 from ._errors import OptionError, readable
-from ._options import LIMITS, option
+from ._options import RANGES, option
 from ._results import Certificate
 from ._rows import OTHER, Form, Row, columns, is_other, is_replaced, rounded, tables_of, words_of_tables
 from ._saving import names_folder, save, stream_of, target_of
@@ -62,15 +62,15 @@ def percent(part: int, whole: int) -> float:
 
 def row_of(work: Work, found: Certificate, times: Tuple[Optional[float], Optional[float]] = (None, None)) -> Row:
     """What a certificate proves of a block: the gap is (upper - lower) / upper, in percent; `kind` is how the text
-    begins, and `directions` how many signs it has, where it is a two-ended one. The times are the seconds of the
-    processor and by the clock in which it was found, where that was now."""
+    begins, and `directions` how many there are, where the text has signs or their number. The times are the seconds of
+    the processor and by the clock in which it was found, where that was now."""
     kind = found.text.split(b"\n", 1)[0].decode().partition(" ")[2]
     return {
         "file": work.file, "block": work.block, "seed": work.head.seed,
         "jobs": work.shop.jobs, "machines": work.shop.machines,
         "lower": found.lower, "upper": found.upper, "gap": percent(found.upper - found.lower, found.upper),
         "optimal": found.optimal, "kind": kind,
-        "directions": found._directions() if kind.startswith("two-ended") else None,
+        "directions": found.count,
         "sequence": list(found.sequence), "cpu_seconds": times[0], "seconds": times[1],
         "sha256": hashlib.sha256(found.text).hexdigest(),
     }
@@ -176,10 +176,10 @@ def _refuse_other(options: argparse.Namespace, form: Form) -> None:
             raise WordError(f"--{kind} and --{other} are one file, {table}; give each a file of its own")
 
 
-def whole_of(name: str, value: int, limits: Dict[str, Tuple[int, int]] = LIMITS) -> int:
+def whole_of(name: str, value: int, ranges: Dict[str, Tuple[int, int]] = RANGES) -> int:
     """The number of a word. WordError where it is not within its limits."""
     try:
-        return option(name, value, limits)
+        return option(name, value, ranges)
     except OptionError as error:
         raise WordError(f"--{error}") from None
 

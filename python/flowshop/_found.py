@@ -1,6 +1,6 @@
 """What a search for directions that prove a bound comes to. All of it is frozen, and can be compared and pickled."""
 
-from dataclasses import dataclass
+from dataclasses import dataclass, field
 from typing import Iterator, Tuple
 
 from ._brief import Brief
@@ -18,13 +18,15 @@ def numbers_of(jobs: bytes) -> Numbers:
 
 @dataclass(frozen=True, repr=False)
 class Proved(metaclass=Brief):
-    """A bound that is proved: no sequence has a smaller makespan. `directions` are line 5 of a two-ended certificate.
+    """A bound that is proved, `lower`: no sequence has a smaller makespan, or none of those that the search was of.
+    `directions` are line 5 of a two-ended certificate. No sequence is known with it.
 
-    >>> shop.prove(12).directions
-    b'++'
+    >>> shop.prove(12).directions, shop.prove(12).lower
+    (b'++', 12)
     """
 
     directions: bytes
+    lower: int = 0
 
     def __repr__(self) -> str:
         """How many directions there are."""
@@ -90,7 +92,8 @@ def part_of(packed: PackedPart) -> Part:
 class Over(metaclass=Brief):
     """A search that is over its budget: its first directions, as many as the budget, and the parts that are left, in
     order. What a search of a part comes to does not depend on the others. So the directions of the parts, one after
-    the other behind these, are those of the whole search, and so is the first sequence below the bound.
+    the other behind these, are those of the whole search, and so is the first sequence below the bound. `lower` is the
+    `bound` of the shop, which holds without a search. No sequence is known with it.
 
     >>> found = shop.prove(12, budget=1)
     >>> nodes = [node for part in found.parts for node in part.nodes()]
@@ -100,6 +103,7 @@ class Over(metaclass=Brief):
 
     directions: bytes
     parts: Tuple[Part, ...]
+    lower: int = field(default=0, compare=False)
 
     def __repr__(self) -> str:
         """How many directions there are, and how many parts."""

@@ -5,6 +5,8 @@ import os
 from pathlib import Path
 from typing import Any, Dict, List, Tuple
 
+from . import __version__
+
 STATUSES: Dict[int, str] = {
     1: "MEMORY",
     2: "ROOM",
@@ -38,6 +40,7 @@ STATUSES: Dict[int, str] = {
     66: "WEAK",
     67: "LOW",
     68: "END",
+    69: "MOST",
     70: "NO_BLOCK",
     71: "LABEL",
     72: "BYTE",
@@ -47,10 +50,6 @@ STATUSES: Dict[int, str] = {
     76: "TIMES",
     77: "INDEX",
 }
-
-# The limits of a shop.
-MOST_JOBS, MOST_MACHINES, MOST_TIME = 800, 26, 999_999
-MOST_TIMES = MOST_JOBS * MOST_MACHINES
 
 u16, u32, u64, u8 = ctypes.c_uint16, ctypes.c_uint32, ctypes.c_uint64, ctypes.c_uint8
 size, out, byref = ctypes.c_size_t, ctypes.POINTER, ctypes.byref
@@ -67,6 +66,18 @@ class Outcome(ctypes.Structure):
     """What a call returns."""
 
     _fields_ = [("status", u32), ("place", size)]
+
+
+class LimitNumbers(ctypes.Structure):
+    """The limits of numbers and texts."""
+
+    _fields_ = [
+        *((f"max_{name}", u32) for name in ("jobs", "machines", "time", "number", "job", "seed", "width", "rounds")),
+        *((f"max_{name}", u32) for name in ("work", "directions", "depth", "prefixes", "budget")),
+        *((name, u32) for name in ("min_version", "max_version")),
+        *((f"max_{name}", u32) for name in ("workers", "text", "certificate", "beside")),
+        ("max_nodes", u64),
+    ]
 
 
 class ShopNumbers(ctypes.Structure):
@@ -201,6 +212,7 @@ class PartRooms(ctypes.Structure):
 _ON_SHOP: List[Any] = [out(ShopNumbers), data, size]
 CALLS: Dict[str, List[Any]] = {
     "version": [],
+    "limits": [out(LimitNumbers)],
     "generate": [u32, u32, u32, out(u32), size],
     "block": [data, size, u32, out(BlockRoom)],
     "makespan": [*_ON_SHOP, out(u64)],
@@ -210,12 +222,14 @@ CALLS: Dict[str, List[Any]] = {
     "neh": [out(ShopNumbers), out(ReachedRoom)],
     "improve": [*_ON_SHOP, out(EffortNumbers), out(ReachedRoom)],
     "check": [*_ON_SHOP, out(BoundsRoom)],
+    "check_within": [*_ON_SHOP, u64, out(BoundsRoom)],
     "solve": [*_ON_SHOP, out(Plan), out(BoundsRoom), out(TextRoom)],
     "certify": [*_ON_SHOP, out(EffortNumbers), u32, out(BoundsRoom), out(TextRoom)],
     "run": [*_ON_SHOP, u32, u32, out(RunNumbers)],
     "run_next": [out(RunNumbers), out(EffortNumbers), out(TaskNumbers)],
     "run_put": [out(RunNumbers), out(TaskNumbers), out(AnswerNumbers), out(u32)],
     "run_text": [*_ON_SHOP, u64, data, size, out(TextRoom)],
+    "run_counted": [*_ON_SHOP, u64, u64, out(TextRoom)],
     "search": [u64, out(PlaceNumbers), size, out(SearchNumbers)],
     "search_give": [out(SearchNumbers), out(PlaceNumbers), size, out(u64)],
     "search_put": [out(SearchNumbers), out(PlaceNumbers), size, u64, out(SearchedNumbers), out(u64)],
@@ -278,17 +292,25 @@ def version() -> str:
     return f"{number // 1_000_000}.{number // 1_000 % 1_000}.{number % 1_000}"
 
 
-def require(wanted: str) -> None:
-    """ImportError where the library is not of this version, since its calls may take other arguments, or where the
-    processor lacks what it needs."""
+def limits_of(wanted: str) -> LimitNumbers:
+    """The limits of the library. ImportError where it is not of this version, since its calls may take other arguments,
+    or where the processor lacks what it needs."""
     if version() != wanted:
         raise ImportError(f"flowshop: the library is of version {version()}, and the package of version {wanted}")
-    # Any call says so. This one is of a shop with no jobs, and refused on every processor.
-    if STATUSES[_CALLS["generate"](0, 0, 0, (u32 * 1)(), 0).status] == "CPU":
+    limits = LimitNumbers()
+    if _CALLS["limits"](limits).status:  # this call has no other fault
         raise ImportError(
             "flowshop: this processor lacks something of x86-64-v2, such as SSE4.2 or POPCNT, which the library needs; "
             "use another machine, or give a virtual machine the processor of its host"
         )
+    return limits
+
+
+LIMITS: LimitNumbers = limits_of(__version__)
+# Those of a shop.
+MOST_JOBS: int = LIMITS.max_jobs
+MOST_MACHINES: int = LIMITS.max_machines
+MOST_TIME: int = LIMITS.max_time
 
 
 def call(name: str, *words: Any) -> None:

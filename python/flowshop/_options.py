@@ -2,40 +2,43 @@
 
 import os
 from operator import index
-from typing import Any, Dict, Optional, SupportsIndex, Tuple, Union
+from typing import Any, Dict, Literal, Optional, SupportsIndex, Tuple, Union
 
 from ._errors import OptionError, shown
-from ._library import MOST_JOBS, MOST_MACHINES
+from ._library import LIMITS
 from ._threads import Executor
 
-_MOST_32 = 4_294_967_295
+# What the text of a certificate has: a sign for each direction, or their number; None: that which is not too long.
+Proof = Optional[Literal["signs", "count"]]
+# The most directions that are written as signs where nothing is said: MOST_UNASKED of the program (flow_commands).
+_MOST_UNASKED = 10_000_000
 # The least and the greatest number of each option.
-LIMITS: Dict[str, Tuple[int, int]] = {
-    "jobs": (1, MOST_JOBS),
-    "machines": (1, MOST_MACHINES),
-    "seed": (1, 2_147_483_646),
-    "width": (0, 65_536),
-    "rounds": (0, 100_000_000),
-    "work": (0, 1_000_000),
-    "directions": (1, 1_000_000_000),
-    "depth": (0, 3),
-    "budget": (1, 100_000_000),
-    "version": (1, 2),
+RANGES: Dict[str, Tuple[int, int]] = {
+    "jobs": (1, LIMITS.max_jobs),
+    "machines": (1, LIMITS.max_machines),
+    "seed": (1, LIMITS.max_seed),
+    "width": (0, LIMITS.max_width),
+    "rounds": (0, LIMITS.max_rounds),
+    "work": (0, LIMITS.max_work),
+    "directions": (1, LIMITS.max_directions),
+    "depth": (0, LIMITS.max_depth),
+    "budget": (1, LIMITS.max_budget),
+    "version": (LIMITS.min_version, LIMITS.max_version),
 }
 # Those of the head of a benchmark text, which are only written down.
-STATED: Dict[str, Tuple[int, int]] = {"seed": (0, _MOST_32), "upper": (0, _MOST_32), "lower": (0, _MOST_32)}
-MOST_TREES = 100_000
-# Those of a search by parts, and how many workers there are.
+STATED: Dict[str, Tuple[int, int]] = dict.fromkeys(("seed", "upper", "lower"), (0, LIMITS.max_number))
+# Those of a search by parts and of a check, and how many workers there are, which are threads of Python.
 OF_PARTS: Dict[str, Tuple[int, int]] = {
     "bound": (0, 2**64 - 1),
-    "budget": (0, 1_000_000_000),
+    "most": (0, 2**64 - 1),
+    "budget": (0, LIMITS.max_directions),
     "workers": (1, 10_000),
 }
 
 
-def option(name: str, value: SupportsIndex, limits: Dict[str, Tuple[int, int]] = LIMITS) -> int:
+def option(name: str, value: SupportsIndex, ranges: Dict[str, Tuple[int, int]] = RANGES) -> int:
     """The number of an option. OptionError where it is not whole, or not within its limits."""
-    least, most = limits[name]
+    least, most = ranges[name]
     try:
         number = index(value)
     except TypeError:
@@ -85,6 +88,18 @@ def time_limit_of(value: Any) -> Optional[float]:
         return seconds
     sentence = f"time_limit is {shown(value)}, and has to be a number of seconds from 0 on, or None"
     raise OptionError("TIME_LIMIT", 0, sentence)
+
+
+def proof_of(value: Any) -> Proof:
+    """What the text of a certificate is to have. OptionError where it is none of these."""
+    if value in (None, "signs", "count"):
+        return value  # type: ignore[no-any-return]
+    raise OptionError("PROOF", 0, f"proof is {shown(value)}, and has to be 'signs' or 'count', or None")
+
+
+def has_signs(proof: Proof, directions: int) -> bool:
+    """Whether the text of so many directions has signs."""
+    return proof == "signs" or (proof is None and directions <= _MOST_UNASKED)
 
 
 def function_of(name: str, value: Any, wanted: str) -> None:

@@ -12,7 +12,7 @@ from datetime import datetime
 from typing import Any, Dict, Iterator, List, Optional, Tuple, Union
 
 from . import _json
-from ._brief import Brief
+from ._bounded import Bounded
 from ._calendar import Calendar, Dated, calendar_of, moment_of
 from ._change import Change, First, keys_of, moved_of, start_of
 from ._clock import Plain, Times
@@ -34,9 +34,10 @@ _LIMIT_OF_FIRST = 15.0
 _SIGNS = {"comma": ",", "semicolon": ";", "tab": "\t"}
 
 
-class Plan(metaclass=Brief):
+class Plan(Bounded):
     """The plan of a table: `shop`, `certificate`, `timetable`, and `change`, what is different from an earlier plan, or
-    None. With a start its times are by the calendar.
+    None. With a start its times are by the calendar. The bounds and the makespan are those of the certificate, in its
+    unit.
 
     >>> plan = Plan.of([["Order", "Saw (h)", "Drill (h)"], ["Shelf", 3, 7], ["Door", 1, 2]], start="2026-12-01T07:00")
     >>> plan
@@ -78,6 +79,33 @@ class Plan(metaclass=Brief):
         reading = reading_of(table, words, kept, calendar is not None)
         before = after if after is None or isinstance(after, Plan) else cls.read(after)
         return plan_of(reading, calendar, Earlier(before, now), Effort(time_limit, workers))
+
+    @property
+    def value(self) -> int:
+        """The makespan, as the certificate has it: times that lie between shifts do not count.
+
+        >>> Plan.of([["Order", "Saw"], ["Shelf", 3]]).value
+        3
+        """
+        return self.certificate.value
+
+    @property
+    def lower(self) -> int:
+        """The number below which no order has a makespan, as the certificate proves it.
+
+        >>> Plan.of([["Order", "Saw"], ["Shelf", 3]]).lower
+        3
+        """
+        return self.certificate.lower
+
+    @property
+    def upper(self) -> int:
+        """The same as `value`.
+
+        >>> Plan.of([["Order", "Saw"], ["Shelf", 3]]).upper
+        3
+        """
+        return self.certificate.upper
 
     @property
     def times(self) -> Times:
@@ -306,7 +334,8 @@ def plan_of(reading: Reading, calendar: Optional[Calendar], earlier: Earlier, ef
     shop, start = reading.shop, None
     if earlier.plan is not None:
         start = start_of(earlier.keys, keys_of(shop.job_names))
-    found = shop.certify(start, workers=effort.workers, time_limit=effort.time_limit, by="number")
+    # With signs, since the plan checks what it is given: a count would be searched for again.
+    found = shop.certify(start, proof="signs", workers=effort.workers, time_limit=effort.time_limit, by="number")
     plan = Plan(shop, found, calendar, reading.unit)
     plan.name, plan.has_mark = re.sub(r".*/", "", reading.sheet.name), reading.sheet.has_mark
     if earlier.plan is not None:

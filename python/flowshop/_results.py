@@ -427,20 +427,41 @@ class Certificate(_Ordered):
         """
         return self.lower == self.upper
 
-    def __repr__(self) -> str:
-        """What is proved, and how many directions or trees the text has."""
-        proved = f"optimal {self.lower}" if self.optimal else f"bounds {self.lower} to {self.upper}"
-        if self.text.startswith(b"flowshop two-ended "):
-            return f"Certificate({proved}, {counted(self._directions(), 'direction')})"
-        trees = self.text.count(b"\n") - 5  # four lines stand before them, and one after them
-        return f"Certificate({proved}, {counted(trees, 'tree')})"
+    @property
+    def kind(self) -> str:
+        """What the text has to prove its lower bound: "two-ended", a sign for each direction; "counted", their number,
+        by a search that a check makes again; or "trees".
 
-    def _directions(self) -> int:
-        """How long line 5 is."""
-        begun = 0
+        >>> shop.certify().kind
+        'two-ended'
+        """
+        named = (name for name in ("two-ended", "counted") if self.text.startswith(f"flowshop {name} ".encode()))
+        return next(named, "trees")
+
+    @property
+    def count(self) -> Optional[int]:
+        """How many directions prove the lower bound: as many as there are signs, or as a counted text states, which are
+        the nodes that the search opens. None where trees prove it, and where the text states no number.
+
+        >>> shop.certify(proof="count").count
+        2
+        """
+        begin = 0
         for _ in range(4):
-            begun = self.text.find(b"\n", begun) + 1
-        return self.text.find(b"\n", begun) - begun
+            begin = self.text.find(b"\n", begin) + 1
+        end = self.text.find(b"\n", begin)
+        if self.kind == "two-ended":
+            return end - begin
+        line = self.text[begin : min(end, begin + 20)]
+        return int(line) if self.kind == "counted" and line.isdigit() else None
+
+    def __repr__(self) -> str:
+        """What is proved, and how many directions or trees the text has, or how many nodes it states."""
+        proved = f"optimal {self.lower}" if self.optimal else f"bounds {self.lower} to {self.upper}"
+        count, what = self.count, {"two-ended": "direction", "counted": "node"}.get(self.kind, "tree")
+        if count is None:
+            count = self.text.count(b"\n") - 5  # four lines stand before the trees, and one after them
+        return f"Certificate({proved}, {counted(count, what)})"
 
     def save(self, path: Path) -> None:
         """Writes the text to a file, which `flowshop check` and `Shop.check` read. OSError where that fails.

@@ -9,7 +9,7 @@ from typing import (
 )
 
 from ._errors import NotASequence, OptionError, counted, shown
-from ._library import Refused
+from ._library import LIMITS, Refused
 from ._results import Certificate, Names, Start, Timetable, listed
 from ._tables import UNORDERED, Array
 
@@ -21,6 +21,8 @@ _RESULTS = (Start, Certificate, Timetable)
 _MOST_NAMED = 3
 # How many sequences a call of the library takes at most, so that an interrupt is seen between two calls.
 _AT_ONCE = 4096
+# The greatest number that is packed, whether it is a job or not.
+_MOST_JOB: int = LIMITS.max_job
 
 
 class Naming:
@@ -126,7 +128,7 @@ def packed_many(given: Any, naming: Naming, by: By) -> Iterator[bytes]:
     is_plain = naming.are_numbers(by) and by in (None, "number")
     kind = str(getattr(getattr(given, "dtype", None), "kind", ""))
     is_whole = kind in ("i", "u") and given.ndim == 2 and given.size > 0 and not hasattr(given, "filled")
-    if is_whole and is_plain and given.shape[1] == naming.count and 0 <= given.min() <= given.max() <= 65_535:
+    if is_whole and is_plain and given.shape[1] == naming.count and 0 <= given.min() <= given.max() <= _MOST_JOB:
         rows, width = given.astype("uint16", order="C").tobytes(), 2 * naming.count * _AT_ONCE
         yield from (rows[at : at + width] for at in range(0, len(rows), width))
         return
@@ -171,9 +173,9 @@ def _of_many(number: int, error: NotASequence) -> NotASequence:
 
 
 def _has_16_bits(job: Any) -> bool:
-    """Whether something is a whole number from 0 to 65,535."""
+    """Whether something is a whole number of 16 bits."""
     try:
-        return 0 <= index(job) <= 65_535
+        return 0 <= index(job) <= _MOST_JOB
     except TypeError:
         return False
 

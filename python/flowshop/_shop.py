@@ -22,9 +22,10 @@ from ._errors import counted, found_in
 from ._found import Below, Over, Proved, numbers_of, part_of
 from ._headings import length_of
 from ._labels import Unit, label_lines, unit_of
-from ._library import BoundsRoom, EffortNumbers, Plan, ReachedRoom, Refused, RunNumbers, ShopNumbers, SpansRoom
+from ._library import LIMITS, BoundsRoom, EffortNumbers, Plan, ReachedRoom, Refused, RunNumbers, ShopNumbers, SpansRoom
 from ._library import TextRoom, byref, call, size, u16, u32, u64
-from ._options import MOST_TREES, OF_PARTS, STATED, function_of, option, scale_of, time_limit_of, token_of, workers_of
+from ._options import OF_PARTS, STATED, Proof, function_of, has_signs, option, proof_of, scale_of, time_limit_of
+from ._options import token_of, workers_of
 from ._page import MOST_BARS, Facts, page
 from ._parts import OVER, PROVED, Instance, PackedPart, Pieces, Rooms, parts_of
 from ._results import Certificate, Names, Path, Picture, Report, Start, Timetable, listed, with_names
@@ -34,12 +35,11 @@ from ._sequences import By, Jobs, Many, Naming, not_a_node, not_a_sequence, not_
 from ._sequences import packed_many, packed_node
 from ._spread import Workers
 from ._tables import Table, read_kept, read_table
-from ._texts import Text, block_text, blocks_of, is_certificate, not_lawful, order_of, start_of, text_of, written
+from ._texts import Text, block_text, blocks_of, is_certificate, is_counted, not_lawful, order_of, start_of, text_of
+from ._texts import written
 from ._threads import Executor, with_stack
 from ._waiting import Progress, Token, Watch, waited, waited_for
 
-# The most bytes that a text has beside its trees or its directions.
-_BESIDE = 3300
 # The most bars of a picture that a notebook shows beside a result.
 _MOST_SMALL = 2000
 _Numbers = Tuple[int, ...]
@@ -58,13 +58,14 @@ class Shop(metaclass=Brief):
     Shop(3 jobs, 3 machines)
     """
 
-    __slots__ = ("_parts", "_lent", "_naming", "_bound")
+    __slots__ = ("_parts", "_lent", "_naming", "_bound", "_counted")
     # Jobs, machines, times, the names of both, and the unit of the times; what each call is lent of them; the jobs by
-    # their names; and what `bound` gives, once it is known.
+    # their names; what `bound` gives, once it is known; and the counted certificate that was the last to be checked.
     _parts: Tuple[int, int, bytes, Optional[Names], Optional[Names], Unit]
     _lent: Any
     _naming: Naming
     _bound: Optional[int]
+    _counted: Optional[Certificate]
 
     def __init__(self, *_: object) -> None:
         raise TypeError(
@@ -88,6 +89,7 @@ class Shop(metaclass=Brief):
         object.__setattr__(shop, "_lent", byref(ShopNumbers(jobs, machines, times, len(times) // 4)))
         object.__setattr__(shop, "_naming", Naming(jobs, job_names))
         object.__setattr__(shop, "_bound", None)
+        object.__setattr__(shop, "_counted", None)
         return shop
 
     @classmethod
@@ -576,7 +578,7 @@ class Shop(metaclass=Brief):
         plan = Plan(option("depth", depth), option("budget", budget), option("version", version))
         limit = time_limit_of(time_limit)
         trees = self._trees(plan.depth)
-        begun, most = self._begun(start, by), _BESIDE + trees * (plan.budget + 1)
+        begun, most = self._begun(start, by), LIMITS.max_beside + trees * (plan.budget + 1)
         jobs = (u16 * self.jobs)()
         bounds = BoundsRoom(jobs, self.jobs)
 
@@ -597,8 +599,8 @@ class Shop(metaclass=Brief):
         if depth > self.jobs:
             raise OptionError("PLAN_DEPTH", 0, f"depth is {depth}, and the shop has {counted(self.jobs, 'job')}")
         trees = perm(self.jobs, depth)
-        if trees > MOST_TREES:
-            sentence = f"depth is {depth}, which makes {trees:,} trees, and there are {MOST_TREES:,} at most"
+        if trees > LIMITS.max_prefixes:
+            sentence = f"depth is {depth}, which makes {trees:,} trees, and there are {LIMITS.max_prefixes:,} at most"
             raise OptionError("PLAN_PREFIXES", 0, sentence)
         return trees
 
@@ -630,31 +632,31 @@ class Shop(metaclass=Brief):
         limit, instance = time_limit_of(time_limit), Instance(*self._parts[:3])
         try:
             if limit is not None:
-                return self._proved_in(limit, Pieces(instance, [PackedPart(*lists, 0, b"")], number, room))
+                return self._proved_in(limit, number, Pieces(instance, [PackedPart(*lists, 0, b"")], number, room))
             rooms = Rooms(instance, room)
             found = waited(lambda: rooms.search(*lists, number))
         except Refused as refused:
             raise not_a_node(refused, *lists, self.jobs) from None
         rest = parts_of(rooms.rest()) if found == OVER else []
-        return self._proved(found, rooms.directions(), rest, rooms.reached(), rooms.makespan)
+        return self._proved(number, found, rooms.directions(), rest, rooms.reached(), rooms.makespan)
 
-    def _proved_in(self, limit: float, pieces: Pieces) -> Union[Proved, Below, Over]:
-        """What a search in pieces comes to within so many seconds."""
+    def _proved_in(self, limit: float, number: int, pieces: Pieces) -> Union[Proved, Below, Over]:
+        """What a search in pieces below a number comes to within so many seconds."""
         watch = Watch(limit, None)
         try:
             watch.run(lambda: pieces.search(watch.pause), lambda seconds: Progress(1, 0, 0, 0, seconds))
         except KeyboardInterrupt:
-            raise Interrupted(self._proved(*pieces.found())) from None
-        return self._proved(*pieces.found())
+            raise Interrupted(self._proved(number, *pieces.found())) from None
+        return self._proved(number, *pieces.found())
 
     def _proved(
-        self, kind: int, directions: bytes, parts: List[PackedPart], sequence: bytes, makespan: int
+        self, number: int, kind: int, directions: bytes, parts: List[PackedPart], sequence: bytes, makespan: int
     ) -> Union[Proved, Below, Over]:
-        """What a search for directions came to."""
+        """What a search for directions that prove a number came to."""
         if kind == PROVED:
-            return Proved(directions)
+            return Proved(directions, number)
         if kind == OVER:
-            return Over(directions, tuple(map(part_of, parts)))
+            return Over(directions, tuple(map(part_of, parts)), self.bound())
         jobs = numbers_of(sequence)
         return Below(jobs, makespan, self._named(jobs), self.bound(), self, directions)
 
@@ -667,6 +669,7 @@ class Shop(metaclass=Brief):
         seed: int = 1,
         work: int = 8500,
         directions: int = 100_000_000,
+        proof: Proof = None,
         workers: Union[int, Executor, None] = 1,
         time_limit: Optional[float] = None,
         progress: Union[bool, Callable[[Progress], object], None] = None,
@@ -674,11 +677,14 @@ class Shop(metaclass=Brief):
         resume: Union[bytes, os.PathLike[str], Certificate, None] = None,
         by: By = None,
     ) -> Certificate:
-        """Bounds of the least makespan with a two-ended certificate of them, by searches from a sequence, or from that
-        of `neh`, and from better ones. The least makespan is proved where `optimal` is true; the upper bound is at most
-        the makespan of the start. The text has at most `directions` directions, 1 to 1,000,000,000: the more it may
-        have, the longer the searches take where they do not find the least makespan. The other numbers are those of
+        """Bounds of the least makespan with a certificate of them, by searches from a sequence, or from that of `neh`,
+        and from better ones. The least makespan is proved where `optimal` is true; the upper bound is at most the
+        makespan of the start. At most `directions` directions prove the lower one, 1 to 1,000,000,000: the more there
+        may be, the longer the searches take where they do not find the least makespan. The other numbers are those of
         `improve`. With the numbers left out a call may take a minute and a half.
+
+        With `proof` as "signs" the text has a sign for each direction, with "count" their number alone: then it is
+        short, and a check makes the search again. Left out, it has signs where there are at most 10,000,000.
 
         Searches are shared by `workers`: so many threads, 1 to 10,000, or one of each processor for -1 or None; or
         those of an executor, such as ProcessPoolExecutor, a client of dask, or MPIPoolExecutor: what has `submit`. The
@@ -688,20 +694,22 @@ class Shop(metaclass=Brief):
         few times a second; where it is True, a line on standard error tells the same. An interrupt ends the call within
         a second, as Interrupted, whose `result` is a certificate of the best bounds so far; an error of `progress` or
         of the executor has such a `result` too. Without an executor and a time limit `check` has read the certificate
-        of a run that has ended. `by` is that of `makespan`. Errors are those of `improve` and of the executor.
+        of a run that has ended; in the place of a counted one that with the signs. `by` is that of `makespan`. Errors
+        are those of `improve` and of the executor.
 
         A `token`, such as a threading.Event, ends the call from another thread as a time limit does, once it is set.
         A certificate of a run that was stopped has a `state`: with `resume` as such a state, a file of it
         (pathlib.Path), or that certificate a run goes on behind the last task that it had done, and comes to what it
         would have come to. Start, width, rounds, seed, work and directions are those of the state. OptionError where
-        `start` or `by` is given too, or where it is no state of a run of this shop by this version.
+        `start` or `by` is given too, or where it is no state of a run of this shop by this version, as no text of a
+        certificate is.
 
         >>> certificate = shop.certify(workers=4, time_limit=60)
         >>> certificate.lower, certificate.upper
         (12, 12)
         """
         effort = effort_of(width=width, rounds=rounds, seed=seed, work=work)
-        most, limit = option("directions", directions), time_limit_of(time_limit)
+        most, form, limit = option("directions", directions), proof_of(proof), time_limit_of(time_limit)
         executor, count = workers_of(workers)
         if not isinstance(progress, bool):
             function_of("progress", progress, "True, or a function that takes a Progress, or None")
@@ -711,8 +719,9 @@ class Shop(metaclass=Brief):
         else:
             state = self._resumed(resume, start, by)
         at_once = min(4, count) if executor is None else 4
-        found = self._certify(state, Workers(executor, count, at_once), Watch(limit, progress, token))
-        return self._read(found) if executor is None and limit is None and found.state is None else found
+        found, known = self._certify(state, Workers(executor, count, at_once), Watch(limit, progress, token), form)
+        is_read = executor is None and limit is None and found.state is None
+        return self._read(found, known) if is_read else found
 
     def _begin(self, start: Optional[bytes], effort: Effort, directions: int, is_limited: bool) -> State:
         """The state of a run at its beginning, from a sequence or that of `neh`. NotASequence where it is none."""
@@ -728,28 +737,30 @@ class Shop(metaclass=Brief):
         state = state_of(self._parts[:3], b"" if given is None else text_of(given))
         known = state.kept.known()
         try:
-            found = waited(lambda: self.check(self._certificate(known)))
+            found = waited(lambda: self.check(self._certificate(known, "signs")))
         except NotLawful:
             raise refused() from None
         if (found.lower, found.upper) != (known.lower, known.upper):
             raise refused()
         return state
 
-    def _read(self, found: Certificate) -> Certificate:
-        """A certificate that the checker has read. An interrupt leaves it as it is."""
+    def _read(self, found: Certificate, known: Known) -> Certificate:
+        """A certificate that the checker has read, or in its place that of the same directions with signs, where a
+        check would make their search again. An interrupt leaves it as it is."""
         try:
-            return waited(lambda: self.check(found))
+            signs = waited(lambda: self.check(self._certificate(known, "signs") if is_counted(found.text) else found))
         except KeyboardInterrupt:
             raise Interrupted(found) from None
+        return replace(signs, text=found.text)
 
-    def _certify(self, state: State, workers: Workers, watch: Watch) -> Certificate:
+    def _certify(self, state: State, workers: Workers, watch: Watch, proof: Proof) -> Tuple[Certificate, Known]:
         """What certify comes to, by workers that share its searches, as long as the watch allows."""
         run = Run(self._parts[:3], state.effort, state.kept)
 
         def found() -> Certificate:
             has_ended, kept = run.has_ended, run.kept  # in this order: what it keeps when it ends is the last
             goes_on = None if has_ended else state._replace(kept=kept).written(self._parts[:3])
-            return replace(self._certificate(kept.known()), _state=goes_on)
+            return replace(self._certificate(kept.known(), proof), _state=goes_on)
 
         try:
             run.search_until(watch, workers)
@@ -759,37 +770,57 @@ class Shop(metaclass=Brief):
             with suppress(Exception):  # there is no memory, or the error takes nothing
                 setattr(error, "result", found())
             raise
-        return found()
+        return found(), run.kept.known()
 
-    def _certificate(self, known: Known) -> Certificate:
-        """The certificate of what is known."""
+    def _certificate(self, known: Known, proof: Proof = None) -> Certificate:
+        """The certificate of what is known, with signs or with their number."""
         jobs, directions = numbers_of(known.sequence), known.directions
+        signs = directions if has_signs(proof, len(directions)) else None
 
         def write(room: TextRoom) -> None:
-            self._call("run_text", known.sequence, known.lower, directions, len(directions), room)
+            if signs is None:
+                self._call("run_counted", known.sequence, known.lower, len(directions), room)
+            else:
+                self._call("run_text", known.sequence, known.lower, signs, len(signs), room)
 
-        text = with_stack(lambda: written(_BESIDE + len(directions), write))
+        text = with_stack(lambda: written(LIMITS.max_beside + len(signs or b""), write))
         return Certificate(known.lower, known.upper, jobs, text, self._named(jobs), self)
 
-    def check(self, text: Text) -> Certificate:
-        """What a text proves, with the sequence that it states: a certificate of version 1 or 2, or a two-ended one;
-        line 1 tells which it is. It is given as bytes or str, as the path of a file (pathlib.Path), or as a
-        Certificate, of which the text alone is read. The least makespan is proved where `optimal` is true. NotLawful
+    def check(self, text: Text, *, most: int = 10_000_000_000) -> Certificate:
+        """What a text proves, with the sequence that it states: a certificate of version 1 or 2, a two-ended one, or a
+        counted one; line 1 tells which it is. It is given as bytes or str, as the path of a file (pathlib.Path), or as
+        a Certificate, of which the text alone is read. The least makespan is proved where `optimal` is true. NotLawful
         with the first fault of the text where it is not lawful, or where a file of it has more than 1,000,000,000
         bytes, OSError where a file is not read.
 
+        Of a counted certificate the search is made again, on one thread: that takes seconds for ten million nodes, and
+        up to hours for billions. One that states more than `most` nodes, 0 to 18,446,744,073,709,551,615, is refused
+        before; of other texts that says nothing. An interrupt ends the call, and leaves the search to end by itself. A
+        shop keeps the last counted certificate that was checked, and does not search for the same one again.
+
         >>> shop.check("flowshop two-ended 1\\n3 3\\n11 13\\n2 1 3\\n-\\nend\\n")
         Certificate(bounds 11 to 13, 1 direction)
+        >>> shop.check("flowshop counted 1\\n3 3\\n12 12\\n3 1 2\\n2\\nend\\n", most=1_000_000)
+        Certificate(optimal 12, 2 nodes)
         """
-        read = text_of(text)
+        read, allowed, last = text_of(text), option("most", most, OF_PARTS), self._counted
+        if last is not None and last.text == read and (last.count or 0) <= allowed:
+            return last
         jobs = (u16 * self.jobs)()
-        bounds = BoundsRoom(jobs, self.jobs)
+        bounds, is_search = BoundsRoom(jobs, self.jobs), is_counted(read)
+
+        def check() -> None:
+            call("check_within", self._lent, read, len(read), allowed, bounds)
+
         try:
-            call("check", self._lent, read, len(read), bounds)
+            waited(check) if is_search else check()
         except Refused as refused:
-            raise not_lawful(refused, text, read, self.jobs, self.machines) from None
+            raise not_lawful(refused, text, read, self.jobs, self.machines, allowed) from None
         sequence = tuple(jobs)
-        return Certificate(bounds.lower, bounds.upper, sequence, read, self._named(sequence), self)
+        found = Certificate(bounds.lower, bounds.upper, sequence, read, self._named(sequence), self)
+        if is_search:
+            object.__setattr__(self, "_counted", found)
+        return found
 
 
 def _over_budget(refused: Refused, trees: int, budget: int) -> OverBudget:

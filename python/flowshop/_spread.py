@@ -4,6 +4,7 @@ The number is fixed, so what is found of a part depends on nothing else: joined 
 are those of one search, however many workers there are. The library keeps that order. How long a part takes decides
 how much the next one has, and nothing else."""
 
+import ctypes
 import functools
 import queue
 import time
@@ -87,7 +88,9 @@ class Given:
     """A task that workers have: the calls of these, how many have failed, and since when the last one has it."""
 
     def __init__(self, task: Task) -> None:
-        self.task, self.calls, self.failed, self.since = task, set(), 0, 0.0  # type: Task, Set[Any], int, float
+        self.task = task
+        self.calls: Set[Any] = set()
+        self.failed, self.since = 0, 0.0
 
     def is_late(self, now: float, slowest: float) -> bool:
         """Whether it takes much longer than the slowest one that was answered; each time it was given twice as long."""
@@ -175,7 +178,7 @@ class Shared:
         """Makes room for so many places more."""
         if self._search.places + count > len(self._places):
             places = (PlaceNumbers * (2 * len(self._places) + count))()
-            places[: len(self._places)] = self._places[:]
+            ctypes.memmove(places, self._places, ctypes.sizeof(self._places))
             self._places = places
 
     def found(self) -> Optional[Found]:
@@ -238,8 +241,11 @@ class Calls:
         be released, does so where they are; a cancelled one would be reported."""
         for future in self._begun.copy() if futures is None else futures:
             self._begun.discard(future)
-            drop = getattr(future, "release", future.cancel)
-            drop()
+            release = getattr(future, "release", None)
+            if release is None:
+                future.cancel()
+            else:
+                release()
 
 
 class Spread:
@@ -362,6 +368,7 @@ class Spread:
                 try:
                     reached: Reached = calls.result(ended[1])
                     calls.drop()
+                    self._ahead.discard(calls)
                     return reached
                 except Exception as error:
                     failed += 1

@@ -12,7 +12,7 @@ from typing import Callable, Collection, Dict, Iterable, Iterator, List, Optiona
 
 from ._errors import NotLawful, TextError, readable, shown
 from ._labels import Label, Labels, Unit, read_labels
-from ._library import MOST_TIMES, BlockRoom, Refused, TextRoom, call, u8, u32
+from ._library import LIMITS, BlockRoom, Refused, TextRoom, call, u8, u32
 from ._results import Certificate, Names, Path
 
 # What is taken for a text. A str is the text itself, and no path.
@@ -22,7 +22,8 @@ _NO_RESERVE = getattr(mmap, "MAP_NORESERVE", 0x4000)
 _LEAST_ROOM = 1 << 16
 # The most bytes of a file that is read: of a benchmark text or a sequence, and of a certificate. They are those of the
 # program (docs/manual.md).
-MOST_TEXT, MOST_CERTIFICATE = 16_777_216, 1_000_000_000
+MOST_TEXT: int = LIMITS.max_text
+MOST_CERTIFICATE: int = LIMITS.max_certificate
 _TOO_LONG = "TOO_LONG"
 # How many bytes are read at once where a file does not say how many it has.
 _PIECE = 1 << 16
@@ -30,7 +31,7 @@ _PIECE = 1 << 16
 _BEGIN = b"flowshop "
 # An index that no text has a block for, since one takes more than a byte.
 _NO_BLOCK = 2**32 - 1
-_CERTIFICATE = re.compile(rb"flowshop (certificate|two-ended) ")
+_CERTIFICATE = re.compile(rb"flowshop (certificate|two-ended|counted) ")
 _LABEL_LINE = re.compile(rb"^[ \t\r]*[^ \t\r\n0-9]", re.MULTILINE)
 
 
@@ -140,13 +141,19 @@ _UNLAWFUL: Dict[str, Tuple[int, str]] = {
     "HEADER": (1, "line 1 is {text}, and has to name a certificate, as in 'flowshop two-ended 1'"),
     "SIZE": (2, "line 2 is {text}, which is not of a shop with jobs {jobs} and machines {machines}"),
     "VALUE": (3, "line 3 is {text}, and has to be the value that is proved, or both bounds"),
+    "COUNT": (5, "line 5 is {text}, and has to be how many nodes the search opens"),
+    "MOST": (5, "line 5 is {text}, how many nodes the search opens, and this check opens {most:,} at most; "
+             "a greater most allows more, and takes longer"),
     "SEQUENCE": (4, "line 4 is {text}, and has to have each job from 1 to {jobs} once"),
     "NOT_ATTAINED": (4, f"line 4 is {{text}}, a sequence of another makespan than line 3 says; {_CHANGED}"),
     "TREE": (0, f"line {{line}} is {{text}}, which is not one whole proof; {_CHANGED}"),
     "WEAK": (0, f"line {{line}} has a bound that is below the value; {_CHANGED}"),
     "LOW": (0, f"line {{line}} leads to a makespan that is below the value; {_CHANGED}"),
-    "END": (0, "what follows the last tree, or the directions, is not the line 'end' alone"),
+    "END": (0, "what follows the last tree, the directions or the number of nodes is not the line 'end' alone"),
 }
+# The first line of a counted certificate, and the first lines up to its bounds.
+_COUNTED = b"flowshop counted 1\n"
+_COUNTED_BOUNDS = re.compile(_COUNTED + rb"[^\n]*\n([0-9]+) ([0-9]+)\n")
 
 
 def _begin_of(text: bytes, number: int) -> int:
@@ -170,11 +177,23 @@ def _count_of_lines(text: bytes) -> int:
     return text.count(b"\n") + (not text.endswith(b"\n") if text else 0)
 
 
-def not_lawful(refused: Refused, given: Text, text: bytes, jobs: int, machines: int) -> NotLawful:
-    """The refusal of a text that is no certificate of a shop of these sizes."""
-    only, form = _UNLAWFUL[refused.name]
+def _has_bounds(text: bytes) -> bool:
+    """Whether a text is a counted certificate up to its bounds."""
+    found = _COUNTED_BOUNDS.match(text)
+    return found is not None and all(str(int(bound[:21])).encode() == bound and int(bound) < 2**64
+                                     for bound in found.groups())
+
+
+def is_counted(text: bytes) -> bool:
+    """Whether a text is read as a counted certificate."""
+    return text.startswith(_COUNTED)
+
+
+def not_lawful(refused: Refused, given: Text, text: bytes, jobs: int, machines: int, most: int) -> NotLawful:
+    """The refusal of a text that is no certificate of a shop of these sizes, or has more than the most nodes."""
+    only, form = _UNLAWFUL["COUNT" if refused.name == "VALUE" and _has_bounds(text) else refused.name]
     line = refused.place or only
-    sentence = form.format(line=line, text=_line(text, line), jobs=jobs, machines=machines)
+    sentence = form.format(line=line, text=_line(text, line), jobs=jobs, machines=machines, most=most)
     if isinstance(given, str) and b"\n" not in text:
         sentence += "; a str is the text itself, and a file is named by pathlib.Path"
     return NotLawful(refused.name, line, sentence)
@@ -190,8 +209,8 @@ _DIGITS = 12
 _PLAIN = re.compile(rb"[ \t\r\n,]*[0-9][ \t\r\n,0-9]*")
 # Each with the greatest number that it may have.
 _SEQUENCE_LINES = [
-    (_SEQUENCE, 65_535, "the word sequence and the numbers of the jobs"),
-    (_MAKESPAN, 4_294_967_295, "the word makespan and a number"),
+    (_SEQUENCE, LIMITS.max_job, "the word sequence and the numbers of the jobs"),
+    (_MAKESPAN, LIMITS.max_number, "the word makespan and a number"),
 ]
 
 
@@ -240,9 +259,10 @@ def sequence_of(text: bytes) -> Tuple[List[int], Optional[int], int]:
 _MISREAD: Dict[str, str] = {
     "LABEL": "a line of words is wanted before the head of a block, and before its times",
     "BYTE": "a line of numbers has something that is neither a digit nor a blank",
-    "NUMBER": "a number is above 4,294,967,295",
+    "NUMBER": f"a number is above {LIMITS.max_number:,}",
     "HEAD": "the head of a block is five numbers: jobs, machines, seed, upper bound and lower bound",
-    "LIMITS": "the jobs have to be 1 to 800, the machines 1 to 26, and each time 0 to 999,999",
+    "LIMITS": f"the jobs have to be 1 to {LIMITS.max_jobs}, the machines 1 to {LIMITS.max_machines}, and each time 0 "
+    f"to {LIMITS.max_time:,}",
     "TIMES": "there has to be one time for each job and machine",
 }
 
@@ -291,8 +311,8 @@ def blocks_of(path: Path, choose: Callable[[int], Collection[int]]) -> Iterator[
 
 def _block(text: bytes, number: int) -> Tuple[int, int, bytes, int, int, int]:
     """A block of a benchmark text, counted from 1."""
-    times = (u32 * MOST_TIMES)()
-    block = BlockRoom(times=times, times_count=MOST_TIMES)
+    times = (u32 * (LIMITS.max_jobs * LIMITS.max_machines))()
+    block = BlockRoom(times=times, times_count=len(times))
     call("block", text, len(text), number, block)
     used = ctypes.string_at(times, 4 * block.jobs * block.machines)
     return block.jobs, block.machines, used, block.seed, block.upper, block.lower

@@ -9,3 +9,4 @@ mod Ended
 mod PartSizes
 mod Told
 mod Joined
+mod Answered

@@ -1,4 +1,4 @@
--- How long a two-ended certificate is, and how it is put together from one with no directions.
+-- How long certificates of bounds are, and how a two-ended one is put together from one with no directions.
 use Rattle.std.proofs.Common.{◌≡◌, ◌⊎◌, inr, ◌∙◌, refl, ap, sym, ℕ, ◌+◌, ◌-◌, ◌*◌, ◌^◌, ◌<◌, ◌≤◌, List, [], ◌∷◌, ◌++◌}
 use Rattle.std.proofs.Common.{length, take, drop, arith, append_assoc, length-append, length-drop}
 use Rattle.std.proofs.Math.Seq.{take-append_seam, drop-append_seam}
@@ -14,7 +14,9 @@ use Rattle.flow_shop.specs.Directions.{Proves}
 use Rattle.flow_shop.specs.Ends.{end_bound}
 use Rattle.flow_shop.proofs.DirectionsSound.{proved_is_lower_bound}
 use Rattle.flow_check.specs.TextLines.{line, spaced, ending}
-use Rattle.flow_check.specs.TwoEnded.{title_line, size_lines, bounds_lines, sequence_lines, two_ended_text}
+use Rattle.flow_check.specs.Counted.{counted_text, counted_title}
+use Rattle.flow_check.specs.FourLines.{size_lines, bounds_lines, sequence_lines}
+use Rattle.flow_check.specs.TwoEnded.{two_ended_text, two_ended_title}
 use Rattle.flow_check.specs.declared.bounds.Bounds.{Bounds}
 use Rattle.flow_cert.proofs.Lawful.{span-fits}
 use Rattle.flow_c.specs.Statuses.{number, memory}
@@ -55,10 +57,11 @@ jobs-short n [] few all = tt
 jobs-short n (job ∷ jobs) few all =
     ((omega (arith, few, all.0.1), omega (arith, few, all.0.1)), jobs-short n jobs few all.1)
 
--- the lines before the directions
-lines-short : (shop : Shop) (bounds : Bounds) (sequence : List ℕ) → IsWithinLimits shop → bounds.lower < 2 ^ 64 →
-    bounds.upper < 2 ^ 64 → IsSequence shop.jobs sequence → length (sequence_lines shop bounds sequence) ≤ 3290
-lines-short shop bounds sequence limits low high is =
+-- the four lines, with a title that is as short as those of certificates
+lines-short : (title : List ℕ) (shop : Shop) (bounds : Bounds) (sequence : List ℕ) → length title ≤ 21 →
+    IsWithinLimits shop → bounds.lower < 2 ^ 64 → bounds.upper < 2 ^ 64 → IsSequence shop.jobs sequence →
+    length (sequence_lines title shop bounds sequence) ≤ 3275
+lines-short title shop bounds sequence named limits low high is =
     let sizes : length (line (spaced (shop.jobs ∷ shop.machines ∷ []))) ≤ 9 =
     line-short 3 (shop.jobs ∷ shop.machines ∷ []) (omega arith) (
       (omega (arith, limits.jobs), omega (arith, limits.jobs)),
@@ -70,18 +73,17 @@ lines-short shop bounds sequence limits low high is =
     let all : length (line (spaced sequence)) ≤ 4 * length sequence + 1 =
     line-short 3 sequence (omega arith)
     (jobs-short shop.jobs sequence (omega (arith, limits.jobs)) (recursion_from_All _ sequence is.each.range)) in
-    let title : length title_line ≡ 21 = refl in
     omega (
       arith,
       sizes,
       both,
       all,
-      title,
+      named,
       is.whole,
       limits.jobs,
-      length-append title_line (line (spaced (shop.jobs ∷ shop.machines ∷ []))),
-      length-append (size_lines shop) (line (spaced (bounds.lower ∷ bounds.upper ∷ []))),
-      length-append (bounds_lines shop bounds) (line (spaced sequence)),
+      length-append title (line (spaced (shop.jobs ∷ shop.machines ∷ []))),
+      length-append (size_lines title shop) (line (spaced (bounds.lower ∷ bounds.upper ∷ []))),
+      length-append (bounds_lines title shop bounds) (line (spaced sequence)),
     )
 
 -- what stands behind the directions
@@ -90,11 +92,11 @@ tail = line [] ++ line ending
 
 -- the text with no directions
 around-length : (shop : Shop) (bounds : Bounds) (sequence : List ℕ) →
-    length (two_ended_text shop bounds sequence []) ≡ length (sequence_lines shop bounds sequence) + 5
+    length (two_ended_text shop bounds sequence []) ≡ length (sequence_lines two_ended_title shop bounds sequence) + 5
 around-length shop bounds sequence =
     let first : length (line []) ≡ 1 = refl in
     let last : length (line ending) ≡ 4 = refl in
-    let lines = sequence_lines shop bounds sequence in
+    let lines = sequence_lines two_ended_title shop bounds sequence in
     omega (arith, first, last, length-append (lines ++ line []) (line ending), length-append lines (line []))
 
 -- it has at least the bytes behind the directions
@@ -106,7 +108,34 @@ long_enough shop bounds sequence = omega (arith, around-length shop bounds seque
 around-short : (shop : Shop) (bounds : Bounds) (sequence : List ℕ) → IsWithinLimits shop → bounds.lower < 2 ^ 64 →
     bounds.upper < 2 ^ 64 → IsSequence shop.jobs sequence → length (two_ended_text shop bounds sequence []) ≤ 3300
 around-short shop bounds sequence limits low high is =
-    omega (arith, around-length shop bounds sequence, lines-short shop bounds sequence limits low high is)
+    let title : length two_ended_title ≡ 21 = refl in
+    let lines : length (sequence_lines two_ended_title shop bounds sequence) ≤ 3275 =
+    lines-short two_ended_title shop bounds sequence (omega (arith, title)) limits low high is in
+    omega (arith, around-length shop bounds sequence, lines)
+
+-- a counted text is short, too
+pub counted-short : (shop : Shop) (bounds : Bounds) (sequence : List ℕ) (count : ℕ) → IsWithinLimits shop →
+    bounds.lower < 2 ^ 64 → IsSequence shop.jobs sequence → span shop sequence ≡ bounds.upper → count < 2 ^ 64 →
+    length (counted_text shop bounds sequence count) ≤ 3300
+counted-short shop bounds sequence count limits low is attained fits =
+    let title : length counted_title ≡ 19 = refl in
+    let high : bounds.upper < 2 ^ 64 = omega (arith, span-fits shop sequence limits is, attained) in
+    let lines : length (sequence_lines counted_title shop bounds sequence) ≤ 3275 =
+    lines-short counted_title shop bounds sequence (omega (arith, title)) limits low high is in
+    let digits : length (decimal count) ≤ 20 =
+    length-decimal-le 20 count (omega arith) (omega (arith, fits)) fits in
+    let last : length (line ending) ≡ 4 = refl in
+    let one : length (line []) ≡ 1 = refl in
+    omega (
+      arith,
+      lines,
+      digits,
+      last,
+      one,
+      length-append (decimal count) (10 ∷ []),
+      length-append (sequence_lines counted_title shop bounds sequence ++ line (decimal count)) (line ending),
+      length-append (sequence_lines counted_title shop bounds sequence) (line (decimal count)),
+    )
 
 -- lines, and what stands behind the directions, once these are put in
 put-in : (lines directions : List ℕ) →
@@ -125,7 +154,7 @@ pub text-with : (shop : Shop) (bounds : Bounds) (sequence directions : List ℕ)
     with_directions (two_ended_text shop bounds sequence []) directions
     ≡ two_ended_text shop bounds sequence directions
 text-with shop bounds sequence directions =
-    let lines = sequence_lines shop bounds sequence in
+    let lines = sequence_lines two_ended_title shop bounds sequence in
     ap (λ around. with_directions around directions) (append_assoc lines (line []) (line ending))
     ∙ put-in lines directions
 
@@ -164,10 +193,7 @@ text-found shop start most bounds sequence directions around limits is attained 
       lawful = record {
         directions = directions;
         shows = record {
-          lower_fits = lower;
-          upper_fits = high;
-          whole = is;
-          attained = attained;
+          upper = record { fit = (lower, high); whole = is; attained = attained };
           proved = proves;
         };
         text = ap (λ t. with_directions t directions) text ∙ text-with shop bounds sequence directions;

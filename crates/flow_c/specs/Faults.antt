@@ -10,6 +10,7 @@ use Rattle.flow_shop.specs.declared.instance.InstanceFault.{InstanceFault}
 use Rattle.flow_shop.specs.SequenceFaults.{sequence_fault}
 use Rattle.flow_generator.specs.Generator.{generator_fault}
 use Rattle.flow_improve.specs.Effort.{effort_fault, run_fault}
+use Rattle.flow_improve.specs.Effort as efforts
 use Rattle.flow_improve.specs.declared.effort.EffortFault.{EffortFault}
 use Rattle.flow_improve.specs.declared.effort.EffortFault.TheVariants.{Width}
 use Rattle.flow_search.specs.Choices.{Choices, versioned_fault}
@@ -91,6 +92,11 @@ timetable_fault numbers sequence starts ends = first_fault (
     ∷ room_fault (numbers.jobs * numbers.machines) starts
     ∷ room_fault (numbers.jobs * numbers.machines) ends
     ∷ [])
+
+-- the effort of these numbers
+abbrev pub effort_of : EffortNumbers → efforts.Effort
+effort_of effort =
+    record { width = effort.width; rounds = effort.rounds; seed = effort.seed; work = effort.work }
 
 -- why the numbers of an improvement are refused
 abbrev pub fault_of_effort : EffortNumbers → Option EffortFault

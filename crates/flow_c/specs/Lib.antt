@@ -1,6 +1,7 @@
 pub mod Statuses
 pub mod Places
 pub mod Faults
+pub mod Limits
 pub mod Makespans
 pub mod Checks
 pub mod Blocks
@@ -8,6 +9,7 @@ pub mod Certify
 pub mod Pictures
 pub mod Rooms
 pub mod Runs
+pub mod RunTexts
 pub mod Reached
 pub mod Searches
 pub mod Shared

@@ -1,11 +1,9 @@
--- Runs of `certify`, task by task: what is asked for, and what an answer changes.
-use Rattle.std.specs.Prelude.{ℕ, ◌≡◌, ◌&&◌, Bool, false, true, cond, nat_eq, Option, Some, None, ◌∷◌, [], List, length}
-use Rattle.std.specs.Prelude.{not}
+-- Runs of `certify`, task by task, as numbers: what is asked for, and what an answer changes. Which task is next, and
+-- what the run is after an answer, flow_certify says.
+use Rattle.std.specs.Prelude.{ℕ, ◌≡◌, ◌&&◌, Bool, false, cond, nat_eq, not, Option, Some, None, ◌∷◌, [], List}
 use Rattle.std.specs.Option.{option_map}
-use Rattle.flow_shop.specs.Shop.{Shop}
-use Rattle.flow_shop.specs.Paths.{span}
 use Rattle.flow_shop.specs.Refusals.{first_fault}
-use Rattle.flow_check.specs.TwoEnded.{two_ended_text}
+use Rattle.flow_certify.specs.Schedule.{IsNext, run_after}
 use Rattle.flow_certify.specs.Tasks.{HasSameBounds, IsAnswered, IsAsked, may_ask, may_become}
 use Rattle.flow_certify.specs.declared.run.Run.{Run}
 use Rattle.flow_certify.specs.declared.task.Task.{Task}
@@ -15,12 +13,13 @@ use Rattle.flow_certify.specs.declared.task.Origin.TheVariants.{Start, Best, Bef
 use Rattle.flow_certify.specs.declared.task.Answer.{Answer}
 use Rattle.flow_certify.specs.declared.task.Answer.TheVariants.{Proved, Below, Over, Reached}
 use Rattle.flow_c.specs.Certify.{directions_fault}
-use Rattle.flow_c.specs.Faults.{makespan_fault, room_fault, shop_of}
+use Rattle.flow_c.specs.Faults.{effort_of, makespan_fault}
 use Rattle.flow_improve.specs.Effort as effort
 use Rattle.flow_improve.specs.declared.effort.EffortFault.{EffortFault}
 use Rattle.flow_improve.specs.declared.effort.RunLimits.{RunLimits}
 use Rattle.flow_improve.specs.declared.two_ended.BeamLimits.{BeamLimits}
 use Rattle.flow_c.specs.declared.fault.Fault.{Fault}
+use Rattle.flow_c.specs.declared.effort.EffortNumbers.{EffortNumbers}
 use Rattle.flow_c.specs.declared.run.TaskNumbers.{TaskNumbers}
 use Rattle.flow_c.specs.declared.run.AnswerNumbers.{AnswerNumbers}
 use Rattle.flow_c.specs.declared.shop.ShopNumbers.{ShopNumbers}
@@ -31,18 +30,6 @@ abbrev pub run_fault : ShopNumbers → List ℕ → ℕ → Option Fault
 run_fault numbers start directions = first_fault (
     makespan_fault numbers start
     ∷ directions_fault directions
-    ∷ [])
-
--- the two-ended certificate of a sequence, with its makespan, and of a lower bound and directions
-abbrev pub kept_text : Shop → ℕ → List ℕ → List ℕ → List ℕ
-kept_text shop lower sequence directions =
-    two_ended_text shop (record { lower = lower; upper = span shop sequence }) sequence directions
-
--- why there is no such text: the numbers are no instance, the jobs no sequence of it, or the text has no room
-abbrev pub text_fault : ShopNumbers → List ℕ → ℕ → List ℕ → ℕ → Option Fault
-text_fault numbers sequence lower directions bytes = first_fault (
-    makespan_fault numbers sequence
-    ∷ room_fault (length (kept_text (shop_of numbers) lower sequence directions)) bytes
     ∷ [])
 
 -- the number of the sequence from which a beam or rounds begin
@@ -99,9 +86,9 @@ answer_of answer =
     (cond (nat_eq answer.found 3) (Some Over)
     (cond (nat_eq answer.found 4) (Some (Reached answer.makespan (not (nat_eq answer.whole 0)))) None)))
 
--- what a run asks for next: a task that it may ask for, as numbers
-pub record IsNext (old new : Run) (numbers : TaskNumbers) : Type 0 where
-  pub asked : (task : Task) × IsAsked new task × (numbers ≡ task_numbers task)
+-- what a run asks for with an effort: the task that is next, which it may ask for, as numbers
+pub record AsksFor (effort : EffortNumbers) (old new : Run) (numbers : TaskNumbers) : Type 0 where
+  pub next : (task : Task) × IsNext (effort_of effort) old new task × IsAsked new task × (numbers ≡ task_numbers task)
   pub bounds : HasSameBounds old new
   pub tasks : new.tasks ≡ old.tasks
 
@@ -151,8 +138,9 @@ is_taken run None answer = false
 is_taken run (Some asked) None = false
 is_taken run (Some asked) (Some answer) = may_ask run asked && may_become asked answer
 
--- the run after an answer to a task
+-- the run after an answer to a task, and whether the sequence of the answer becomes the best one
 abbrev pub IsPut : Run → Run → Option Task → Option Answer → Bool → Type 0
 IsPut old new None answer better = ⊥
 IsPut old new (Some asked) None better = ⊥
-IsPut old new (Some asked) (Some answer) better = IsAnswered old new asked answer better
+IsPut old new (Some asked) (Some answer) better =
+    (new ≡ run_after old asked answer) × IsAnswered old new asked answer better

@@ -1,5 +1,13 @@
--- Searches that are shared: what numbers say of an answer, and what a call answers.
-use Rattle.std.specs.Prelude.{ℕ, ◌≡◌, ◌+◌, ◌-◌, ◌^◌, ◌⊎◌, min, nat_eq, not, List, Option, Some, None}
+-- Searches that are shared: what numbers say of an answer, what a call answers, and which answers are true.
+use Rattle.std.specs.Prelude.{ℕ, ◌≡◌, ◌+◌, ◌-◌, ◌^◌, ◌⊎◌, min, nat_eq, not, true, false, List, ◌++◌, length}
+use Rattle.std.specs.Prelude.{Option, Some, None}
+use Rattle.std.specs.Global.{Vec}
+use Rattle.std.specs.List.{flat_map, range_with_len}
+use Rattle.flow_shop.specs.Shop.{Shop}
+use Rattle.flow_directions.specs.Search.{Visit, visits, parts_visits, Continues, IsAdvanced}
+use Rattle.flow_directions.specs.declared.found.Advanced.{Advanced}
+use Rattle.flow_directions.specs.declared.found.Advanced.TheVariants as advanced
+use Rattle.flow_parts.specs.Meanings.{Meaning, IsTrueAnswer}
 use Rattle.flow_parts.specs.Searches.{GivesNone, GivesPlace}
 use Rattle.flow_parts.specs.declared.place.Place.{Place}
 use Rattle.flow_parts.specs.declared.search.Search.{Search}
@@ -55,3 +63,35 @@ found_place None = 0
 found_place (Some (Proved directions)) = 0
 found_place (Some (Below place directions)) = place
 found_place (Some Over) = 0
+
+-- An answer to a place says what a search of a node came to, with the directions that were written there before, and
+-- with more that is to be met behind the node: the place has these directions and those of the search; and the new
+-- places stand for the parts that are left and for what is behind them; or a sequence was reached.
+abbrev pub Says : Shop → ℕ → Meaning → ℕ → ℕ → Searched → List ℕ → List Visit → Advanced → Type 0
+Says shop threshold meaning number begins searched before more (advanced.Proved text) =
+    (meaning.text number ≡ before ++ text.items) × (searched.reached ≡ false)
+    × (flat_map meaning.parts (range_with_len begins searched.left) ≡ more)
+Says shop threshold meaning number begins searched before more (advanced.Below sequence makespan text) =
+    (meaning.text number ≡ before ++ text.items) × (searched.reached ≡ true) × (meaning.sequence number ≡ sequence)
+Says shop threshold meaning number begins searched before more (advanced.Rest text parts) =
+    (meaning.text number ≡ before ++ text.items) × (searched.reached ≡ false)
+    × (flat_map meaning.parts (range_with_len begins searched.left) ≡ parts_visits shop threshold parts.items ++ more)
+
+-- a search that proves the threshold for a node goes on with what is behind the node (law: answers_are_true)
+abbrev pub ProvedGoesOn : Type 0
+ProvedGoesOn =
+    (shop : Shop) (threshold budget : ℕ) (first last before : List ℕ) (text : Vec ℕ) (all more : List Visit) →
+    Continues all before (visits shop threshold first last ++ more) →
+    IsAdvanced shop threshold budget first last (advanced.Proved text) →
+    Continues all (before ++ text.items) more
+
+-- An answer is true that says what a search of a node came to, where the parts of the place meet the directions that
+-- were written before, then what that node meets, and then the rest (law: answers_are_true).
+abbrev pub AnswersAreTrue : Type 0
+AnswersAreTrue =
+    (shop : Shop) (threshold budget : ℕ) (first last before : List ℕ) (more : List Visit) (came : Advanced)
+    (meaning : Meaning) (number begins : ℕ) (searched : Searched) →
+    Continues (meaning.parts number) before (visits shop threshold first last ++ more) →
+    IsAdvanced shop threshold budget first last came → searched.written ≡ length (meaning.text number) →
+    Says shop threshold meaning number begins searched before more came →
+    IsTrueAnswer meaning number begins searched

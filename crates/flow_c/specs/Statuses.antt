@@ -89,6 +89,7 @@ of_check (check.Tree line) = 65
 of_check (check.Weak line) = 66
 of_check (check.Low line) = 67
 of_check check.End = 68
+of_check check.Most = 69
 
 -- the number of a fault of a benchmark text
 abbrev pub of_text : TextFault → ℕ

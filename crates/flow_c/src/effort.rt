@@ -1,7 +1,7 @@
 //! How much a search of better sequences may do, as a caller says it.
 
 ghost use Rattle.std.specs.Prelude.{◌≡◌, None, Some, IfOk, OnOk, IfErr};
-ghost use Rattle.flow_c.specs.Faults.{fault_of_effort};
+ghost use Rattle.flow_c.specs.Faults.{effort_of, fault_of_effort};
 
 use flow_improve::{Effort, EffortFault};
 
@@ -21,12 +21,7 @@ pub struct EffortNumbers {
 impl EffortNumbers {
     /// The effort of the numbers; or the first fault.
     pub(crate) fn effort(&self) -> Result<Effort, EffortFault>
-        ensures value { IfOk result (λ effort. effort ≡ record {
-          width = self.now.width;
-          rounds = self.now.rounds;
-          seed = self.now.seed;
-          work = self.now.work;
-        }) }
+        ensures value { IfOk result (λ effort. effort ≡ effort_of self.now) }
         ensures accepted { OnOk result (fault_of_effort self.now ≡ None) }
         ensures refused { IfErr result (λ fault. fault_of_effort self.now ≡ Some fault) }
     {

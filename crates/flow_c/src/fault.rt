@@ -217,6 +217,7 @@ fn of_check(fault: CheckFault) -> (u32, usize)
         CheckFault::Weak(line) => (66, line),
         CheckFault::Low(line) => (67, line),
         CheckFault::End => (68, 0),
+        CheckFault::Most => (69, 0),
     }
 }
 

@@ -13,6 +13,7 @@
 //! - `node.rt`: the lists of a node, as a caller lends them.
 //! - `part.rt`: parts of a search, as numbers.
 //! - `version.rt`: `flowshop_version`.
+//! - `limits.rt`: `flowshop_limits`.
 //! - `generate.rt`: `flowshop_generate`.
 //! - `block.rt`: `flowshop_block`.
 //! - `span.rt`: the makespan of a sequence, two jobs at a time.
@@ -26,10 +27,12 @@
 //! - `rounds.rt`: `flowshop_rounds`.
 //! - `solve.rt`: `flowshop_solve`.
 //! - `certify.rt`: `flowshop_certify`.
-//! - `run.rt`: `flowshop_run`, `flowshop_run_next`, `flowshop_run_put` and `flowshop_run_text`.
+//! - `run.rt`: `flowshop_run`, `flowshop_run_next` and `flowshop_run_put`.
+//! - `run_text.rt`: `flowshop_run_text` and `flowshop_run_counted`.
 //! - `search.rt`: `flowshop_search`, `flowshop_search_give`, `flowshop_search_put` and `flowshop_search_found`.
 //! - `prove.rt`: `flowshop_prove`.
-//! - `check.rt`: `flowshop_check`.
+//! - `check.rt`: `flowshop_check` and `flowshop_check_within`.
+//! - `laws.rt`: laws of the definitions.
 #![tactic(auto)]
 
 mod beam;
@@ -41,6 +44,8 @@ mod effort;
 mod fault;
 mod generate;
 mod improve;
+mod laws;
+mod limits;
 mod makespan;
 mod makespans;
 mod neh;
@@ -53,6 +58,7 @@ mod reached;
 mod room;
 mod rounds;
 mod run;
+mod run_text;
 mod search;
 mod shop;
 mod solve;

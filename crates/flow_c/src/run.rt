@@ -1,35 +1,30 @@
 //! A run of `certify`, task by task.
 
-ghost use Rattle.std.specs.Prelude.{◌≡◌, ◌⊎◌, ◌+◌, ◌≤◌, min, nat_eq, Bool, cond, None, [], length, drop};
-ghost use Rattle.std.specs.Prelude.{true, false, IfOk, OnOk, IfErr, IsSomeAnd};
+ghost use Rattle.std.specs.Prelude.{◌≡◌, ◌⊎◌, ◌≤◌, min, nat_eq, not, Bool, cond, None, [], true, false};
+ghost use Rattle.std.specs.Prelude.{IfOk, OnOk, IfErr, IsSomeAnd};
 ghost use Rattle.std.specs.Option.{option_map};
 ghost use Rattle.flow_shop.specs.Paths.{span};
 ghost use Rattle.flow_shop.specs.Ends.{end_bound};
 ghost use Rattle.flow_bound.specs.Taillard.{taillard_bound};
+ghost use Rattle.flow_certify.specs.Schedule.{first_run};
 ghost use Rattle.flow_certify.specs.Signs.{most_signs};
 ghost use Rattle.flow_c.specs.Statuses.{number, done, memory};
 ghost use Rattle.flow_c.specs.Faults.{shop_of, numbers_fault, fault_of_effort, IsFaultOf, IsDone, HasFault, Reports};
-ghost use Rattle.flow_c.specs.Rooms.{IsSameRoom, text_in};
-ghost use Rattle.flow_c.specs.Runs.{IsNext, IsPut, answer_of, beam_of, is_taken, kept_text, origin_number, origin_of};
-ghost use Rattle.flow_c.specs.Runs.{rounds_of, run_fault, task_numbers, task_of, text_fault};
+ghost use Rattle.flow_c.specs.Runs.{AsksFor, IsPut, answer_of, beam_of, is_taken, origin_number, origin_of};
+ghost use Rattle.flow_c.specs.Runs.{rounds_of, run_fault, task_numbers, task_of};
 ghost use Rattle.flow_improve.specs.Effort as effort;
-ghost use Rattle.flow_c.specs.internal.Around.{behind};
 ghost use Rattle.flow_c.specs.declared.fault.Fault.TheVariants.{Effort, NoAnswer};
 
 use crate::beam::BeamOptions;
-use crate::certify::{around, most_of, put};
+use crate::certify::most_of;
 use crate::effort::EffortNumbers;
 use crate::fault::Fault;
 use crate::outcome::Outcome;
-use crate::room::need;
 use crate::rounds::RoundsOptions;
 use crate::shop::ShopNumbers;
-use crate::text::TextRoom;
 use flow_certify::{Answer, Origin, Run, Task};
-use flow_check::Bounds;
 use flow_improve::{BeamLimits, RunLimits};
-use flow_shop::{Sequence, makespan};
-use flow_text::MemorySink;
+use flow_shop::Sequence;
 use std::alloc::Global;
 
 /// What a run asks for.
@@ -158,6 +153,8 @@ fn run_of(
     ensures least { IfOk result (λ run. run.least ≡ taillard_bound (shop_of shop.now)) }
     ensures most { IfOk result (λ run. run.fund.most ≤ min directions most_signs) }
     ensures limited { IfOk result (λ run. run.limited ≡ cond (nat_eq limited 0) 0 1) }
+    ensures first { IfOk result (λ run.
+        run ≡ first_run (shop_of shop.now) start.now directions (not (nat_eq limited 0))) }
     ensures accepted { OnOk result (run_fault shop.now start.now directions ≡ None) }
     ensures refused { IfErr result (IsFaultOf (run_fault shop.now start.now directions)) }
     ensures memory { IfErr result (λ fault. number fault ≡ memory → numbers_fault shop.now ≡ None) }
@@ -186,6 +183,8 @@ pub extern "C" fn flowshop_run(
     ensures least { result.status ≡ done → run.new.least ≡ taillard_bound (shop_of shop.now) }
     ensures most { result.status ≡ done → run.new.fund.most ≤ min directions most_signs }
     ensures limited { result.status ≡ done → run.new.limited ≡ cond (nat_eq limited 0) 0 1 }
+    ensures first { result.status ≡ done →
+        run.new ≡ first_run (shop_of shop.now) start.now directions (not (nat_eq limited 0)) }
     ensures stays { result.status ≡ done → result.place ≡ 0 }
     ensures kept { (result.status ≡ done) ⊎ (run.new ≡ run.old) }
 {
@@ -254,7 +253,7 @@ fn numbers_of_task(task: Task) -> TaskNumbers
     numbers
 }
 
-/// What a run asks for next.
+/// What a run asks for next, which is the task that is next in it.
 #[unsafe(no_mangle)]
 pub extern "C" fn flowshop_run_next(
     run: &mut Run,
@@ -262,7 +261,7 @@ pub extern "C" fn flowshop_run_next(
     task: &mut TaskNumbers,
 ) -> Outcome
     ensures status { Reports (option_map Effort (fault_of_effort effort.now)) result }
-    ensures next { result.status ≡ done → IsNext run.old run.new task.new }
+    ensures next { result.status ≡ done → AsksFor effort.now run.old run.new task.new }
     ensures kept { (result.status ≡ done) ⊎ ((run.new ≡ run.old) × (task.new ≡ task.old)) }
 {
     match effort.effort() {
@@ -308,65 +307,5 @@ pub extern "C" fn flowshop_run_put(
             Outcome::done()
         }
         None => Outcome::refused(Fault::NoAnswer),
-    }
-}
-
-/// The text of a sequence with its makespan and of a lower bound, with no directions, where there is room for it with
-/// these.
-fn text_of(
-    alloc: Global,
-    shop: &ShopNumbers,
-    sequence: &[u16],
-    lower: u64,
-    directions: &[u8],
-    room: usize,
-) -> Result<MemorySink, Fault>
-    ensures text { IfOk result (λ text. text.bytes ≡ kept_text (shop_of shop.now) lower sequence.now []) }
-    ensures long_enough { IfOk result (λ text. behind ≤ length text.bytes) }
-    ensures enough { IfOk result (λ text. length text.bytes + length directions.now ≤ room) }
-    ensures accepted { OnOk result (text_fault shop.now sequence.now lower directions.now room ≡ None) }
-    ensures refused { IfErr result (IsFaultOf (text_fault shop.now sequence.now lower directions.now room)) }
-    ensures memory { IfErr result (λ fault. number fault ≡ memory → numbers_fault shop.now ≡ None) }
-{
-    let instance = shop.instance(alloc)?;
-    let sequence = Sequence::new(alloc, &instance, sequence)?;
-    let bounds = Bounds {
-        lower,
-        upper: makespan(&instance, &sequence),
-    };
-    let text = around(alloc, &instance, bounds, &sequence)?;
-    need(text.bytes().len() + directions.len(), room)?;
-    Ok(text)
-}
-
-/// The two-ended certificate of a lower bound and of a sequence with its makespan, with these directions. Nothing tests
-/// that they prove the bound.
-#[unsafe(no_mangle)]
-pub extern "C" fn flowshop_run_text(
-    alloc: Global,
-    shop: &ShopNumbers,
-    sequence: &[u16],
-    lower: u64,
-    directions: &[u8],
-    text: &mut TextRoom,
-) -> Outcome
-    ensures status { Reports
-        (text_fault shop.now sequence.now lower directions.now (length text.old.bytes.now)) result }
-    ensures memory { result.status ≡ memory → numbers_fault shop.now ≡ None }
-    ensures text { result.status ≡ done →
-        text_in text.new ≡ kept_text (shop_of shop.now) lower sequence.now directions.now }
-    ensures within { result.status ≡ done → text.new.length ≤ length text.old.bytes.now }
-    ensures beyond { result.status ≡ done →
-        drop text.new.length text.new.bytes.now ≡ drop text.new.length text.old.bytes.now }
-    ensures room { IsSameRoom text.new.bytes text.old.bytes }
-    ensures stays { result.status ≡ done → result.place ≡ 0 }
-    ensures kept { (result.status ≡ done) ⊎ (text.new ≡ text.old) }
-{
-    match text_of(alloc, shop, sequence, lower, directions, text.bytes.len()) {
-        Ok(lines) => {
-            text.length = put(lines.bytes(), directions, text.bytes);
-            Outcome::done()
-        }
-        Err(fault) => Outcome::refused(fault),
     }
 }

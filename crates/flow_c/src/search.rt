@@ -39,11 +39,13 @@ impl SearchedNumbers {
     }
 }
 
-/// Begins a search that is shared, of at most so many directions: place 0, which stands for all of it, waits.
+/// Begins a search that is shared, of at most so many directions: place 0, which stands for all of it, waits. The other
+/// entries of the array stay as they were.
 #[unsafe(no_mangle)]
 pub extern "C" fn flowshop_search(budget: u64, places: &mut [Place], search: &mut Search) -> Outcome
     ensures begun { 0 < length places.old → IsDone result × IsSearch search.new places.new (0 ∷ [])
         × (search.new.budget ≡ budget) × (search.new.places ≡ 1) × ((place_at places.new 0).state ≡ 0) }
+    ensures unused { (number : ℕ) → 1 ≤ number → place_at places.new number ≡ place_at places.old number }
     ensures refused { length places.old ≡ 0 → HasFault (Room 1) result × (search.new ≡ search.old)
         × (places.new ≡ places.old) }
 {

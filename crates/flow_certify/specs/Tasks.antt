@@ -1,5 +1,6 @@
 -- What a run of `certify` asks for, and what an answer changes.
-use Rattle.std.specs.Prelude.{ℕ, ◌≡◌, ◌<◌, ◌≤◌, ◌-◌, ◌⊎◌, ◌&&◌, Bool, true, false, cond, nat_lt, nat_le}
+use Rattle.std.specs.Prelude.{ℕ, ◌≡◌, ◌<◌, ◌≤◌, ◌-◌, ◌⊎◌, ◌&&◌, Bool, true, false, cond, nat_lt, nat_le, length}
+use Rattle.flow_certify.specs.declared.acts.TheConstants.{ACTS}
 use Rattle.flow_certify.specs.declared.run.Run.{Run}
 use Rattle.flow_certify.specs.declared.task.Task.{Task}
 use Rattle.flow_certify.specs.declared.task.Task.TheVariants.{Search, Beam, Rounds, End}
@@ -9,7 +10,7 @@ use Rattle.flow_certify.specs.declared.task.Answer.TheVariants.{Proved, Below, O
 
 -- how many acts a run has
 abbrev pub acts : ℕ
-acts = 38
+acts = length ACTS
 
 -- what a run may ask for: a search below a threshold above its lower bound, up to its upper one, that writes at least
 -- one direction, and no more than its greatest budget and than are left; a beam; rounds; or nothing, where its best

@@ -5,6 +5,7 @@ ghost use Rattle.flow_shop.specs.Paths.{span};
 ghost use Rattle.flow_shop.specs.Sequences.{IsSequence};
 ghost use Rattle.flow_shop.specs.Directions.{Proves};
 ghost use Rattle.flow_shop.specs.Ends.{end_bound};
+ghost use Rattle.flow_certify.specs.Searched.{IsSearched};
 ghost use Rattle.flow_certify.specs.Signs.{most_signs};
 
 use crate::kept::Kept;
@@ -46,6 +47,7 @@ pub fn certify<P: Prover>(
     ensures attained { IfOk result (λ found. span instance.now found.sequence ≡ found.upper) }
     ensures no_worse { IfOk result (λ found. found.upper ≤ span instance.now start.now) }
     ensures proved { IfOk result (λ found. Proves instance.now found.lower found.directions.items) }
+    ensures searched { IfOk result (λ found. IsSearched instance.now found.lower found.directions.items) }
     ensures floor { IfOk result (λ found. end_bound instance.now [] [] ≤ found.lower) }
     ensures few { IfOk result (λ found. length found.directions.items ≤ min most most_signs) }
 {

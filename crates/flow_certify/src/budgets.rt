@@ -1,6 +1,7 @@
 //! The budgets of the searches for a certificate: how many directions each may write, and all of them together.
 
 ghost use Rattle.std.specs.Prelude.{◌≡◌, ◌≤◌, min};
+ghost use Rattle.flow_certify.specs.Funds.{charged, first_fund, granted, released};
 ghost use Rattle.flow_certify.specs.Signs.{most_signs};
 
 use flow_nodes::fits_narrow_lanes;
@@ -50,7 +51,8 @@ impl Fund {
     /// What searches may write, where the caller's limit is `directions`, and `makespan` is that of the start. One
     /// search may write the least of three numbers: the limit, what `check` reads, and four fifths of what all may.
     pub(crate) fn new(instance: &Instance, makespan: u64, directions: u32) -> Fund
-        ensures { result.most ≤ min directions most_signs }
+        ensures fund { result ≡ first_fund instance.now makespan directions }
+        ensures most { result.most ≤ min directions most_signs }
     {
         let jobs = u64::from(instance.jobs());
         let narrow = jobs * u64::from(instance.machines()) + FIXED;
@@ -70,8 +72,7 @@ impl Fund {
 
     /// How many directions a search with a budget may write: no more than the greatest budget, and than are left.
     pub(crate) fn granted(self, budget: Budget) -> u64
-        ensures most { result ≤ self.most }
-        ensures left { result ≤ self.left }
+        ensures { result ≡ granted self budget }
     {
         let wanted = match budget {
             Budget::Of(directions) => directions,
@@ -85,7 +86,7 @@ impl Fund {
 
     /// Takes off what a search cost that wrote so many directions.
     pub(crate) fn spend(&mut self, directions: u64)
-        ensures { self.new.most ≡ self.old.most }
+        ensures { self.new ≡ charged directions self.old }
     {
         if directions > 0 {
             let cost = directions.saturating_add(self.entry);
@@ -95,7 +96,7 @@ impl Fund {
 
     /// Gives what is kept to the next searches.
     pub(crate) fn release(&mut self)
-        ensures { self.new.most ≡ self.old.most }
+        ensures { self.new ≡ released self.old }
     {
         self.left = self.left.saturating_add(self.kept);
         self.kept = 0;

@@ -8,12 +8,14 @@
 //! - `budgets.rt`: the budgets of the searches.
 //! - `most.rt`: the limit that a caller sets on the directions of a certificate.
 //! - `shared.rt`: what all tasks share.
+//! - `laws.rt`: laws of the definitions.
 #![tactic(auto)]
 
 mod acts;
 mod bounds;
 mod budgets;
 mod kept;
+mod laws;
 mod most;
 mod run;
 mod shared;

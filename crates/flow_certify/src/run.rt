@@ -1,12 +1,16 @@
 //! A run of `certify`, as numbers: which task is next, and what an answer changes.
 
 ghost use Rattle.std.specs.Prelude.{◌≡◌, ◌↔◌, ◌<◌, ◌≤◌, min, cond, true, false, None, [], length};
-ghost use Rattle.std.specs.Prelude.{◌&&◌, IfSome, IsSomeAnd, IsTrue};
+ghost use Rattle.std.specs.Prelude.{◌&&◌, IfSome, IsSome, IsSomeAnd, IsTrue, if◌then◌else◌};
 ghost use Rattle.flow_shop.specs.Paths.{span};
 ghost use Rattle.flow_shop.specs.Ends.{end_bound};
 ghost use Rattle.flow_bound.specs.Taillard.{taillard_bound};
+ghost use Rattle.flow_certify.specs.Schedule.{IsNext, act_at_hand, asked_of, beam_made, beam_of, first_run, halved};
+ghost use Rattle.flow_certify.specs.Schedule.{improved, passed, raised, ran_over, rounds_of, run_after, search_of};
+ghost use Rattle.flow_certify.specs.Schedule.{went_on};
 ghost use Rattle.flow_certify.specs.Signs.{most_signs};
-ghost use Rattle.flow_certify.specs.Tasks.{IsAnswered, IsAsked, HasSameBounds, may_ask, may_become};
+ghost use Rattle.flow_certify.specs.declared.task.Task.TheVariants.{End};
+ghost use Rattle.flow_certify.specs.Tasks.{acts, IsAnswered, IsAsked, HasSameBounds, may_ask, may_become};
 
 use crate::acts::{ACTS, Act, WHOLE};
 use crate::budgets::{Budget, Fund};
@@ -69,6 +73,7 @@ impl Run {
     /// A run from a start, each of whose searches writes at most so many directions.
     pub fn new(instance: &Instance, start: &Sequence, most: MostDirections, limited: bool) -> Run
         requires { length start.now ≡ instance.now.jobs }
+        ensures first { result ≡ first_run instance.now start.now most limited }
         ensures lower { result.lower ≡ end_bound instance.now [] [] }
         ensures upper { result.upper ≡ span instance.now start.now }
         ensures least { result.least ≡ taillard_bound instance.now }
@@ -98,27 +103,31 @@ impl Run {
         }
     }
 
-    /// Whether the makespan of the best sequence is proved.
-    fn is_proved(&self) -> bool
-        ensures { IsTrue result ↔ self.now.upper ≤ self.now.lower }
+    /// The act at hand. There is none where the best sequence is proved, no task may follow, or all acts are passed.
+    #[tactic(auto, unfolding(crate::specs::Schedule::act_at_hand))]
+    fn act_at_hand(&self) -> Option<Act>
+        ensures act { result ≡ act_at_hand self.now }
+        ensures open { IsSome result → (self.now.lower < self.now.upper) × (self.now.act < acts) }
+        ensures end { result ≡ None → IsAsked self.now End }
     {
-        self.lower >= self.upper
+        if self.lower >= self.upper || self.tasks == 0 {
+            return None;
+        }
+        ACTS.get(self.act as usize).copied()
     }
 
     /// What is to be done next.
     pub fn next(&mut self, effort: &Effort) -> Task
+        ensures next { IsNext effort.now self.old self.new result }
         ensures asked { IsAsked self.new result }
         ensures bounds { HasSameBounds self.old self.new }
         ensures tasks { self.new.tasks ≡ self.old.tasks }
     {
-        'acts: while let Some(act) = ACTS.get(self.act as usize) {
-            if self.is_proved() || self.tasks == 0 {
-                break;
-            }
-            if let Some(task) = self.task_of(*act, effort) {
+        'acts: while let Some(act) = self.act_at_hand() {
+            if let Some(task) = self.task_of(act, effort) {
                 return task;
             }
-            self.pass(*act);
+            self.pass(act);
         }
         Task::End
     }
@@ -126,24 +135,26 @@ impl Run {
     /// What an act has to do at this moment, where there is something.
     fn task_of(&self, act: Act, effort: &Effort) -> Option<Task>
         requires { self.now.lower < self.now.upper }
-        ensures { IfSome result (IsAsked self.now) }
+        ensures task { result ≡ asked_of effort.now self.now act }
+        ensures asked { IfSome result (IsAsked self.now) }
     {
+        let (lower, upper) = (self.lower, self.upper);
         let (width, work) = (effort.width(), effort.beam_work());
         match act {
-            Act::Upper(budget) => self.search(self.upper, budget),
+            Act::Upper(budget) => self.search(upper, budget),
             Act::Raise(budget) => self.search(self.raised()?, budget),
             Act::RaiseEarly(budget) if self.limited != 0 => self.search(self.raised()?, budget),
             Act::NarrowBeam => beam(Origin::Start, None, width.min(NARROW), work),
             Act::WideBeam if width > NARROW => beam(Origin::Start, None, width, work),
-            Act::RoundsOfStart if self.upper < self.start => {
+            Act::RoundsOfStart if upper < self.start => {
                 self.rounds(Origin::Start, effort.from_start())
             }
-            Act::RoundsOfBest if self.upper < self.step_upper => {
+            Act::RoundsOfBest if upper < self.step_upper => {
                 self.rounds(Origin::Before, effort.from_beam())
             }
             Act::RoundsOfBest => self.rounds(Origin::Best, effort.from_beam()),
-            Act::Aim if self.missed <= self.lower => {
-                let aimed = Some(self.lower.saturating_add(1));
+            Act::Aim if self.missed <= lower => {
+                let aimed = Some(lower.saturating_add(1));
                 let width = width.saturating_mul(8).min(MAX_WIDTH);
                 beam(Origin::Best, aimed, width, work.saturating_mul(AIMED_SHARE))
             }
@@ -156,7 +167,8 @@ impl Run {
     fn search(&self, threshold: u64, budget: Budget) -> Option<Task>
         requires from { self.now.lower < threshold }
         requires to { threshold ≤ self.now.upper }
-        ensures { IfSome result (IsAsked self.now) }
+        ensures task { result ≡ search_of self.now budget threshold }
+        ensures asked { IfSome result (IsAsked self.now) }
     {
         let budget = self.fund.granted(budget);
         let is_over = threshold == self.upper && budget <= self.over;
@@ -169,7 +181,8 @@ impl Run {
     /// Rounds from a sequence, where there are some, and the best sequence has not Taillard's lower bound.
     fn rounds(&self, from: Origin, limits: RunLimits) -> Option<Task>
         requires { self.now.lower < self.now.upper }
-        ensures { IfSome result (IsAsked self.now) }
+        ensures task { result ≡ rounds_of self.now from limits }
+        ensures asked { IfSome result (IsAsked self.now) }
     {
         if limits.rounds() == 0 || self.upper <= self.least {
             return None;
@@ -180,7 +193,8 @@ impl Run {
     /// The threshold by which the lower bound is raised, if there is one to try.
     fn raised(&self) -> Option<u64>
         requires { self.now.lower < self.now.upper }
-        ensures { IfSome result (λ threshold. (self.now.lower < threshold) × (threshold ≤ self.now.upper)) }
+        ensures threshold { result ≡ raised self.now }
+        ensures between { IfSome result (λ threshold. (self.now.lower < threshold) × (threshold ≤ self.now.upper)) }
     {
         let between = self
             .top
@@ -194,7 +208,10 @@ impl Run {
     }
 
     /// The threshold half of the way to the makespan of the best sequence, if there is one to aim at.
-    fn halved(&self) -> Option<u64> {
+    fn halved(&self) -> Option<u64>
+        requires { self.now.lower < self.now.upper }
+        ensures { result ≡ halved self.now }
+    {
         let missed = self.missed.max(self.lower.saturating_add(1));
         let half = self.upper.saturating_sub(missed) / 2;
         if half == 0 {
@@ -205,6 +222,7 @@ impl Run {
 
     /// Ends an act, and begins the next one.
     fn pass(&mut self, act: Act)
+        ensures passed { self.new ≡ passed act self.old }
         ensures later { self.old.act < 4294967295 → self.old.act < self.new.act }
         ensures bounds { HasSameBounds self.old self.new }
         ensures tasks { self.new.tasks ≡ self.old.tasks }
@@ -227,8 +245,10 @@ impl Run {
     }
 
     /// Takes what became of a task that the run asked for. Returns whether the sequence that was reached becomes the
-    /// best one; `None` where the run may not ask for such a task, or this is no answer to it, and then nothing changes.
+    /// best one; `None` where the run may not ask for such a task, or this is no answer to it: then nothing changes.
     pub fn put(&mut self, task: &Task, answer: &Answer) -> Option<bool>
+        ensures after { (may_ask self.old task.now && may_become task.now answer.now) ≡ true →
+            self.new ≡ run_after self.old task.now answer.now }
         ensures accepted { (may_ask self.old task.now && may_become task.now answer.now) ≡ true →
             IsSomeAnd result (IsAnswered self.old self.new task.now answer.now) }
         ensures refused { (may_ask self.old task.now && may_become task.now answer.now) ≡ false →
@@ -256,7 +276,8 @@ impl Run {
     /// The same of an answer that may be given.
     pub(crate) fn answered(&mut self, task: &Task, answer: &Answer) -> bool
         requires { may_become task.now answer.now ≡ true }
-        ensures { IsAnswered self.old self.new task.now answer.now result }
+        ensures after { self.new ≡ run_after self.old task.now answer.now }
+        ensures answered { IsAnswered self.old self.new task.now answer.now result }
     {
         self.tasks = self.tasks.saturating_sub(1);
         match (task, answer) {
@@ -299,10 +320,7 @@ impl Run {
     /// Takes a makespan where that is so. Returns whether it is.
     fn take(&mut self, makespan: u64, better: bool) -> bool
         ensures same { result ≡ better }
-        ensures upper { self.new.upper ≡ cond better makespan self.old.upper }
-        ensures lower { self.new.lower ≡ self.old.lower }
-        ensures most { self.new.fund.most ≡ self.old.fund.most }
-        ensures tasks { self.new.tasks ≡ self.old.tasks }
+        ensures after { self.new ≡ (if better then improved makespan self.old else self.old) }
     {
         if better {
             self.upper = makespan;
@@ -313,8 +331,7 @@ impl Run {
 
     /// Counts the directions of a search that was not over. The lower bound is raised further the next time.
     fn go_on(&mut self, directions: u64)
-        ensures bounds { HasSameBounds self.old self.new }
-        ensures tasks { self.new.tasks ≡ self.old.tasks }
+        ensures { self.new ≡ went_on directions self.old }
     {
         self.fund.spend(directions);
         self.stride = self.stride.saturating_mul(2);
@@ -322,8 +339,7 @@ impl Run {
 
     /// Notes that a search was over its budget.
     fn note_over(&mut self, threshold: u64, budget: u64)
-        ensures bounds { HasSameBounds self.old self.new }
-        ensures tasks { self.new.tasks ≡ self.old.tasks }
+        ensures { self.new ≡ ran_over threshold budget self.old }
     {
         self.fund.spend(budget);
         self.top = threshold;
@@ -335,8 +351,7 @@ impl Run {
     /// Ends a beam: one that is aimed at a threshold may be followed by the next one; after another that was whole no
     /// better sequence is looked for.
     fn end_beam(&mut self, limits: &BeamLimits, better: bool, whole: bool)
-        ensures bounds { HasSameBounds self.old self.new }
-        ensures tasks { self.new.tasks ≡ self.old.tasks }
+        ensures { self.new ≡ beam_made limits.now.below better whole self.old }
     {
         match limits.below {
             Some(threshold) if !better => self.missed = threshold,
@@ -349,7 +364,8 @@ impl Run {
 
 /// A beam from a sequence, where it has a width.
 fn beam(from: Origin, below: Option<u64>, width: u32, work: u64) -> Option<Task>
-    ensures { (run : Run) → run.lower < run.upper → IfSome result (IsAsked run) }
+    ensures task { result ≡ beam_of from below width work }
+    ensures asked { (run : Run) → run.lower < run.upper → IfSome result (IsAsked run) }
 {
     if width == 0 {
         return None;

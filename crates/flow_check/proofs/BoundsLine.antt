@@ -4,7 +4,7 @@ use Rattle.std.proofs.Common.{◌∙◌}
 use Rattle.std.proofs.lemmas.Bool.{ltb-true, lt-ltb, and_from, and_parts}
 use Rattle.std.proofs.lemmas.Option.{none-some, cond_some}
 use Rattle.flow_check.specs.TextLines.{spaced}
-use Rattle.flow_check.specs.TwoEnded.{AreInRange}
+use Rattle.flow_check.specs.FourLines.{AreInRange}
 use Rattle.flow_check.specs.internal.Reading.{numbers_in}
 use Rattle.flow_check.specs.declared.bounds.Bounds.{Bounds}
 use Rattle.flow_check.proofs.Numbers.{IsPlain, numbers-sound, numbers-complete, spaced-plain}

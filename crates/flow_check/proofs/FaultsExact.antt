@@ -19,7 +19,7 @@ use Rattle.flow_check.specs.internal.ReadTrees.{cut_value}
 use Rattle.flow_check.specs.internal.Reading.{FaultIsExact}
 use Rattle.flow_check.specs.declared.fault.CheckFault.{CheckFault}
 use Rattle.flow_check.specs.declared.fault.CheckFault.TheVariants.{Memory, Header, Size, Value, Sequence, NotAttained}
-use Rattle.flow_check.specs.declared.fault.CheckFault.TheVariants.{Tree, Weak, Low, End}
+use Rattle.flow_check.specs.declared.fault.CheckFault.TheVariants.{Most, Tree, Weak, Low, End}
 use Rattle.flow_check.proofs.TreesExact.{fault-value}
 use Rattle.flow_check.proofs.TreeFaults.{lines-read}
 use Rattle.flow_check.proofs.Exact.{after_header, after_size, after_value, value_is_exact}
@@ -76,6 +76,7 @@ last-read shop text fault limits (version, depth, value, sequence, known, deep, 
 all-read : (shop : Shop) (text : List ℕ) (fault : CheckFault) → IsWithinLimits shop →
     HasFirstFault shop text fault → read_at shop text ≡ Err fault
 all-read shop text Memory limits h = absurd h
+all-read shop text Most limits h = absurd h
 all-read shop text Header limits h =
     title-refused shop text (λ version rest known e. h version known (rest, e))
 all-read shop text Size limits (version, known, (rest, e), none) =
@@ -127,8 +128,8 @@ either shop text limits (Err fault) e = inr (fault, (fault_is_exact shop text fa
 pub each_text_is_judged : EachTextIsJudged
 each_text_is_judged shop text limits = record {
   some = either shop text limits (text_value shop text) refl;
-  apart = λ value fault is h. fault-value fault value (sym (first-read shop text fault limits h)
-      ∙ (value_is_exact shop text value limits).1 is);
+  apart = λ fault lawful h. fault-value fault lawful.0 (sym (first-read shop text fault limits h)
+      ∙ (value_is_exact shop text lawful.0 limits).1 lawful.1);
   one = λ fault other h k. ap fault_of (sym (first-read shop text fault limits h)
       ∙ first-read shop text other limits k);
 }

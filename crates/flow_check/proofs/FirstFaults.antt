@@ -26,7 +26,7 @@ use Rattle.flow_check.specs.internal.ReadTrees.{cut_value}
 use Rattle.flow_check.specs.internal.Reading.{version_of}
 use Rattle.flow_check.specs.declared.fault.CheckFault.{CheckFault}
 use Rattle.flow_check.specs.declared.fault.CheckFault.TheVariants.{Memory, Header, Size, Value, Sequence, NotAttained}
-use Rattle.flow_check.specs.declared.fault.CheckFault.TheVariants.{Tree, Weak, Low, End}
+use Rattle.flow_check.specs.declared.fault.CheckFault.TheVariants.{Most, Tree, Weak, Low, End}
 use Rattle.flow_check.proofs.Numbers.{Fit, numbers-sound, numbers-complete, spaced-plain}
 use Rattle.flow_check.proofs.TreeFaults.{lines-have}
 use Rattle.flow_check.proofs.ExactLines.{title-plain, title-known, known-title}
@@ -100,6 +100,7 @@ of-trees shop text Size is h = absurd is
 of-trees shop text Value is h = absurd is
 of-trees shop text Sequence is h = absurd is
 of-trees shop text NotAttained is h = absurd is
+of-trees shop text Most is h = absurd is
 of-trees shop text (Tree place) is h = h
 of-trees shop text (Weak place) is h = h
 of-trees shop text (Low place) is h = h

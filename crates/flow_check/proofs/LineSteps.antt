@@ -12,7 +12,7 @@ use Rattle.flow_check.proofs.Stacks.{awaited}
 use Rattle.flow_check.specs.internal.PartsGive.{LineEnds, LinesGive}
 use Rattle.flow_check.specs.declared.fault.CheckFault.{CheckFault}
 use Rattle.flow_check.specs.declared.fault.CheckFault.TheVariants.{Memory, Header, Size, Value, Sequence, NotAttained}
-use Rattle.flow_check.specs.declared.fault.CheckFault.TheVariants.{Tree, Weak, Low, End}
+use Rattle.flow_check.specs.declared.fault.CheckFault.TheVariants.{Most, Tree, Weak, Low, End}
 use Rattle.flow_check.specs.declared.reader.Spot.{Spot}
 use Rattle.flow_check.proofs.Links.{left-next, left-none}
 
@@ -81,6 +81,7 @@ lines-fail shop version value l m ps qs line place from at bytes Size pass h = p
 lines-fail shop version value l m ps qs line place from at bytes Value pass h = pass h
 lines-fail shop version value l m ps qs line place from at bytes Sequence pass h = pass h
 lines-fail shop version value l m ps qs line place from at bytes NotAttained pass h = pass h
+lines-fail shop version value l m ps qs line place from at bytes Most pass h = pass h
 lines-fail shop version value l m ps qs line place from at bytes (Tree p) pass h = pass h
 lines-fail shop version value l m ps qs line place from at bytes (Weak p) pass h = pass h
 lines-fail shop version value l m ps qs line place from at bytes (Low p) pass h = pass h

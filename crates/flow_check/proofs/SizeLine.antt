@@ -1,8 +1,8 @@
 -- The first line, the line of an instance's size and a depth, and the line of two bounds.
-use Rattle.std.proofs.Common.{◌≡◌, ℕ, ◌+◌, ◌≤◌, ◌<◌, ◌^◌, true, false, nat_eq, List, [], ◌∷◌, ◌++◌, length, take, drop}
-use Rattle.std.proofs.Common.{Option, Some, None, IfSome, Bor, ap, ◌∙◌, append_assoc, arith}
+use Rattle.std.proofs.Common.{◌≡◌, ◌≢◌, ℕ, ◌+◌, ◌≤◌, ◌<◌, ◌^◌, true, false, nat_eq, List, [], ◌∷◌, ◌++◌, length}
+use Rattle.std.proofs.Common.{take, drop, Option, Some, None, IfSome, Bor, ap, sym, ◌∙◌, append_assoc, arith}
 use Rattle.std.specs.Fmt.{decimal}
-use Rattle.std.specs.Option.{MatchOption}
+use Rattle.std.specs.Option.{MatchOption, IsSomeAnd}
 use Rattle.std.specs.Cmp.Lexicographic.{pointwise}
 use Rattle.std.proofs.lemmas.Bool.Decides.{Decides-eqb}
 use Rattle.std.proofs.lemmas.Slice.Eq.{strip_prefix_is}
@@ -10,8 +10,9 @@ use Rattle.flow_shop.specs.Limits.{greatest_depth}
 use Rattle.std.specs.Prelude.{codes}
 use Rattle.flow_check.specs.TextLines.{line, spaced, title}
 use Rattle.flow_check.specs.internal.Heading.{BeginsWithNumber}
-use Rattle.flow_check.specs.internal.TwoEndedLines.{BeginsWithBounds}
+use Rattle.flow_check.specs.internal.FourLines.{BeginsWithBounds}
 use Rattle.flow_check.specs.declared.bounds.Bounds.{Bounds}
+use Rattle.flow_check.proofs.TextBegins.{cancel}
 
 -- the first line ends in its version
 pub title-parts : (version : ℕ) (rest : List ℕ) →
@@ -48,8 +49,23 @@ some-of : {A : Type 0} (P : Type 0) (Q : A → Type 0) (o : Option A) → MatchO
 some-of P Q None h = tt
 some-of P Q (Some x) h = h
 
-pub stripped : (text start : List ℕ) (o : Option (Bor (List ℕ))) →
+-- what is known of the text behind a start, where it was found
+abbrev IsStripped : List ℕ → List ℕ → Option (Bor (List ℕ)) → Type 0
+IsStripped text start o =
     MatchOption o (pointwise nat_eq (take (length start) text) start ≡ false)
     (λ x. (pointwise nat_eq (take (length start) text) start ≡ true) × (x.now ≡ drop (length start) text)
-    × (length x.now + length start ≡ length text)) → IfSome o (λ rest. text ≡ start ++ rest.now)
+    × (length x.now + length start ≡ length text))
+
+pub stripped : (text start : List ℕ) (o : Option (Bor (List ℕ))) → IsStripped text start o →
+    IfSome o (λ rest. text ≡ start ++ rest.now)
 stripped text start o h = some-of _ _ o (strip_prefix_is Decides-eqb text start o h)
+
+pub stripped-only : (text start : List ℕ) (o : Option (Bor (List ℕ))) → IsStripped text start o →
+    (rest : List ℕ) → text ≡ start ++ rest → IsSomeAnd o (λ r. r.now ≡ rest)
+stripped-only text start o h rest e = only o (strip_prefix_is Decides-eqb text start o h)
+  where
+    only : (o : Option (Bor (List ℕ))) →
+        MatchOption o ((more : List ℕ) → text ≢ start ++ more) (λ x. text ≡ start ++ x.now) →
+        IsSomeAnd o (λ r. r.now ≡ rest)
+    only None none = absurd (none rest e)
+    only (Some r) is = cancel start r.now rest (sym is ∙ e)

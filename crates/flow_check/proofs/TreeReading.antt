@@ -14,7 +14,7 @@ use Rattle.flow_check.proofs.Stacks.{path, resume, IsStack, IsReading}
 use Rattle.flow_check.specs.internal.PartsGive.{LetterGives, TreeGives}
 use Rattle.flow_check.specs.declared.fault.CheckFault.{CheckFault}
 use Rattle.flow_check.specs.declared.fault.CheckFault.TheVariants.{Memory, Header, Size, Value, Sequence, NotAttained}
-use Rattle.flow_check.specs.declared.fault.CheckFault.TheVariants.{Tree, Weak, Low, End}
+use Rattle.flow_check.specs.declared.fault.CheckFault.TheVariants.{Most, Tree, Weak, Low, End}
 use Rattle.flow_check.specs.declared.node.ListNode.{ListNode}
 use Rattle.flow_check.specs.declared.reader.ListFrame.{ListFrame}
 use Rattle.flow_check.proofs.Links.{left-next, left-none, next-some, next-place, start-place, links-out}
@@ -68,6 +68,7 @@ gives-before from bytes (Err Size) read all e h = e ∙ h
 gives-before from bytes (Err Value) read all e h = e ∙ h
 gives-before from bytes (Err Sequence) read all e h = e ∙ h
 gives-before from bytes (Err NotAttained) read all e h = e ∙ h
+gives-before from bytes (Err Most) read all e h = e ∙ h
 gives-before from bytes (Err (Tree p)) read all e h = e ∙ h
 gives-before from bytes (Err (Weak p)) read all e h = e ∙ h
 gives-before from bytes (Err (Low p)) read all e h = e ∙ h
@@ -293,6 +294,7 @@ fails from bytes read Size e = e
 fails from bytes read Value e = e
 fails from bytes read Sequence e = e
 fails from bytes read NotAttained e = e
+fails from bytes read Most e = e
 fails from bytes read (Tree p) e = e
 fails from bytes read (Weak p) e = e
 fails from bytes read (Low p) e = e

@@ -10,7 +10,7 @@ use Rattle.flow_check.specs.internal.Trees.{TreesGive}
 use Rattle.flow_check.specs.internal.PartsGive.{LinesGive}
 use Rattle.flow_check.specs.declared.fault.CheckFault.{CheckFault}
 use Rattle.flow_check.specs.declared.fault.CheckFault.TheVariants.{Memory, Header, Size, Value, Sequence, NotAttained}
-use Rattle.flow_check.specs.declared.fault.CheckFault.TheVariants.{Tree, Weak, Low, End}
+use Rattle.flow_check.specs.declared.fault.CheckFault.TheVariants.{Most, Tree, Weak, Low, End}
 use Rattle.flow_check.specs.declared.reader.Spot.{Spot}
 
 whole : (shop : Shop) (version depth value : ℕ) (bytes : List ℕ) → cut_value shop version depth value bytes
@@ -33,6 +33,7 @@ trees-err shop version depth value bytes Size give = whole shop version depth va
 trees-err shop version depth value bytes Value give = whole shop version depth value bytes ∙ give []
 trees-err shop version depth value bytes Sequence give = whole shop version depth value bytes ∙ give []
 trees-err shop version depth value bytes NotAttained give = whole shop version depth value bytes ∙ give []
+trees-err shop version depth value bytes Most give = whole shop version depth value bytes ∙ give []
 trees-err shop version depth value bytes (Tree p) give = whole shop version depth value bytes ∙ give []
 trees-err shop version depth value bytes (Weak p) give = whole shop version depth value bytes ∙ give []
 trees-err shop version depth value bytes (Low p) give = whole shop version depth value bytes ∙ give []

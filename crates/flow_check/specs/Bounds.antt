@@ -1,4 +1,4 @@
--- What is shown of two bounds that a text states, of either kind: that they hold, and that they are the least makespan
+-- What is shown of two bounds that a text states, of any kind: that they hold, and that they are the least makespan
 -- where they are one number.
 use Rattle.std.specs.Prelude.{ℕ, ◌≡◌, ◌≤◌, List}
 use Rattle.flow_shop.specs.Shop.{Shop}

@@ -7,16 +7,23 @@ use Rattle.flow_shop.specs.Paths.{span}
 use Rattle.flow_shop.specs.Sequences.{Extends, IsSequence, jobs_left, cut}
 use Rattle.flow_shop.specs.Bound.{Bound, bound_of, letter, point, plus}
 use Rattle.flow_check.specs.Certificate.{Covers, IsCertificate}
+use Rattle.flow_check.specs.Judged.{IsJudgedBy}
 use Rattle.flow_check.specs.TextLines.{IsVersion, IsDepth}
 use Rattle.flow_check.specs.TextLines.{line, ending, upto_title, upto_sizes, upto_value, heading}
 use Rattle.flow_check.specs.declared.fault.CheckFault.{CheckFault}
 use Rattle.flow_check.specs.declared.fault.CheckFault.TheVariants.{Memory, Header, Size, Value, Sequence, NotAttained}
-use Rattle.flow_check.specs.declared.fault.CheckFault.TheVariants.{Tree, Weak, Low, End}
+use Rattle.flow_check.specs.declared.fault.CheckFault.TheVariants.{Most, Tree, Weak, Low, End}
 
 -- what a fault says; `Memory` says nothing
 abbrev pub UnlessMemory : (CheckFault → Type 0) → CheckFault → Type 0
 UnlessMemory says Memory = Unit {0}
 UnlessMemory says fault = says fault
+
+-- what a fault says of whether a text is lawful; `Memory` and `Most` leave that open
+abbrev pub UnlessOpen : (CheckFault → Type 0) → CheckFault → Type 0
+UnlessOpen says Memory = Unit {0}
+UnlessOpen says Most = Unit {0}
+UnlessOpen says fault = says fault
 
 -- a text should have a lawful part for each item, one after the other. The parts of the first items are lawful, and
 -- this is the fault of the next item's
@@ -60,6 +67,7 @@ HasLineFault shop bound value left (prefix ∷ prefixes) place text fault =
 -- the first fault of a text that is no lawful certificate. The first tree stands in line 5 (law: fault_is_exact)
 abbrev pub HasFirstFault : Shop → List ℕ → CheckFault → Type 0
 HasFirstFault shop text Memory = ⊥
+HasFirstFault shop text Most = ⊥
 HasFirstFault shop text Header = (version : ℕ) → IsVersion version → ¬ Extends text (upto_title version)
 HasFirstFault shop text Size =
     (version : ℕ) × IsVersion version × Extends text (upto_title version)
@@ -83,13 +91,9 @@ HasFirstFault shop text fault =
     × (lines : List ℕ) × (text ≡ heading shop version depth value sequence ++ lines)
     × HasLineFault shop (bound_of version) value (shop.jobs - depth) (cut shop.jobs depth) 5 lines fault
 
--- each text of an instance is a lawful certificate of a value, or has one first fault, and not both
+-- each text of an instance within the limits is a lawful certificate of a value, or has one first fault, and not both
 -- (law: fault_is_exact)
-pub record IsJudged (shop : Shop) (text : List ℕ) : Type 0 where
-  pub some : ((value : ℕ) × IsCertificate shop text value) ⊎ ((fault : CheckFault) × HasFirstFault shop text fault)
-  pub apart : (value : ℕ) (fault : CheckFault) → IsCertificate shop text value → ¬ HasFirstFault shop text fault
-  pub one : (fault other : CheckFault) → HasFirstFault shop text fault → HasFirstFault shop text other → fault ≡ other
-
--- each text of an instance within the limits is judged (law: fault_is_exact)
 abbrev pub EachTextIsJudged : Type 0
-EachTextIsJudged = (shop : Shop) (text : List ℕ) → IsWithinLimits shop → IsJudged shop text
+EachTextIsJudged =
+    (shop : Shop) (text : List ℕ) → IsWithinLimits shop →
+    IsJudgedBy ((value : ℕ) × IsCertificate shop text value) (HasFirstFault shop text)

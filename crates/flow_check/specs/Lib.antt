@@ -1,7 +1,12 @@
 pub mod Bounds
 pub mod Certificate
 pub mod CertificateFaults
+pub mod Counted
+pub mod CountedFaults
 pub mod Faults
+pub mod FourLines
+pub mod FourLinesFaults
+pub mod Judged
 pub mod Kinds
 pub mod Stated
 pub mod TextLines

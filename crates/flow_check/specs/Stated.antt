@@ -4,9 +4,10 @@ use Rattle.flow_shop.specs.Shop.{Shop}
 use Rattle.flow_shop.specs.Paths.{span}
 use Rattle.flow_check.specs.Certificate.{IsCertificateWith}
 use Rattle.flow_check.specs.TwoEnded.{IsTwoEnded}
+use Rattle.flow_check.specs.Counted.{IsCountedText, IsCountedAbove}
 use Rattle.flow_check.specs.declared.bounds.Bounds.{Bounds}
 use Rattle.flow_check.specs.declared.kind.TextKind.{TextKind}
-use Rattle.flow_check.specs.declared.kind.TextKind.TheVariants.{Certificate, TwoEnded}
+use Rattle.flow_check.specs.declared.kind.TextKind.TheVariants.{Certificate, TwoEnded, Counted}
 
 -- a text is a lawful certificate of the makespan of this sequence, which it states
 abbrev pub GivesSequence : Shop → List ℕ → List ℕ → Type 0
@@ -21,3 +22,9 @@ abbrev pub GivesAs : TextKind → Shop → List ℕ → Bounds → List ℕ → 
 GivesAs Certificate shop bytes bounds sequence =
     (value : ℕ) × (bounds ≡ both value) × IsCertificateWith shop bytes value sequence
 GivesAs TwoEnded shop bytes bounds sequence = IsTwoEnded shop bytes bounds sequence
+GivesAs Counted shop bytes bounds sequence = IsCountedText shop bytes bounds sequence
+
+-- a lawful text of a kind states more nodes than a reader allows; none but a counted certificate states nodes
+abbrev pub IsAbove : TextKind → ℕ → Shop → List ℕ → Type 0
+IsAbove Counted most shop bytes = IsCountedAbove shop most bytes
+IsAbove kind most shop bytes = ⊥

@@ -1,49 +1,25 @@
 -- Two-ended certificates: texts that prove bounds by a string of directions. Such a text states a lower bound, an upper
 -- bound and a sequence. Where both bounds are the same, they are the least makespan.
-use Rattle.std.specs.Prelude.{ℕ, ◌≡◌, ◌^◌, ◌<◌, List, [], ◌∷◌, ◌++◌, codes}
+use Rattle.std.specs.Prelude.{ℕ, ◌≡◌, List, ◌++◌, codes}
 use Rattle.flow_shop.specs.Shop.{Shop, IsWithinLimits}
-use Rattle.flow_shop.specs.Paths.{span}
-use Rattle.flow_shop.specs.Sequences.{IsSequence}
 use Rattle.flow_shop.specs.Directions.{Proves}
 use Rattle.flow_check.specs.Bounds.{AreProved}
-use Rattle.flow_check.specs.TextLines.{line, spaced, ending}
+use Rattle.flow_check.specs.TextLines.{line, ending}
+use Rattle.flow_check.specs.FourLines.{sequence_lines, ShowsUpper}
 use Rattle.flow_check.specs.declared.bounds.Bounds.{Bounds}
 
--- the first line
+-- the first line, with its end
 abbrev pub two_ended_title : List ℕ
-two_ended_title = codes "flowshop two-ended 1"
-
--- a text up to its first line
-abbrev pub title_line : List ℕ
-title_line = line two_ended_title
-
--- up to the line of the jobs and machines
-abbrev pub size_lines : Shop → List ℕ
-size_lines shop = title_line ++ line (spaced (shop.jobs ∷ shop.machines ∷ []))
-
--- up to the line of the bounds
-abbrev pub bounds_lines : Shop → Bounds → List ℕ
-bounds_lines shop bounds = size_lines shop ++ line (spaced (bounds.lower ∷ bounds.upper ∷ []))
-
--- up to the line of the sequence
-abbrev pub sequence_lines : Shop → Bounds → List ℕ → List ℕ
-sequence_lines shop bounds sequence = bounds_lines shop bounds ++ line (spaced sequence)
+two_ended_title = line (codes "flowshop two-ended 1")
 
 -- a whole text, with its directions
 abbrev pub two_ended_text : Shop → Bounds → List ℕ → List ℕ → List ℕ
 two_ended_text shop bounds sequence directions =
-    sequence_lines shop bounds sequence ++ line directions ++ line ending
-
--- both bounds are within the greatest number that a text states
-abbrev pub AreInRange : Bounds → Type 0
-AreInRange bounds = (bounds.lower < 2 ^ 64) × (bounds.upper < 2 ^ 64)
+    sequence_lines two_ended_title shop bounds sequence ++ line directions ++ line ending
 
 -- what a text shows: a sequence whose makespan is the upper bound, and directions that prove the lower bound
 pub record ShowsBounds (shop : Shop) (bounds : Bounds) (sequence directions : List ℕ) : Type 0 where
-  pub lower_fits : bounds.lower < 2 ^ 64
-  pub upper_fits : bounds.upper < 2 ^ 64
-  pub whole : IsSequence shop.jobs sequence
-  pub attained : span shop sequence ≡ bounds.upper
+  pub upper : ShowsUpper shop bounds sequence
   pub proved : Proves shop bounds.lower directions
 
 -- a text is a lawful two-ended certificate of these bounds, with this sequence

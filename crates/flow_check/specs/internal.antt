@@ -10,4 +10,5 @@ pub mod PartsGive
 pub mod Gives
 pub mod ReadDirections
 pub mod Frames
-pub mod TwoEndedLines
+pub mod FourLines
+pub mod DirectionsEnd

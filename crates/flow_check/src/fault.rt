@@ -1,4 +1,4 @@
-//! Why a text is not a lawful one of its kind.
+//! Why a text is refused as one of its kind.
 
 ghost use Rattle.std.specs.Prelude.{◌≡◌};
 ghost use Rattle.flow_check.specs.declared.fault.CheckFault.TheVariants.{Memory};
@@ -6,8 +6,8 @@ ghost use Rattle.flow_check.specs.declared.fault.CheckFault.TheVariants.{Memory}
 use std::alloc::{AllocError, AllocFailed};
 use thiserror::Error;
 
-/// Why a text is no lawful certificate, or no lawful two-ended certificate: its first fault. The number is that of the
-/// line, counted from 1. In the line on standard error this text follows `refused certificate` (`CommandFault` of
+/// Why a text is refused as one of the kind as which it is read: its first fault. The number is that of the line,
+/// counted from 1. In the line on standard error this text follows `refused certificate` (`CommandFault` of
 /// flow_commands).
 #[derive(Clone, Copy, Debug, PartialEq, Eq, Error)]
 pub enum CheckFault {
@@ -22,7 +22,8 @@ pub enum CheckFault {
     /// a depth that it may have.
     #[error("Size")]
     Size,
-    /// The third line is not one number, or of a two-ended certificate not two numbers; or a number is too large.
+    /// The third line is not one number, or of a two-ended or a counted certificate not two numbers; or the fifth line
+    /// of a counted one is not one number; or a number is too large.
     #[error("Value")]
     Value,
     /// The fourth line is not a sequence.
@@ -31,18 +32,21 @@ pub enum CheckFault {
     /// The sequence's makespan is not the value, or not the upper bound.
     #[error("NotAttained")]
     NotAttained,
+    /// The text states more nodes than the reader allows. It says nothing of whether the text is lawful.
+    #[error("Most")]
+    Most,
     /// This line is not one tree; of a two-ended certificate, it has too few signs, too many, another byte, or no line
-    /// end.
+    /// end; of a counted one, the search opens more nodes, or ends with fewer.
     #[error("Tree {0}")]
     Tree(usize),
     /// In this line of a certificate with trees a letter's bound, that of the version, is below the value.
     #[error("Weak {0}")]
     Weak(usize),
     /// In this line a point's makespan is below the value; of a two-ended certificate, the directions lead to a whole
-    /// sequence that is below the lower bound.
+    /// sequence that is below the lower bound; of a counted one, the search reaches such a sequence.
     #[error("Low {0}")]
     Low(usize),
-    /// What follows the line of the last tree, or that of the directions, is not the last line alone.
+    /// What follows the line of the last tree, that of the directions, or that of the count is not the last line alone.
     #[error("End")]
     End,
 }

@@ -2,6 +2,8 @@
 
 ghost use Rattle.flow_check.specs.Certificate.{CertificateIsSound, StatesOne, ValueIsOne};
 ghost use Rattle.flow_check.specs.CertificateFaults.{EachTextIsJudged};
+ghost use Rattle.flow_check.specs.Counted.{CountedIsSound, CountedStatesOne};
+ghost use Rattle.flow_check.specs.CountedFaults.{AboveIsMost, EachCountedIsJudged};
 ghost use Rattle.flow_check.specs.Kinds.{KindIsOne};
 ghost use Rattle.flow_check.specs.TwoEnded.{TwoEndedIsSound, TwoEndedStatesOne};
 ghost use Rattle.flow_check.specs.TwoEndedFaults.{EachTwoEndedIsJudged};
@@ -44,6 +46,24 @@ pub fn two_ended_states_one()
 /// A text is a lawful two-ended certificate of some bounds, with a sequence, or has one first fault, and not both.
 pub fn two_ended_fault_is_exact()
     ensures { EachTwoEndedIsJudged }
+{}
+
+/// The bounds of a lawful counted certificate, whoever made it, hold. Where they are the same, they are the least
+/// makespan.
+pub fn counted_is_sound()
+    ensures { CountedIsSound }
+{}
+
+/// A lawful counted certificate states one pair of bounds, one sequence and one count.
+pub fn counted_states_one()
+    ensures { CountedStatesOne }
+{}
+
+/// For a reader who allows some number of nodes, a text is a lawful counted certificate that states no more nodes, or
+/// has one first fault, and not both. Where a lawful one states more, the fault is `Most`.
+pub fn counted_fault_is_exact()
+    ensures judged { EachCountedIsJudged }
+    ensures above { AboveIsMost }
 {}
 
 /// A text is read as one kind.

@@ -1,5 +1,5 @@
-//! The checker of two-ended certificates. Lines 1 to 4 are read in `heading.rt`, line 5 in `walk.rt`, and the last line
-//! here.
+//! The checker of two-ended certificates. Lines 1 to 4 are read in `four_lines.rt`, line 5 in `walk.rt`, and the last
+//! line here.
 
 ghost use Rattle.std.specs.Prelude.{◌≡◌, ◌⊎◌, ◌∷◌, ℕ, List, IfOk, IfErr, IsOkAnd, OnOk, Err};
 ghost use Rattle.flow_shop.specs.Characters.{line_feed};
@@ -8,18 +8,18 @@ ghost use Rattle.flow_check.specs.Bounds.{AreBounds};
 ghost use Rattle.flow_check.specs.TextLines.{line, ending};
 ghost use Rattle.flow_check.specs.TwoEnded.{IsTwoEnded};
 ghost use Rattle.flow_check.specs.TwoEndedFaults.{IsTwoEndedFault, IsNotTwoEnded};
-ghost use Rattle.flow_check.specs.internal.TwoEndedLines.{IsEndFault};
+ghost use Rattle.flow_check.specs.internal.DirectionsEnd.{IsEndFault};
 ghost use Rattle.flow_check.specs.declared.bounds.Bounds.{Bounds};
 ghost use Rattle.flow_check.specs.declared.fault.CheckFault.TheVariants.{Memory};
 
-pub(crate) mod heading;
 mod walk;
 
 use crate::checker::is_ending;
 use crate::fault::CheckFault;
+use crate::four_lines::read_four_lines;
 use crate::shown::Shown;
+use crate::titles::TWO_ENDED_TITLE;
 use flow_shop::Instance;
-use heading::read_two_ended_heading;
 use std::alloc::Global;
 use walk::directions_end;
 
@@ -57,11 +57,11 @@ pub fn check_two_ended(
     ensures fault { IfErr result (λ fault. IsTwoEndedFault instance.now bytes.now fault) }
     ensures none { IfErr result (λ fault. IsNotTwoEnded instance.now bytes.now fault) }
 {
-    let heading = read_two_ended_heading(alloc, instance, bytes)?;
-    let place = directions_end(alloc, instance, heading.bounds.lower, heading.directions)?;
-    check_end(&heading.directions[place..])?;
+    let lines = read_four_lines(alloc, instance, TWO_ENDED_TITLE, bytes)?;
+    let place = directions_end(alloc, instance, lines.bounds.lower, lines.rest)?;
+    check_end(&lines.rest[place..])?;
     Ok(Shown {
-        bounds: heading.bounds,
-        sequence: heading.sequence,
+        bounds: lines.bounds,
+        sequence: lines.sequence,
     })
 }

@@ -1,22 +1,27 @@
 -- What `certify` answers: a lawful text that is short enough for `check`.
 use Rattle.std.proofs.Common.{◌≡◌, ◌≤◌, ◌<◌, ◌+◌, ◌*◌, ◌^◌, refl, ℕ, List, [], ◌∷◌, ◌++◌, length, min, arith}
-use Rattle.std.proofs.Common.{Option, None, Ok, decimal, length-append}
+use Rattle.std.proofs.Common.{Bool, true, false, Option, None, Ok, decimal, length-append, append_assoc}
 use Rattle.std.specs.List.{AllByRecursion}
 use Rattle.std.proofs.lemmas.Fmt.{length-decimal-le}
 use Rattle.std.proofs.lemmas.List.Elements.{recursion_from_All}
 use Rattle.std.proofs.Math.Nat.{min-le_left, min-le_right}
 use Rattle.flow_core.specs.Limits.{most_certificate, most_jobs, most_machines}
 use Rattle.flow_core.specs.Paths.{span}
-use Rattle.flow_core.specs.Sequences.{IsSequence}
+use Rattle.flow_core.specs.Sequences.{Extends, IsSequence}
 use Rattle.flow_core.specs.Shop.{Shop, IsWithinLimits}
 use Rattle.flow_core.specs.Directions.{Proves}
 use Rattle.flow_core.specs.Ends.{end_bound}
 use Rattle.flow_certify.specs.Signs.{most_signs}
+use Rattle.flow_certify.specs.Searched.{IsSearched}
+use Rattle.flow_check.specs.Counted.{counted_title}
+use Rattle.flow_check.specs.FourLines.{sequence_lines, ShowsUpper}
+use Rattle.flow_check.specs.Kinds.{IsReadAs}
+use Rattle.flow_check.specs.Stated.{GivesAs}
 use Rattle.flow_check.specs.TextLines.{ending, line, spaced}
-use Rattle.flow_check.specs.TwoEnded.{IsTwoEnded, ShowsBounds, title_line, two_ended_text}
+use Rattle.flow_check.specs.TwoEnded.{two_ended_title}
 use Rattle.flow_check.specs.declared.bounds.Bounds.{Bounds}
 use Rattle.flow_requests.specs.declared.CertifyRequest.{CertifyRequest}
-use Rattle.flow_commands.specs.Certify.{AnswersCertify, Certifies, certify_fault}
+use Rattle.flow_commands.specs.Certify.{AnswersCertify, Certifies, certify_fault, has_signs, proof_kind, proof_text}
 use Rattle.flow_commands.specs.Start.{StartsFrom}
 
 -- two numbers and a space
@@ -67,30 +72,39 @@ six-length a b c d e f =
       length-append a b,
     )
 
--- a text with so many directions is within the bytes that `check` reads
-text-short : (shop : Shop) (bounds : Bounds) (jobs directions : List ℕ) → IsWithinLimits shop →
-    ShowsBounds shop bounds jobs directions → length directions ≤ most_signs →
-    length (two_ended_text shop bounds jobs directions) ≤ most_certificate
-text-short shop bounds jobs directions limits shows few =
+-- a text of four lines, a line and the last one begins with its first line
+begins : (title : List ℕ) (shop : Shop) (bounds : Bounds) (jobs body : List ℕ) →
+    Extends (sequence_lines title shop bounds jobs ++ line body ++ line ending) title
+begins title shop bounds jobs body =
+    let size : List ℕ = line (spaced (shop.jobs ∷ shop.machines ∷ [])) in
+    let numbers : List ℕ = line (spaced (bounds.lower ∷ bounds.upper ∷ [])) in
+    (size ++ numbers ++ line (spaced jobs) ++ line body ++ line ending, simp append_assoc)
+
+-- a text whose fifth line is short enough is within the bytes that `check` reads
+text-short : (title : List ℕ) (shop : Shop) (bounds : Bounds) (jobs body : List ℕ) → length title ≤ 21 →
+    IsWithinLimits shop → ShowsUpper shop bounds jobs → length body ≤ most_signs →
+    length (sequence_lines title shop bounds jobs ++ line body ++ line ending) ≤ most_certificate
+text-short title shop bounds jobs body titled limits shows few =
     let few_jobs : shop.jobs ≤ most_jobs = limits.jobs in
     let few_machines : shop.machines ≤ most_machines = limits.machines in
     let of_size =
     pair-short 3 shop.jobs shop.machines (omega arith) (omega (arith, few_jobs)) (omega (arith, few_machines))
     (omega (arith, few_jobs)) (omega (arith, few_machines)) in
     let of_bounds =
-    pair-short 20 bounds.lower bounds.upper (omega arith) (omega (arith, shows.lower_fits))
-    (omega (arith, shows.upper_fits)) shows.lower_fits shows.upper_fits in
+    pair-short 20 bounds.lower bounds.upper (omega arith) (omega (arith, shows.fit.0))
+    (omega (arith, shows.fit.1)) shows.fit.0 shows.fit.1 in
     let of_jobs = jobs-short shop.jobs limits.jobs jobs (recursion_from_All (λ job. (1 ≤ job) × (job ≤ shop.jobs)) jobs
     shows.whole.each.range) in
     let size : List ℕ = spaced (shop.jobs ∷ shop.machines ∷ []) in
     let numbers : List ℕ = spaced (bounds.lower ∷ bounds.upper ∷ []) in
     omega (
       arith,
-      six-length title_line (line size) (line numbers) (line (spaced jobs)) (line directions) (line ending),
+      six-length title (line size) (line numbers) (line (spaced jobs)) (line body) (line ending),
       line-length size,
       line-length numbers,
       line-length (spaced jobs),
-      line-length directions,
+      line-length body,
+      titled,
       of_size,
       of_bounds,
       of_jobs,
@@ -99,37 +113,63 @@ text-short shop bounds jobs directions limits shows few =
       few,
     )
 
+-- the text of a proof, with signs or with a count
+module _ (shop : Shop) (bounds : Bounds) (jobs directions : List ℕ) where
+  -- it is read as one of its kind
+  pub read-as : (signed : Bool) → IsReadAs (proof_text signed shop bounds jobs directions) (proof_kind signed)
+  read-as true = begins two_ended_title shop bounds jobs directions
+  read-as false = begins counted_title shop bounds jobs (decimal (length directions))
+
+  -- where it is lawful, its sequence has the upper bound
+  upper-of : (signed : Bool) → GivesAs (proof_kind signed) shop (proof_text signed shop bounds jobs directions) bounds
+      jobs → ShowsUpper shop bounds jobs
+  upper-of true gives = gives.shows.upper
+  upper-of false gives = gives.shows.upper
+
+  -- it is short enough
+  short-as : (signed : Bool) → IsWithinLimits shop → ShowsUpper shop bounds jobs → length directions ≤ most_signs →
+      length (proof_text signed shop bounds jobs directions) ≤ most_certificate
+  short-as true limits shows few =
+      text-short two_ended_title shop bounds jobs directions (omega arith) limits shows few
+  short-as false limits shows few =
+      let digits : length (decimal (length directions)) ≤ 9 =
+      length-decimal-le 9 (length directions) (omega arith) (omega (arith, few)) (omega (arith, few)) in
+      text-short counted_title shop bounds jobs (decimal (length directions)) (omega arith) limits shows
+      (omega (arith, digits))
+
 -- where the numbers are accepted, the text of what a search finds from the sequence to start from is answered
 pub certified-answers : (request : CertifyRequest) (shop : Shop) (given : Option (List ℕ))
     (start jobs directions : List ℕ) (bounds : Bounds) → certify_fault request ≡ None → IsWithinLimits shop →
     StartsFrom shop given start → IsSequence shop.jobs jobs → span shop jobs ≡ bounds.upper →
-    bounds.upper ≤ span shop start → Proves shop bounds.lower directions → end_bound shop [] [] ≤ bounds.lower →
-    length directions ≤ min request.directions most_signs →
+    bounds.upper ≤ span shop start → Proves shop bounds.lower directions → IsSearched shop bounds.lower directions →
+    end_bound shop [] [] ≤ bounds.lower → length directions ≤ min request.directions most_signs →
     (IsSequence shop.jobs jobs → span shop jobs ≡ bounds.upper → Proves shop bounds.lower directions →
-    IsTwoEnded shop (two_ended_text shop bounds jobs directions) bounds jobs) →
-    AnswersCertify request shop given (Ok (two_ended_text shop bounds jobs directions))
+    IsSearched shop bounds.lower directions →
+    GivesAs (proof_kind (has_signs request.proof (length directions))) shop
+    (proof_text (has_signs request.proof (length directions)) shop bounds jobs directions) bounds jobs) →
+    AnswersCertify request shop given
+    (Ok (proof_text (has_signs request.proof (length directions)) shop bounds jobs directions))
 certified-answers request shop given start jobs directions bounds accepted limits starts whole attained better proved
-    floor few lawful =
-    let shown = (lawful whole attained proved).shows in
-    let shows : ShowsBounds shop bounds jobs directions = record {
-      lower_fits = shown.lower_fits;
-      upper_fits = shown.upper_fits;
-      whole = whole;
-      attained = attained;
-      proved = proved;
-    } in
+    searched floor few lawful =
+    let signed = has_signs request.proof (length directions) in
+    let gives = lawful whole attained proved searched in
     let most = request.directions in
     let of_start : span shop jobs ≤ span shop start = omega (arith, attained, better) in
     let within : length directions ≤ most = omega (arith, few, min-le_left most most_signs) in
     let short : length directions ≤ most_signs = omega (arith, few, min-le_right most most_signs) in
-    let text : List ℕ = two_ended_text shop bounds jobs directions in
-    let is : Certifies shop given most text = (
-      bounds,
-      jobs,
-      record { directions = directions; shows = shows; text = refl },
-      (start, starts, whole, of_start),
-      floor,
-      within,
-      text-short shop bounds jobs directions limits shows short,
-    ) in
+    let text : List ℕ = proof_text signed shop bounds jobs directions in
+    let is : Certifies shop given request text = record {
+      bounds = bounds;
+      jobs = jobs;
+      directions = directions;
+      searched = searched;
+      written = refl;
+      read = read-as shop bounds jobs directions signed;
+      lawful = gives;
+      improved = (start, starts, whole, of_start);
+      floor = floor;
+      few = within;
+      short = short-as shop bounds jobs directions signed limits
+          (upper-of shop bounds jobs directions signed gives) short;
+    } in
     rw (AnswersCertify, accepted) (text, is, refl)

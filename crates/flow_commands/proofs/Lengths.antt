@@ -2,12 +2,15 @@
 use Rattle.std.proofs.Common.{◌≡◌, ◌^◌, ◌<◌, ◌≤◌, ◌+◌, ◌-◌, ◌||◌, ℕ, zero, suc, Bool, true, false, cond, List, []}
 use Rattle.std.proofs.Common.{◌∷◌, ◌++◌}
 use Rattle.std.proofs.Common.{Some, None, nat_eq, length, length-append, refl, ap, ap₂, sym, subst, ◌∙◌, inl, inr}
+use Rattle.std.proofs.Common.{append_assoc, codes, unwrap_or}
 use Rattle.std.proofs.Common.{arith}
 use Rattle.std.specs.Fmt.{decimal}
-use Rattle.std.specs.List.{AllByRecursion, AllZip, concat, count_by, flat_map}
+use Rattle.std.specs.List.{AllByRecursion, AllZip, concat, count_by, flat_map, slice_get, slice_split}
 use Rattle.std.proofs.lemmas.Bool.{ne_eqb}
 use Rattle.std.proofs.lemmas.Fmt.{decimal_is_IsNumeral}
 use Rattle.std.proofs.lemmas.Option.{none-some}
+use Rattle.std.proofs.lemmas.List.Elements.{All-from_recursion}
+use Rattle.std.proofs.lemmas.List.Splits.{slice_split_at}
 use Rattle.std.proofs.lemmas.List.Sums.{sum_by-append, sum_by-cons}
 use Rattle.flow_core.specs.Limits.{greatest_depth}
 use Rattle.flow_core.specs.Shop.{IsWithinLimits, Shop}
@@ -18,13 +21,16 @@ use Rattle.flow_check.specs.Certificate.{Covers}
 use Rattle.flow_check.specs.TextLines.{IsVersion, certificate_text, ending, heading, line, spaced, title, upto_sizes}
 use Rattle.flow_check.specs.TextLines.{upto_title}
 use Rattle.flow_check.specs.TextLines.{upto_value}
-use Rattle.flow_check.specs.TwoEnded.{bounds_lines, sequence_lines, size_lines, title_line}
+use Rattle.flow_check.specs.Counted.{counted_title}
+use Rattle.flow_check.specs.FourLines.{bounds_lines, sequence_lines, size_lines}
+use Rattle.flow_check.specs.TwoEnded.{two_ended_title}
 use Rattle.flow_check.specs.declared.bounds.Bounds.{Bounds}
 use Rattle.flow_check.proofs.DirectionsRead.{sign-end}
 use Rattle.flow_check.proofs.Exact.{sequence-fit, size-fit}
-use Rattle.flow_check.proofs.ExactLines.{title-plain}
+use Rattle.flow_check.proofs.ExactLines.{plain-test, title-plain}
 use Rattle.flow_check.proofs.Numbers.{AreDigits, Fit, digits-model, tells-digits}
-use Rattle.flow_commands.specs.Report.{ReportStatesDirections, ReportStatesTrees, is_direction, is_line_end}
+use Rattle.flow_commands.specs.Report.{ReportStatesDirections, ReportStatesNodes, ReportStatesTrees}
+use Rattle.flow_commands.specs.Report.{is_direction, is_line_end}
 
 -- no byte of a text passes a test
 abbrev HasNone : (ℕ → Bool) → List ℕ → Type 0
@@ -137,28 +143,30 @@ line-directions text =
     omega (arith, all, feed)
 
 frame-directions : (shop : Shop) (bounds : Bounds) (sequence : List ℕ) → IsWithinLimits shop → bounds.lower < 2 ^ 64 →
-    bounds.upper < 2 ^ 64 → IsSequence shop.jobs sequence → count_by is_direction (sequence_lines shop bounds
-    sequence) ≡ 1
+    bounds.upper < 2 ^ 64 → IsSequence shop.jobs sequence →
+    count_by is_direction (sequence_lines two_ended_title shop bounds sequence) ≡ 1
 frame-directions shop bounds sequence limits lower upper whole =
     let sizes = shop.jobs ∷ shop.machines ∷ [] in
     let fits = size-fit shop 0 limits (omega arith) in
     let both = bounds.lower ∷ bounds.upper ∷ [] in
-    let to_sequence = added (sequence_lines shop bounds sequence) (bounds_lines shop bounds) (line (spaced sequence))
-    refl is_direction in
-    let to_bounds = added (bounds_lines shop bounds) (size_lines shop) (line (spaced both)) refl is_direction in
-    let to_sizes = added (size_lines shop) title_line (line (spaced sizes)) refl is_direction in
+    let to_sequence = added (sequence_lines two_ended_title shop bounds sequence)
+    (bounds_lines two_ended_title shop bounds) (line (spaced sequence)) refl is_direction in
+    let to_bounds = added (bounds_lines two_ended_title shop bounds) (size_lines two_ended_title shop)
+    (line (spaced both)) refl is_direction in
+    let to_sizes = added (size_lines two_ended_title shop) two_ended_title (line (spaced sizes)) refl is_direction in
     let of_sequence = spaced-directions sequence (sequence-fit shop.jobs sequence limits.jobs whole) in
     let of_bounds = spaced-directions both (lower, (upper, tt)) in
     let of_sizes = spaced-directions sizes (fits.0, (fits.1.0, tt)) in
-    let title : count_by is_direction title_line ≡ 1 = refl in
+    let title : count_by is_direction two_ended_title ≡ 1 = refl in
     omega (arith, to_sequence, to_bounds, to_sizes, of_sequence, of_bounds, of_sizes, title)
 
 pub states_directions : ReportStatesDirections
 states_directions shop bytes bounds sequence limits lawful =
     let text = lawful.directions in
     let shows = lawful.shows in
-    let frame = frame-directions shop bounds sequence limits shows.lower_fits shows.upper_fits shows.whole in
-    let start = sequence_lines shop bounds sequence in
+    let upper = shows.upper in
+    let frame = frame-directions shop bounds sequence limits upper.fit.0 upper.fit.1 upper.whole in
+    let start = sequence_lines two_ended_title shop bounds sequence in
     let all = added bytes (start ++ line text) (line ending) lawful.text is_direction in
     let before = added (start ++ line text) start (line text) refl is_direction in
     let of_text = line-directions text in
@@ -244,3 +252,44 @@ states_trees shop version value depth sequence trees limits shows =
     let lines = tree-lines (Covers shop (bound_of version) value left)
     (tree-plain shop (bound_of version) value left) (cut shop.jobs depth) trees shows.covered in
     omega (arith, all, frame, before, end, lines)
+
+-- nodes
+
+-- the first line of a text is cut off
+cut-line : (text rest : List ℕ) → HasNone is_line_end text →
+    slice_split is_line_end (line text ++ rest) ≡ text ∷ slice_split is_line_end rest
+cut-line text rest none =
+    ap (slice_split is_line_end) (append_assoc text (10 ∷ []) rest)
+    ∙ slice_split_at is_line_end text 10 rest (All-from_recursion (λ b. is_line_end b ≡ false) text none) refl
+
+-- what is cut off behind a first line
+behind-line : (text rest : List ℕ) (parts : List (List ℕ)) → HasNone is_line_end text →
+    slice_split is_line_end rest ≡ parts → slice_split is_line_end (line text ++ rest) ≡ text ∷ parts
+behind-line text rest parts none e = cut-line text rest none ∙ ap (λ more. text ∷ more) e
+
+-- the fifth of six lines
+fifth-line : (a b c d e : List ℕ) → HasNone is_line_end a → HasNone is_line_end b → HasNone is_line_end c →
+    HasNone is_line_end d → HasNone is_line_end e →
+    slice_get (slice_split is_line_end (line a ++ line b ++ line c ++ line d ++ line e ++ line ending)) 4 ≡ Some e
+fifth-line a b c d e of_a of_b of_c of_d of_e =
+    let rest = line ending in
+    let regrouped : line a ++ line b ++ line c ++ line d ++ line e ++ rest
+    ≡ line a ++ (line b ++ (line c ++ (line d ++ (line e ++ rest)))) = simp append_assoc in
+    ap (λ text. slice_get (slice_split is_line_end text) 4) regrouped
+    ∙ ap (λ parts. slice_get parts 4) (behind-line a _ _ of_a (behind-line b _ _ of_b (behind-line c _ _ of_c
+    (behind-line d _ _ of_d (behind-line e _ _ of_e refl)))))
+
+pub states_nodes : ReportStatesNodes
+states_nodes shop bytes bounds sequence limits lawful =
+    let upper = lawful.shows.upper in
+    let count = lawful.count in
+    let sizes = shop.jobs ∷ shop.machines ∷ [] in
+    let both = bounds.lower ∷ bounds.upper ∷ [] in
+    let fits = size-fit shop 0 limits (omega arith) in
+    let title = codes "flowshop counted 1" in
+    ap (λ text. unwrap_or (slice_get (slice_split is_line_end text) 4) []) lawful.text
+    ∙ ap (λ found. unwrap_or found []) (fifth-line title (spaced sizes) (spaced both) (spaced sequence) (decimal count)
+    (plain-test title refl) (none-spaced is_line_end no-line-end refl sizes (fits.0, (fits.1.0, tt)))
+    (none-spaced is_line_end no-line-end refl both (upper.fit.0, (upper.fit.1, tt)))
+    (none-spaced is_line_end no-line-end refl sequence (sequence-fit shop.jobs sequence limits.jobs upper.whole))
+    (none-decimal is_line_end no-line-end count lawful.shows.fits))

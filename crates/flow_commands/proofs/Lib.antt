@@ -4,6 +4,7 @@ mod Gives
 mod Least
 mod Lengths
 mod Responses
+mod Signed
 mod Small
 mod Starts
 mod Truths

@@ -1,17 +1,17 @@
 -- What commands answer is true of the shop.
-use Rattle.std.proofs.Common.{◌≡◌, refl, subst, inl, inr, unwrap_or, ℕ, List, [], Option, Some, None}
+use Rattle.std.proofs.Common.{◌≡◌, refl, subst, inl, inr, true, unwrap_or, ℕ, List, [], length, Option, Some, None}
 use Rattle.std.proofs.Common.{Result, Ok, Err}
 use Rattle.std.specs.Prelude.{IfSome, OnOk}
 use Rattle.flow_core.specs.Sequences.{IsLowerBound, IsSequence}
 use Rattle.flow_core.specs.Shop.{Shop}
+use Rattle.flow_check.specs.declared.kind.TextKind.TheVariants.{TwoEnded}
 use Rattle.flow_check.proofs.Sound.{certificate_is_sound}
 use Rattle.flow_check.proofs.TextGiven.{given-bounds, given-sequence}
-use Rattle.flow_check.proofs.TwoEndedLaws.{two_ended_is_sound}
 use Rattle.flow_cert.proofs.Lawful.{plan_is_certified}
 use Rattle.flow_cert.specs.PlanCertificates.{certificate_of}
 use Rattle.flow_requests.specs.declared.CertifyRequest.{CertifyRequest}
 use Rattle.flow_requests.specs.declared.Request.{Request}
-use Rattle.flow_requests.specs.declared.Request.TheVariants.{Certify, Check, Improve, Neh, Schedule, Solve, Span}
+use Rattle.flow_requests.specs.declared.Request.TheVariants.{Certify, Check, Improve, Neh, Schedule, Signs, Solve, Span}
 use Rattle.flow_requests.specs.declared.ScheduleForm.{ScheduleForm}
 use Rattle.flow_requests.specs.declared.SolveRequest.{SolveRequest}
 use Rattle.flow_search.specs.Choices.{Choices}
@@ -19,17 +19,19 @@ use Rattle.flow_search.specs.Plans.{verdict_of}
 use Rattle.flow_search.specs.declared.options.OptionFault.{OptionFault}
 use Rattle.flow_commands.specs.Output.{Output}
 use Rattle.flow_commands.specs.Block.{Origin}
-use Rattle.flow_commands.specs.Certify.{AnswersCertify, Certifies, WroteTwoEnded, certify_fault}
+use Rattle.flow_commands.specs.Certify.{AnswersCertify, Certifies, WroteProof, certify_fault, has_signs, proof_kind}
 use Rattle.flow_commands.specs.Request.{SaysTrue, answers}
 use Rattle.flow_commands.specs.Runs.{CameBoth, CommandRun, Ran, SinkRun, Took}
 use Rattle.flow_commands.specs.Schedule.{AnswersSchedule, GivesTimed, WroteSchedule}
+use Rattle.flow_commands.specs.Signs.{AnswersSigns}
 use Rattle.flow_commands.specs.Solve.{AnswersOptions, AnswersSolve, WroteCertificate}
 use Rattle.flow_search.specs.Choices.{versioned_or_fault}
 use Rattle.flow_commands.specs.Start.{FromStart}
 use Rattle.flow_commands.specs.declared.refusals.CommandFault.{CommandFault}
 use Rattle.flow_commands.specs.declared.files.FileKind.{FileKind}
 use Rattle.flow_commands.specs.declared.timed.TimedSequence.{TimedSequence}
-use Rattle.flow_commands.proofs.Least.{says-proved, wrote-optimum}
+use Rattle.flow_commands.proofs.Certified.{read-as}
+use Rattle.flow_commands.proofs.Least.{proved-of, says-proved, wrote-optimum}
 use Rattle.flow_commands.proofs.Written.{came-both}
 
 -- a text that is answered for a start is answered for some sequence, or for none
@@ -66,32 +68,50 @@ solve-is-lawful request sink origin given text answers took =
 
 -- the bounds of what `certify` writes are proved
 of-numbers : {K : Type 0} (request : CertifyRequest) (shop : Shop) (given : Option (List ℕ)) (text : List ℕ)
-    (sink : SinkRun K) → AnswersCertify request shop given (Ok text) → Took text sink → WroteTwoEnded shop sink
+    (sink : SinkRun K) → AnswersCertify request shop given (Ok text) → Took text sink → WroteProof shop sink
 of-numbers {K} request shop given text sink answers took = go (certify_fault request) refl
   where
-    go : (refusal : Option CommandFault) → certify_fault request ≡ refusal → WroteTwoEnded shop sink
+    go : (refusal : Option CommandFault) → certify_fault request ≡ refusal → WroteProof shop sink
     go (Some fault) e =
         let never : ◌≡◌ {A = Output} (Ok text) (Err fault) = rw (AnswersCertify, e) at answers in
         absurd cc
     go None e =
-        let found : (own : List ℕ) × Certifies shop given request.directions own
+        let found : (own : List ℕ) × Certifies shop given request own
         × ◌≡◌ {A = Output} (Ok text) (Ok own) =
         rw (AnswersCertify, e) at answers in
-        let here : text ≡ found.0 = let same = found.2 in cc in (
+        let here : text ≡ found.0 = let same = found.2 in cc in
+        let is = found.1 in
+        let kind = proof_kind (has_signs request.proof (length is.directions)) in (
           found.0,
-          found.1.0,
-          found.1.1,
+          kind,
+          is.bounds,
+          is.jobs,
           subst (λ t. Took t sink) here took,
-          found.1.2,
-          two_ended_is_sound shop found.0 found.1.0 found.1.1 found.1.2,
+          is.read,
+          is.lawful,
+          proved-of kind shop found.0 is.jobs is.bounds is.lawful,
         )
 
 pub certify-is-lawful : {K : Type 0} (request : CertifyRequest) (sink : SinkRun K) (origin : Origin)
     (given : Option (List ℕ)) (text : List ℕ) → FromStart (AnswersCertify request) origin given (Ok text) →
-    Took text sink → WroteTwoEnded origin.block.instance sink
+    Took text sink → WroteProof origin.block.instance sink
 certify-is-lawful request sink origin given text answers took =
     let from = from-start (AnswersCertify request) origin given text answers in
     of-numbers request origin.block.instance from.0 text sink from.1 took
+
+-- what `signs` writes is a lawful two-ended certificate
+pub signs-is-lawful : {K : Type 0} (sink : SinkRun K) (shop : Shop) (bytes text : List ℕ) →
+    AnswersSigns shop bytes (Ok text) → Took text sink → WroteProof shop sink
+signs-is-lawful sink shop bytes text is took = (
+  text,
+  TwoEnded,
+  is.bounds,
+  is.jobs,
+  took,
+  rw is.signs.text (read-as shop is.bounds is.jobs is.signs.directions true),
+  is.signs,
+  proved-of TwoEnded shop text is.jobs is.bounds is.signs,
+)
 
 -- the sequence that a text gives is one of the shop, and its lower bound holds
 timed-holds : (shop : Shop) (text : List ℕ) (timed : TimedSequence) → GivesTimed shop text (Ok timed) →
@@ -119,7 +139,9 @@ request-says-true (Solve request) sink origin given text answer took =
     solve-is-lawful request sink origin given text answer took
 request-says-true (Certify request progress seconds) sink origin given text answer took =
     certify-is-lawful request sink origin given text answer took
-request-says-true (Check request) sink origin given text answer took = (
+request-says-true Signs sink origin given text answer took =
+    signs-is-lawful sink origin.block.instance (unwrap_or given []) text answer took
+request-says-true (Check request progress) sink origin given text answer took = (
   (text, says-proved request origin (unwrap_or given []) text answer, took),
   λ asked. wrote-optimum request origin sink (unwrap_or given []) text asked answer took,
 )

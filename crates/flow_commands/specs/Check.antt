@@ -1,10 +1,11 @@
 -- What `check` answers.
-use Rattle.std.specs.Prelude.{◌≡◌, ◌≢◌, ℕ, ◌⊎◌, false, true, cond, nat_eq, List, ◌++◌, Ok, Err}
+use Rattle.std.specs.Prelude.{◌≡◌, ◌≢◌, ℕ, ◌⊎◌, false, true, cond, nat_eq, List, ◌++◌, Some, None, Ok, Err}
 use Rattle.flow_core.specs.Shop.{Shop}
 use Rattle.flow_core.specs.Paths.{span}
 use Rattle.flow_core.specs.Sequences.{IsLeastMakespan, IsSequence}
 use Rattle.flow_check.specs.Bounds.{AreProved}
-use Rattle.flow_check.specs.Faults.{HasFaultAs}
+use Rattle.flow_check.specs.Counted.{most_nodes}
+use Rattle.flow_check.specs.Faults.{HasFaultAs, IsUnlawfulAs}
 use Rattle.flow_check.specs.Kinds.{IsReadAs}
 use Rattle.flow_check.specs.Stated.{GivesAs}
 use Rattle.flow_check.specs.declared.bounds.Bounds.{Bounds}
@@ -16,6 +17,7 @@ use Rattle.flow_requests.specs.declared.CheckOutput.TheVariants.{Proved, Report,
 use Rattle.flow_requests.specs.declared.CheckRequest.{CheckRequest}
 use Rattle.flow_commands.specs.Output.{Output}
 use Rattle.flow_commands.specs.Block.{Origin}
+use Rattle.flow_commands.specs.Certify.{workers_fault}
 use Rattle.flow_commands.specs.Printed.{bounds_line, optimal_line, sequence_lines}
 use Rattle.flow_commands.specs.Report.{report_lines}
 use Rattle.flow_commands.specs.Runs.{SinkRun, Took}
@@ -49,11 +51,10 @@ RefusesBounds kind request shop bytes fault =
     (bounds : Bounds) × (jobs : List ℕ) × GivesAs kind shop bytes bounds jobs
     × FallsShortOf request bounds × (fault ≡ command.Bounds bounds.lower bounds.upper)
 
--- a fault is the first one of a text that is not lawful
-abbrev pub RefusesText : TextKind → Shop → List ℕ → CommandFault → Type 0
-RefusesText kind shop bytes fault =
-    (first : CheckFault) × HasFaultAs kind shop bytes first
-    × ((bounds : Bounds) (jobs : List ℕ) → ¬ GivesAs kind shop bytes bounds jobs)
+-- a fault is the first one of a text, for a reader who allows so many nodes: the text is not lawful, or states more
+abbrev pub RefusesText : TextKind → ℕ → Shop → List ℕ → CommandFault → Type 0
+RefusesText kind most shop bytes fault =
+    (first : CheckFault) × HasFaultAs kind most shop bytes first × IsUnlawfulAs kind shop bytes first
     × (fault ≡ command.Certificate first)
 
 -- what `check` answers for a block and bytes that are read as a text of a kind: what is printed of a lawful text, where
@@ -63,16 +64,22 @@ AnswersAs kind request origin bytes (Ok text) =
     (bounds : Bounds) × (jobs : List ℕ) × GivesAs kind origin.block.instance bytes bounds jobs
     × SufficesFor request bounds × (text ≡ printed_text request.output origin kind bytes bounds jobs)
 AnswersAs kind request origin bytes (Err fault) =
-    RefusesText kind origin.block.instance bytes fault ⊎ RefusesBounds kind request origin.block.instance bytes fault
+    RefusesText kind request.most origin.block.instance bytes fault
+    ⊎ RefusesBounds kind request origin.block.instance bytes fault
 
--- what `check` answers for a block and the bytes of a text
+-- what `check` answers for a block and the bytes of a text; or why its number of workers is refused, which changes
+-- nothing else
 abbrev pub AnswersCheck : CheckRequest → Origin → List ℕ → Output → Type 0
-AnswersCheck request origin bytes answer =
-    (kind : TextKind) × IsReadAs bytes kind × AnswersAs kind request origin bytes answer
+AnswersCheck request origin bytes answer = elim (workers_fault request.workers) [
+  | Some fault ↦ answer ≡ Err fault
+  | None ↦ (kind : TextKind) × IsReadAs bytes kind × AnswersAs kind request origin bytes answer
+]
 
--- what `check` answers for a block and bytes where no two-ended certificate is accepted, and the bounds are asked for
+-- what `check` answers for a block and bytes where certificates with trees alone are accepted, and the bounds are asked
+-- for
 abbrev pub AnswersTrees : Origin → List ℕ → Output → Type 0
-AnswersTrees = AnswersAs Certificate (record { output = Proved; optimal = false })
+AnswersTrees =
+    AnswersAs Certificate (record { output = Proved; optimal = false; most = most_nodes; workers = 1 })
 
 -- what a text of a kind proves of the shop: its bounds are proved, and those of a certificate are one number
 abbrev pub ProvesAs : TextKind → Shop → Bounds → Type 0

@@ -11,6 +11,7 @@ pub mod Report
 pub mod Request
 pub mod Runs
 pub mod Schedule
+pub mod Signs
 pub mod Solve
 pub mod Span
 pub mod Start

@@ -1,18 +1,19 @@
 -- The report of `check`: of which block a certificate proves what it proves, and by how long a proof.
 use Rattle.std.specs.Prelude.{ℕ, ◌≡◌, ◌-◌, ◌==◌, ◌||◌, Bool, false, true, cond, nat_eq, List, length, ◌++◌}
-use Rattle.std.specs.Prelude.{codes, Some, None}
-use Rattle.std.specs.List.{count_by}
+use Rattle.std.specs.Prelude.{codes, [], decimal, slice_get, unwrap_or, Some, None}
+use Rattle.std.specs.List.{count_by, slice_split}
 use Rattle.flow_core.specs.Bound.{plus}
 use Rattle.flow_core.specs.Characters.{line_feed}
 use Rattle.flow_core.specs.Generator.{generated, generator_fault}
 use Rattle.flow_core.specs.Shop.{IsWithinLimits, Shop, is_same_shop}
 use Rattle.flow_core.specs.declared.text.block.Block.{Block}
 use Rattle.flow_check.specs.Certificate.{Shows}
+use Rattle.flow_check.specs.Counted.{IsCountedText}
 use Rattle.flow_check.specs.TextLines.{certificate_text}
 use Rattle.flow_check.specs.TwoEnded.{IsTwoEnded}
 use Rattle.flow_check.specs.declared.bounds.Bounds.{Bounds}
 use Rattle.flow_check.specs.declared.kind.TextKind.{TextKind}
-use Rattle.flow_check.specs.declared.kind.TextKind.TheVariants.{Certificate, TwoEnded}
+use Rattle.flow_check.specs.declared.kind.TextKind.TheVariants.{Certificate, Counted, TwoEnded}
 use Rattle.flow_commands.specs.Block.{Origin}
 use Rattle.flow_commands.specs.Printed.{value_line, values_line}
 use Rattle.hex.specs.Hex.{encode_lower}
@@ -39,10 +40,15 @@ is_line_end byte = byte == line_feed
 abbrev pub trees_in : List ℕ → ℕ
 trees_in text = count_by is_line_end text - 5
 
+-- the nodes that a counted certificate states, in digits: its fifth line (tied: report_states_lengths)
+abbrev pub nodes_in : List ℕ → List ℕ
+nodes_in text = unwrap_or (slice_get (slice_split is_line_end text) 4) []
+
 -- the line of how long a proof is
 abbrev pub proof_line : TextKind → List ℕ → List ℕ
 proof_line Certificate text = value_line (codes "trees ") (trees_in text)
 proof_line TwoEnded text = value_line (codes "directions ") (directions_in text)
+proof_line Counted text = codes "nodes " ++ nodes_in text ++ codes "\n"
 
 -- whether Taillard's generator draws a shop from a seed
 abbrev pub is_drawn : Shop → ℕ → Bool
@@ -97,3 +103,9 @@ ReportStatesTrees =
     (shop : Shop) (version value depth : ℕ) (sequence : List ℕ) (trees : List (List ℕ)) → IsWithinLimits shop →
     Shows shop version value depth sequence trees →
     trees_in (certificate_text shop version depth value sequence trees) ≡ length trees
+
+-- a report states how many nodes a lawful counted certificate has (law: report_states_lengths)
+abbrev pub ReportStatesNodes : Type 0
+ReportStatesNodes =
+    (shop : Shop) (bytes : List ℕ) (bounds : Bounds) (sequence : List ℕ) → IsWithinLimits shop →
+    (lawful : IsCountedText shop bytes bounds sequence) → nodes_in bytes ≡ decimal lawful.count

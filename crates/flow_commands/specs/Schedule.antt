@@ -2,6 +2,7 @@
 use Rattle.std.specs.Prelude.{◌≡◌, ◌⊎◌, ℕ, List, Some, None, IfSome, Result, Ok, Err}
 use Rattle.flow_core.specs.Sequences.{IsLowerBound, IsSequence}
 use Rattle.flow_core.specs.Shop.{Shop}
+use Rattle.flow_check.specs.Counted.{most_nodes}
 use Rattle.flow_check.specs.Kinds.{IsReadAs}
 use Rattle.flow_check.specs.Stated.{GivesAs}
 use Rattle.flow_check.specs.declared.bounds.Bounds.{Bounds}
@@ -28,7 +29,8 @@ abbrev pub GivesCertified : Shop → List ℕ → Result TimedSequence CommandFa
 GivesCertified shop text (Ok timed) =
     (kind : TextKind) × IsReadAs text kind × (bounds : Bounds) × GivesAs kind shop text bounds timed.sequence
     × (timed.lower ≡ Some bounds.lower)
-GivesCertified shop text (Err fault) = (kind : TextKind) × IsReadAs text kind × RefusesText kind shop text fault
+GivesCertified shop text (Err fault) =
+    (kind : TextKind) × IsReadAs text kind × RefusesText kind most_nodes shop text fault
 
 -- what a start text gives: its sequence, without a lower bound; or its first fault
 abbrev pub GivesUncertified : Shop → List ℕ → Result TimedSequence CommandFault → Type 0

@@ -1,4 +1,5 @@
 pub mod Devices
+pub mod Found
 pub mod Given
 pub mod Picked
 pub mod Reading

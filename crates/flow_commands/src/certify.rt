@@ -1,10 +1,18 @@
 //! The command `certify`.
 
-ghost use Rattle.std.specs.Prelude.{◌≡◌, false, None, Some, IfOk, OnOk, IfErr, IfSome};
+ghost use Rattle.std.specs.Prelude.{◌≡◌, ◌↔◌, false, true, length, None, Some, IfSome};
+ghost use Rattle.std.specs.Prelude.{IfOk, OnOk, IsErr, IfErr, OnErr};
+ghost use Rattle.std.specs.Io.KnownBytes.{Appends};
 ghost use denote.Param.Send.{IsSync};
+ghost use Rattle.flow_core.specs.Bytes.{AddsProperPrefix};
+ghost use Rattle.flow_core.specs.Directions.{Proves};
+ghost use Rattle.flow_core.specs.Paths.{span};
 ghost use Rattle.flow_core.specs.Sequences.{IsSequence};
+ghost use Rattle.flow_certify.specs.Searched.{IsSearched};
+ghost use Rattle.flow_check.specs.Stated.{GivesAs};
 ghost use Rattle.flow_commands.specs.internal.Devices.{NamesNoDevice};
-ghost use Rattle.flow_commands.specs.Certify.{AnswersCertify, certify_fault};
+ghost use Rattle.flow_commands.specs.internal.Found.{bounds_of};
+ghost use Rattle.flow_commands.specs.Certify.{AnswersCertify, certify_fault, has_signs, proof_kind, proof_text};
 ghost use Rattle.flow_commands.specs.Runs.{Responds, sink_run};
 ghost use Rattle.flow_commands.specs.Start.{FromStart};
 
@@ -13,15 +21,19 @@ use crate::command::Command;
 use crate::improve::effort_of;
 use crate::refusals::CommandFault;
 use crate::start::{given_start, start_of};
-use flow_cert::write_two_ended;
-use flow_certify::{MostDirections, certify};
+use crate::workers::worker_count;
+use flow_cert::{write_counted, write_two_ended};
+use flow_certify::{Certified, MostDirections, certify};
 use flow_check::Bounds;
-use flow_core::{Instance, MAX_WORKERS, Sequence, Sink};
+use flow_core::{Instance, Sequence, Sink, WriteFault};
 use flow_improve::Effort;
-use flow_requests::{CertifyRequest, SecondFile};
+use flow_requests::{CertifyRequest, ProofForm, SecondFile};
 use flow_workers::{Watch, Workers};
 use std::alloc::Global;
 use std::thread::Threads;
+
+/// The most directions that are written as signs where no form is asked for.
+const MOST_UNASKED: usize = 10_000_000;
 
 /// The effort of a request, and the most directions, where its numbers are within their limits; else the first fault.
 fn tested(request: CertifyRequest) -> Result<(Effort, MostDirections), CommandFault>
@@ -38,16 +50,60 @@ fn tested(request: CertifyRequest) -> Result<(Effort, MostDirections), CommandFa
 {
     let effort = effort_of(request.improve)?;
     let most = MostDirections::new(request.directions).ok_or(CommandFault::Directions)?;
-    if request.workers < 1 || request.workers > MAX_WORKERS {
-        return Err(CommandFault::Workers);
-    }
+    worker_count(request.workers)?;
     Ok((effort, most))
 }
 
-/// Writes a two-ended certificate: bounds of the least makespan, which are one number where that was proved. Its
-/// sequence is no worse than the one that a start text gives, or, where there is no such text, than that of Nawaz,
-/// Enscore and Ham. The workers search for directions, on threads where they are two or more; the watch is told how far
-/// the run is, and says when its time is over.
+/// Whether a proof of so many directions is written as signs, by the form that is asked for.
+fn has_signs(form: ProofForm, directions: usize) -> bool
+    ensures { result ≡ has_signs form directions }
+{
+    match form {
+        ProofForm::ByLength => directions <= MOST_UNASKED,
+        ProofForm::Signs => true,
+        ProofForm::Count => false,
+    }
+}
+
+/// Writes the certificate of what was found, in a form.
+fn write_found<K: Sink>(
+    instance: &Instance,
+    found: &Certified,
+    form: ProofForm,
+    out: &mut K,
+) -> Result<(), WriteFault>
+    requires { K.has_failed out.old ≡ false }
+    ensures device { IsErr result ↔ (K.has_failed out.new ≡ true) }
+    ensures ok { OnOk result (Appends (K.taken out.old) (K.taken out.new)
+        (proof_text (has_signs form (length found.now.directions.items)) instance.now (bounds_of found.now)
+        found.now.sequence found.now.directions.items)) }
+    ensures err { OnErr result (AddsProperPrefix (K.taken out.old) (K.taken out.new)
+        (proof_text (has_signs form (length found.now.directions.items)) instance.now (bounds_of found.now)
+        found.now.sequence found.now.directions.items)) }
+    ensures lawful { IsSequence instance.now.jobs found.now.sequence →
+        span instance.now found.now.sequence ≡ found.now.upper →
+        Proves instance.now found.now.lower found.now.directions.items →
+        IsSearched instance.now found.now.lower found.now.directions.items →
+        GivesAs (proof_kind (has_signs form (length found.now.directions.items))) instance.now
+        (proof_text (has_signs form (length found.now.directions.items)) instance.now (bounds_of found.now)
+        found.now.sequence found.now.directions.items) (bounds_of found.now) found.now.sequence }
+{
+    let bounds = Bounds {
+        lower: found.lower,
+        upper: found.upper,
+    };
+    let directions = found.directions.as_slice();
+    if has_signs(form, directions.len()) {
+        return write_two_ended(instance, bounds, &found.sequence, directions, out);
+    }
+    let count = directions.len() as u64;
+    write_counted(instance, bounds, &found.sequence, count, out)
+}
+
+/// Writes a certificate with signs or with a count: bounds of the least makespan, which are one number where that was
+/// proved. Its sequence is no worse than the one that a start text gives, or, where there is no such text, than that of
+/// Nawaz, Enscore and Ham. The workers search for directions, on threads where they are two or more; the watch is told
+/// how far the run is, and says when its time is over.
 #[derive(Drop)]
 pub(crate) struct Certify<'a, R, W> {
     pub(crate) rt: &'a R,
@@ -55,7 +111,7 @@ pub(crate) struct Certify<'a, R, W> {
     pub(crate) request: CertifyRequest,
 }
 
-/// Certifies an instance from a given sequence, if there is one, and writes the two-ended certificate.
+/// Certifies an instance from a given sequence, if there is one, and writes the certificate.
 #[inline(never)]
 fn certify_instance<R: Threads + Sync, W: Watch, K: Sink>(
     command: &Certify<R, W>,
@@ -78,17 +134,7 @@ fn certify_instance<R: Threads + Sync, W: Watch, K: Sink>(
         watch: command.watch,
     };
     let found = certify(alloc, &workers, &instance, &start, &effort, most)?;
-    let bounds = Bounds {
-        lower: found.lower,
-        upper: found.upper,
-    };
-    write_two_ended(
-        &instance,
-        bounds,
-        &found.sequence,
-        found.directions.as_slice(),
-        out,
-    )?;
+    write_found(&instance, &found, request.proof, out)?;
     Ok(())
 }
 

@@ -1,6 +1,7 @@
 //! The command `check`.
 
 ghost use Rattle.std.specs.Prelude.{◌≡◌, ◌⊎◌, false, true, Some, Ok, Err, IfOk, OnOk, IfErr};
+ghost use denote.Param.Send.{IsSync};
 ghost use Rattle.flow_core.specs.Paths.{span};
 ghost use Rattle.flow_commands.specs.Output.{OfBytes};
 ghost use Rattle.flow_commands.specs.internal.Devices.{NamesNoDevice};
@@ -15,10 +16,14 @@ use crate::files::{FileKind, bytes_in, read_file};
 use crate::printed::{bounds_line, optimal_line, sequence_lines};
 use crate::refusals::CommandFault;
 use crate::report::report_lines;
-use flow_check::{Bounds, Shown, TextKind, check_text, kind_of};
+use crate::workers::worker_count;
+use flow_check::{Bounds, MOST_NODES, Shown, TextKind, check_text_by, kind_of};
 use flow_core::{Sink, Source, put_all};
+use flow_directions::{Alone, Counter};
 use flow_requests::{CheckOutput, CheckRequest, SecondFile};
+use flow_workers::{News, Watch, Workers};
 use std::alloc::{AllocError, Global};
+use std::thread::Threads;
 
 /// The line of the bounds that a text proves.
 fn proved_line(alloc: Global, bounds: Bounds) -> Result<Vec<u8>, AllocError>
@@ -63,20 +68,24 @@ fn falls_short(request: CheckRequest, bounds: Bounds) -> bool
     request.optimal && bounds.lower != bounds.upper
 }
 
-/// What is printed of a text of a kind for a block; or why the text is refused, or its bounds are.
-fn checked_text(
+/// What is printed of a text of a kind for a block; or why the text is refused, or its bounds are. The counter counts
+/// the nodes of a counted certificate.
+fn checked_text<C: Counter>(
     alloc: Global,
+    counter: &C,
     picked: &PickedBlock,
     kind: TextKind,
     bytes: &[u8],
     request: CheckRequest,
 ) -> Result<Vec<u8>, CommandFault>
+    requires { C.is_ready counter.now }
     ensures text { IfOk result (λ text. AnswersAs kind request (origin_of picked.now) bytes.now (Ok text.items)) }
     ensures refused { IfErr result (λ fault. (fault ≡ CommandFault.Memory)
         ⊎ AnswersAs kind request (origin_of picked.now) bytes.now (Err fault)) }
     ensures device { NamesNoDevice result }
 {
-    let shown = check_text(alloc, kind, &picked.block.instance, bytes)?;
+    let instance = &picked.block.instance;
+    let shown = check_text_by(alloc, counter, request.most, kind, instance, bytes)?;
     if falls_short(request, shown.bounds) {
         let Bounds { lower, upper } = shown.bounds;
         return Err(CommandFault::Bounds { lower, upper });
@@ -84,15 +93,19 @@ fn checked_text(
     Ok(printed_text(alloc, picked, kind, bytes, &shown, request.output)?)
 }
 
-/// Answers what a certificate, two-ended or not, proves, or its sequence and the makespan of that. The request says
-/// which of them, and whether bounds have to be one number.
+/// Answers what a certificate of any kind proves, or its sequence and the makespan of that. The request says which of
+/// them, whether bounds have to be one number, and how many nodes a counted certificate may state. The workers count
+/// them, on threads where they are two or more; the watch is told how far they are.
 #[derive(Drop)]
-pub(crate) struct Check {
+pub(crate) struct Check<'a, R, W> {
+    pub(crate) rt: &'a R,
+    pub(crate) watch: &'a W,
     pub(crate) request: CheckRequest,
 }
 
-impl Command for Check {
-    ghost is_ready = { λ _. Unit {0} };
+impl<'a, R: Threads + Sync, W: Watch> Command for Check<'a, R, W> {
+    // Threads may share what starts them.
+    ghost is_ready = { λ _. IsSync R.row };
 
     ghost answers = { λ s. OfBytes (AnswersCheck s.request) };
 
@@ -103,8 +116,15 @@ impl Command for Check {
         second: SecondFile<Vec<u8>>,
         out: &mut K,
     ) -> Result<(), CommandFault> {
+        let workers = Workers {
+            rt: self.rt,
+            count: worker_count(self.request.workers)?,
+            watch: self.watch,
+        };
         let bytes = bytes_in(&second);
-        let text = checked_text(alloc, &picked, kind_of(bytes), bytes, self.request)?;
+        let kind = kind_of(bytes);
+        let text = checked_text(alloc, &workers, &picked, kind, bytes, self.request)?;
+        self.watch.tell(&picked.block.instance, News::Ended);
         put_all(out, text.as_slice())?;
         Ok(())
     }
@@ -114,6 +134,8 @@ impl Command for Check {
 const VALUE: CheckRequest = CheckRequest {
     output: CheckOutput::Proved,
     optimal: false,
+    most: MOST_NODES,
+    workers: 1,
 };
 
 /// Writes the value that a certificate with trees proves least for a block.
@@ -126,13 +148,14 @@ fn check_trees<K: Sink>(
     requires { K.has_failed out.old ≡ false }
     ensures { Responds (AnswersTrees (origin_of picked.now) bytes.now) (sink_run K.Sink out.old out.new) result }
 {
-    let text = checked_text(alloc, picked, TextKind::Certificate, bytes, VALUE)?;
+    let kind = TextKind::Certificate;
+    let text = checked_text(alloc, &Alone, picked, kind, bytes, VALUE)?;
     put_all(out, text.as_slice())?;
     Ok(())
 }
 
-/// Writes the value that a certificate with trees proves least for the block that an index names. No two-ended one is
-/// accepted.
+/// Writes the value that a certificate with trees proves least for the block that an index names. No other kind of
+/// certificate is accepted.
 pub fn run_check<S: Source, C: Source, K: Sink>(
     alloc: Global,
     file: &mut S,

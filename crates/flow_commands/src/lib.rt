@@ -11,6 +11,7 @@
 //! - `certify.rt`: `certify`.
 //! - `check.rt`: `check`.
 //! - `report.rt`: the report of `check`.
+//! - `signs.rt`: `signs`.
 //! - `schedule.rt`: `schedule`.
 //! - `timed.rt`: the sequence that a text gives to `schedule`.
 //! - `solve.rt`: `solve`.
@@ -18,6 +19,7 @@
 //! - `neh.rt`: `neh`.
 //! - `span.rt`: `span`.
 //! - `generate.rt`: `gen`.
+//! - `workers.rt`: the number of workers that is asked for.
 //! - `printed.rt`: the lines that commands print.
 //! - `refusals.rt`: why a command refused, and the words of the line that says so.
 //! - `laws.rt`: laws of the definitions.
@@ -37,16 +39,18 @@ mod refusals;
 mod report;
 mod request;
 mod schedule;
+mod signs;
 mod solve;
 mod span;
 mod start;
 mod timed;
+mod workers;
 
 pub use check::run_check;
 pub use flow_improve::EffortFault;
 pub use flow_requests::{
-    CertifyRequest, CheckOutput, CheckRequest, ImproveRequest, Request, ScheduleForm, SecondFile,
-    SolveRequest,
+    CertifyRequest, CheckOutput, CheckRequest, ImproveRequest, ProofForm, Request, ScheduleForm,
+    SecondFile, SolveRequest,
 };
 pub use flow_workers::{News, Unwatched, Watch};
 pub use generate::run_gen;

@@ -3,7 +3,7 @@
 ghost use Rattle.std.specs.Prelude.{◌≡◌, IfOk};
 ghost use Rattle.std.specs.List.{count_by};
 ghost use Rattle.flow_commands.specs.Report.{block_line, block_lines, is_direction, is_drawn, is_line_end};
-ghost use Rattle.flow_commands.specs.Report.{proof_line, report_lines, size_lines, sum_line, times_line};
+ghost use Rattle.flow_commands.specs.Report.{nodes_in, proof_line, report_lines, size_lines, sum_line, times_line};
 ghost use Rattle.flow_commands.specs.internal.Picked.{origin_of};
 
 use crate::block::PickedBlock;
@@ -39,6 +39,13 @@ fn directions(text: &[u8]) -> usize
     count
 }
 
+/// The nodes that a counted certificate states, in digits: its fifth line.
+fn nodes(text: &[u8]) -> &[u8]
+    ensures { result.now ≡ nodes_in text.now }
+{
+    text.split(|byte| *byte == b'\n').nth(4).unwrap_or(&[])
+}
+
 /// The line of how long the proof of a text is.
 fn proof_line(alloc: Global, kind: TextKind, text: &[u8]) -> Result<Vec<u8>, AllocError>
     ensures { IfOk result (λ line. line.items ≡ proof_line kind text.now) }
@@ -52,6 +59,7 @@ fn proof_line(alloc: Global, kind: TextKind, text: &[u8]) -> Result<Vec<u8>, All
             let directions = directions(text).saturating_sub(1);
             value_line(alloc, b"directions ", directions as u64)
         }
+        TextKind::Counted => line_of(alloc, b"nodes ", nodes(text)),
     }
 }
 

@@ -14,6 +14,7 @@ use crate::improve::Improve;
 use crate::neh::Neh;
 use crate::refusals::CommandFault;
 use crate::schedule::Schedule;
+use crate::signs::Signs;
 use crate::solve::{Solve, solve_over};
 use crate::span::Span;
 use flow_core::{Sink, Source};
@@ -95,10 +96,16 @@ pub fn run_request<R: Threads + Wait + Sync, S: Source, T: Source, W: Watch, K: 
             };
             run(alloc, file, index, second, &command, out)
         }
-        Request::Check(request) => {
-            let command = Check { request: *request };
+        Request::Check { request, progress } => {
+            watch.begin(*progress, None);
+            let command = Check {
+                rt,
+                watch,
+                request: *request,
+            };
             run(alloc, file, index, second, &command, out)
         }
+        Request::Signs => run(alloc, file, index, second, &Signs, out),
         Request::Schedule(form) => {
             let command = Schedule { form: *form };
             run(alloc, file, index, second, &command, out)

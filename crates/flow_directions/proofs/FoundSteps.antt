@@ -12,14 +12,14 @@ use Rattle.flow_shop.specs.Ends.{end_bound}
 use Rattle.flow_shop.specs.Directions.{ProvesFrom, sign}
 use Rattle.flow_shop.specs.declared.end.End.{End}
 use Rattle.flow_directions.specs.Search.{Continues, IsPart, Visit, child_visits, end_taken, opens, parts_visits, visits}
-use Rattle.flow_directions.specs.Search.{signs, first_reached, directions_of, first_below, IsAdvanced, IsFound, Shows}
+use Rattle.flow_directions.specs.Search.{signs, first_reached, directions_of, first_below, IsFound, Shows}
 use Rattle.flow_directions.specs.declared.found.Found.{Found}
-use Rattle.flow_directions.specs.declared.found.Advanced.{Advanced}
-use Rattle.flow_directions.specs.declared.found.Advanced.TheVariants as advanced
+use Rattle.flow_directions.specs.declared.found.Outcome.{Outcome}
+use Rattle.flow_directions.specs.declared.found.Outcome.TheVariants as outcome
 use Rattle.flow_directions.specs.declared.found.Found.TheVariants.{Proved, Below, Over}
 use Rattle.flow_directions.specs.declared.found.ProveFault.{ProveFault}
 use Rattle.flow_directions.specs.declared.found.ProveFault.TheVariants.{Jobs, Memory}
-use Rattle.flow_directions.specs.internal.Reached.{IsSequenceAfter}
+use Rattle.flow_directions.specs.internal.Outcomes.{IsOutcome, IsReached}
 use Rattle.flow_directions.specs.internal.Levels.{first_of, last_of, met_with}
 use Rattle.flow_directions.specs.declared.found.Part.{Part}
 use Rattle.flow_directions.specs.declared.level.Level.{Level}
@@ -30,37 +30,30 @@ use Rattle.flow_directions.proofs.SearchProves.{directions_prove}
 use Rattle.flow_directions.proofs.SearchReaches.{reached_is_below}
 
 -- a sequence that is reached, with its makespan
-pub found-below : (shop : Shop) (threshold budget : ℕ) (first last jobs text : List ℕ) (found : Advanced) →
+pub found-below : (shop : Shop) (threshold budget : ℕ) (first last jobs text : List ℕ) (outcome : Outcome) →
     first_below shop threshold first last ≡ Some jobs → text ≡ directions_of shop threshold first last →
-    length text ≤ budget → IsSequenceAfter shop jobs text found → IsAdvanced shop threshold budget first last found
-found-below shop threshold budget first last jobs text (advanced.Proved directions) reached written within is = absurd is
-found-below shop threshold budget first last jobs text (advanced.Below sequence makespan directions) reached written
-    within is = (
-      (
-        reached ∙ ap Some (sym is.0),
-        is.1 ∙ ap (span shop) (sym is.0),
-        ap length (is.2 ∙ written),
-        omega (arith, ap length is.2, within),
-      ),
-      is.2 ∙ written,
-    )
-found-below shop threshold budget first last jobs text (advanced.Rest directions parts) reached written within is =
-    absurd is
+    length text ≤ budget → IsReached shop jobs outcome → IsOutcome shop threshold budget first last text outcome
+found-below shop threshold budget first last jobs text outcome.Proved reached written within is = absurd is
+found-below shop threshold budget first last jobs text (outcome.Below sequence makespan) reached written within is = (
+  (reached ∙ ap Some (sym is.0), is.1 ∙ ap (span shop) (sym is.0), ap length written, within),
+  written,
+)
+found-below shop threshold budget first last jobs text (outcome.Rest parts) reached written within is = absurd is
 
 -- what is found at a node whose bound is at least the threshold
-pub found-high : (shop : Shop) (threshold budget : ℕ) (first last : List ℕ) (text : Vec ℕ) → text.items ≡ [] →
-    threshold ≤ end_bound shop first last → IsAdvanced shop threshold budget first last (advanced.Proved text)
-found-high shop threshold budget first last text none high =
+pub found-high : (shop : Shop) (threshold budget : ℕ) (first last : List ℕ) → threshold ≤ end_bound shop first last →
+    IsOutcome shop threshold budget first last [] outcome.Proved
+found-high shop threshold budget first last high =
     let nothing = visits-high shop threshold first last high in
-    (ap first_reached nothing, none ∙ sym (ap signs nothing), omega (arith, ap length none))
+    (ap first_reached nothing, sym (ap signs nothing), omega arith)
 
 -- and at one below the threshold, without jobs left
-pub found-whole : (shop : Shop) (threshold budget : ℕ) (first last : List ℕ) (found : Advanced) →
+pub found-whole : (shop : Shop) (threshold budget : ℕ) (first last : List ℕ) (outcome : Outcome) →
     length (jobs_left shop.jobs (first ++ last)) ≡ 0 → end_bound shop first last < threshold →
-    IsSequenceAfter shop (first ++ last) [] found → IsAdvanced shop threshold budget first last found
-found-whole shop threshold budget first last found none low is =
+    IsReached shop (first ++ last) outcome → IsOutcome shop threshold budget first last [] outcome
+found-whole shop threshold budget first last outcome none low is =
     let one = visits-whole shop threshold first last none low in
-    found-below shop threshold budget first last (first ++ last) [] found (ap first_reached one)
+    found-below shop threshold budget first last (first ++ last) [] outcome (ap first_reached one)
     (sym (ap signs one)) (omega arith) is
 
 -- what is found shows that the number is proved, or a sequence below it
@@ -90,9 +83,9 @@ no-jobs-fault (Err fault) is e =
     absurd (cc)
 
 -- what is found past the budget
-pub found-over : (shop : Shop) (threshold budget left : ℕ) (first last : List ℕ) (text : Vec ℕ) (parts : Vec Part)
-    (names : ℕ → List ℕ) (levels : List Level) → length text.items ≡ budget →
-    Continues (visits shop threshold first last) text.items
+pub found-over : (shop : Shop) (threshold budget left : ℕ) (first last text : List ℕ) (parts : Vec Part)
+    (names : ℕ → List ℕ) (levels : List Level) → length text ≡ budget →
+    Continues (visits shop threshold first last) text
     (met_with shop threshold names left first last levels
     (visits shop threshold (first_of first levels) (last_of last levels))) →
     end_bound shop (first_of first levels) (last_of last levels) < threshold →
@@ -101,7 +94,7 @@ pub found-over : (shop : Shop) (threshold budget left : ℕ) (first last : List 
     ≡ met_with shop threshold names left first last levels
     (visits shop threshold (first_of first levels) (last_of last levels)) →
     All (IsPart shop) parts.items → length parts.items ≤ length (jobs_left shop.jobs (first ++ last)) →
-    IsAdvanced shop threshold budget first last (advanced.Rest text parts)
+    IsOutcome shop threshold budget first last text (outcome.Rest parts)
 found-over shop threshold budget left first last text parts names levels full continues low some met each few =
     let first2 : List ℕ = first_of first levels in
     let last2 : List ℕ = last_of last levels in
@@ -112,26 +105,24 @@ found-over shop threshold budget left first last text parts names levels full co
     ≡ opens end ∷ met_with shop threshold names left first last levels more =
     ap (met_with shop threshold names left first last levels) (visits-open shop threshold first2 last2 some low)
     ∙ met-opens shop threshold names left first last levels end more in
-    let longer = ap length (continues.0 ∙ ap (λ v. text.items ++ signs v) opened) in (
+    let longer = ap length (continues.0 ∙ ap (λ v. text ++ signs v) opened) in (
       omega (
         arith,
         longer,
         full,
-        length-append text.items (sign end ∷ signs (met_with shop threshold names left first last levels more)),
+        length-append text (sign end ∷ signs (met_with shop threshold names left first last levels more)),
       ),
       full,
-      subst (Continues (visits shop threshold first last) text.items) (sym met) continues,
+      subst (Continues (visits shop threshold first last) text) (sym met) continues,
       each,
       few,
     )
 
 -- and where nothing may be written
-pub found-none : (shop : Shop) (threshold budget : ℕ) (first last : List ℕ) (text : Vec ℕ) (parts : Vec Part) →
-    text.items ≡ [] → budget ≡ 0 → end_bound shop first last < threshold →
-    0 < length (jobs_left shop.jobs (first ++ last)) → parts_visits shop threshold parts.items ≡ visits shop threshold first
-    last →
+pub found-none : (shop : Shop) (threshold budget : ℕ) (first last : List ℕ) (parts : Vec Part) → budget ≡ 0 →
+    end_bound shop first last < threshold → 0 < length (jobs_left shop.jobs (first ++ last)) →
+    parts_visits shop threshold parts.items ≡ visits shop threshold first last →
     All (IsPart shop) parts.items → length parts.items ≤ length (jobs_left shop.jobs (first ++ last)) →
-    IsAdvanced shop threshold budget first last (advanced.Rest text parts)
-found-none shop threshold budget first last text parts empty full low some met each few =
-    found-over shop threshold budget 0 first last text parts (λ left. []) [] (ap length empty ∙ sym full)
-    (ap (λ xs. xs ++ signs (visits shop threshold first last)) (sym empty), refl) low some met each few
+    IsOutcome shop threshold budget first last [] (outcome.Rest parts)
+found-none shop threshold budget first last parts full low some met each few =
+    found-over shop threshold budget 0 first last [] parts (λ left. []) [] (sym full) (refl, refl) low some met each few

@@ -53,25 +53,23 @@ module _ {V : Type 0} (list : V → List ℕ) (cap width : ℕ) (shop : Shop) (t
     (left : ℕ) where
   -- at first
   pub stands-first : (lists : Lists) (before : Tree V) (packs : List (Pack V)) (nodes : List (OpenNode V))
-      (here : Level) (text : List ℕ) → IsAt list cap width shop threshold first last left lists before → 1 ≤ left →
-      IsBegun list cap width shop threshold packs nodes left first last here → text ≡ sign here.end ∷ [] →
-      Stands list cap width shop threshold first last left text lists packs nodes [] here
-  stands-first lists before packs nodes here text at some begun written =
+      (here : Level) → IsAt list cap width shop threshold first last left lists before → 1 ≤ left →
+      IsBegun list cap width shop threshold packs nodes left first last here →
+      Stands list cap width shop threshold first last left (sign here.end ∷ []) lists packs nodes [] here
+  stands-first lists before packs nodes here at some begun =
       let all : left ≡ left - 0 = omega arith in
       let rest : List Visit = rest_met shop threshold (names_of packs) left first last here in
       let opened : visits shop threshold first last ≡ opens here.end ∷ rest =
       met-opened shop threshold first last here.end (jobs_of (names_of packs) left here)
       (omega (arith, at.count, some)) at.is_open.below begun.end begun.rest in
-      subst (StandsAt list cap width shop threshold first last left text lists packs nodes [] here first last) all
+      subst (StandsAt list cap width shop threshold first last left (sign here.end ∷ []) lists packs nodes [] here first
+      last) all
       (record {
         are_levels = tt;
         is_here = begun.is_level;
         nested = tt;
         has_lists = at.has_lists;
-        continues = (
-          ap signs opened ∙ ap (λ xs. xs ++ signs rest) (sym written),
-          ap first_reached opened,
-        );
+        continues = (ap signs opened, ap first_reached opened);
       })
 
   module _ (text : List ℕ) (lists : Lists) (packs : List (Pack V)) (nodes : List (OpenNode V)) where
@@ -306,9 +304,10 @@ module _ {V : Type 0} (list : V → List ℕ) (cap width : ℕ) (shop : Shop) (t
             ∙ ap (λ v. met_with shop threshold (names_of packs2) left first last levels (found ++ v)) rest-kept
             ∙ sym (met-push shop threshold (names_of packs2) left first last levels parent found))
 
-        pub turn-down : (text2 : List ℕ) → text2 ≡ text ++ sign child.end ∷ [] →
-            Stands list cap width shop threshold first last left text2 lists2 packs2 nodes2 (levels ++ parent ∷ []) child
-        turn-down text2 written =
+        pub turn-down : Stands list cap width shop threshold first last left (text ++ sign child.end ∷ []) lists2 packs2
+            nodes2 (levels ++ parent ∷ []) child
+        turn-down =
+            let text2 : List ℕ = text ++ sign child.end ∷ [] in
             let all : List Level = levels ++ parent ∷ [] in
             let v : List Visit = met_with shop threshold (names_of packs2) left first last all found in
             let deep : left - length levels - 1 ≡ left - length all =
@@ -330,8 +329,7 @@ module _ {V : Type 0} (list : V → List ℕ) (cap width : ℕ) (shop : Shop) (t
               has_lists = has_lists;
               continues = (
                 turn-met.0 ∙ ap (λ v. text ++ signs v) met-down
-                    ∙ sym (append_assoc text (sign child.end ∷ []) (signs v))
-                    ∙ ap (λ xs. xs ++ signs v) (sym written),
+                    ∙ sym (append_assoc text (sign child.end ∷ []) (signs v)),
                 turn-met.1 ∙ ap first_reached met-down,
               );
             } in

@@ -16,6 +16,10 @@ use Rattle.flow_directions.specs.declared.found.Found.{Found}
 use Rattle.flow_directions.specs.declared.found.Found.TheVariants.{Proved, Below, Over}
 use Rattle.flow_directions.specs.declared.found.Advanced.{Advanced}
 use Rattle.flow_directions.specs.declared.found.Advanced.TheVariants as advanced
+use Rattle.flow_directions.specs.declared.found.Counted.{Counted}
+use Rattle.flow_directions.specs.declared.found.Counted.TheVariants as counted
+use Rattle.flow_directions.specs.declared.found.Tallied.{Tallied}
+use Rattle.flow_directions.specs.declared.found.Tallied.TheVariants as tallied
 use Rattle.flow_directions.specs.declared.found.Part.{Part}
 use Rattle.flow_directions.specs.declared.found.Part.TheVariants.{Node, Children}
 
@@ -194,9 +198,15 @@ IsFound shop threshold budget first last (Below sequence makespan directions) =
     × (directions ≡ length (directions_of shop threshold first last)) × (directions ≤ budget)
 IsFound shop threshold budget first last Over = budget < length (directions_of shop threshold first last)
 
--- What a search of a node came to, with a budget of directions. `Proved` and `Below`: what it found, with the
--- directions that it wrote. `Rest`: it is over its budget; these are the first directions, as many as the budget, and
--- it goes on with these parts, one after the other, of which there are no more than jobs left at the node.
+-- a search of a node is over its budget: these are its first directions, as many as the budget, and it goes on with
+-- these parts, one after the other, of which there are no more than jobs left at the node
+abbrev pub IsRest : Shop → ℕ → ℕ → List ℕ → List ℕ → List ℕ → List Part → Type 0
+IsRest shop threshold budget first last text parts =
+    IsFound shop threshold budget first last Over × (length text ≡ budget)
+    × Continues (visits shop threshold first last) text (parts_visits shop threshold parts)
+    × All (IsPart shop) parts × (length parts ≤ length (jobs_left shop.jobs (first ++ last)))
+
+-- what a search of a node came to, with a budget of directions: what it found, with the directions that it wrote
 abbrev pub IsAdvanced : Shop → ℕ → ℕ → List ℕ → List ℕ → Advanced → Type 0
 IsAdvanced shop threshold budget first last (advanced.Proved text) = IsFound shop threshold budget first last
     (Proved text)
@@ -204,9 +214,27 @@ IsAdvanced shop threshold budget first last (advanced.Below sequence makespan di
     IsFound shop threshold budget first last (Below sequence makespan (length directions.items))
     × (directions.items ≡ directions_of shop threshold first last)
 IsAdvanced shop threshold budget first last (advanced.Rest text parts) =
-    IsFound shop threshold budget first last Over × (length text.items ≡ budget)
-    × Continues (visits shop threshold first last) text.items (parts_visits shop threshold parts.items)
-    × All (IsPart shop) parts.items × (length parts.items ≤ length (jobs_left shop.jobs (first ++ last)))
+    IsRest shop threshold budget first last text.items parts.items
+
+-- What a search for a number found that counts its directions, with a budget of them. `Proved`: it reaches no sequence
+-- below the threshold, and the node has so many directions, as many as the budget or fewer. `Below` and `Over`: as
+-- what is found.
+abbrev pub IsCounted : Shop → ℕ → ℕ → List ℕ → List ℕ → Counted → Type 0
+IsCounted shop threshold budget first last (counted.Proved count) =
+    (first_below shop threshold first last ≡ None) × (count ≡ length (directions_of shop threshold first last))
+    × (count ≤ budget)
+IsCounted shop threshold budget first last (counted.Below sequence makespan directions) =
+    IsFound shop threshold budget first last (Below sequence makespan directions)
+IsCounted shop threshold budget first last counted.Over = IsFound shop threshold budget first last Over
+
+-- what a search of a node came to that counts its directions, with a budget of them
+abbrev pub IsTallied : Shop → ℕ → ℕ → List ℕ → List ℕ → Tallied → Type 0
+IsTallied shop threshold budget first last (tallied.Proved count) =
+    IsCounted shop threshold budget first last (counted.Proved count)
+IsTallied shop threshold budget first last (tallied.Below sequence makespan directions) =
+    IsCounted shop threshold budget first last (counted.Below sequence makespan directions)
+IsTallied shop threshold budget first last (tallied.Rest parts) =
+    (text : List ℕ) × IsRest shop threshold budget first last text parts.items
 
 -- what this shows: the directions prove the threshold for the node; or a sequence of the node is below the threshold
 abbrev pub Shows : Shop → ℕ → List ℕ → List ℕ → Found → Type 0

@@ -2,5 +2,5 @@ pub mod Left
 pub mod Lists
 pub mod Levels
 pub mod Start
-pub mod Reached
+pub mod Outcomes
 pub mod Tree

@@ -72,6 +72,59 @@ pub enum Advanced {
     },
 }
 
+/// What a search for directions found that counts them.
+#[derive(Debug, PartialEq, Eq, Drop)]
+pub enum Counted {
+    /// No sequence of the node has a makespan below the threshold. So many directions prove it.
+    Proved(u64),
+    /// The first sequence of the node, in the order of the search, whose makespan is below the threshold.
+    Below {
+        /// The sequence.
+        sequence: Sequence,
+        /// Its makespan.
+        makespan: u64,
+        /// How many directions come before it.
+        directions: u64,
+    },
+    /// There are more directions than the budget, in all or before the first sequence below the threshold.
+    Over,
+}
+
+/// What a search of a node came to that counts its directions.
+#[derive(Debug, PartialEq, Eq, Drop)]
+pub enum Tallied {
+    /// So many directions prove the threshold, as those of `Counted`.
+    Proved(u64),
+    /// The first sequence of the node, in the order of the search, whose makespan is below the threshold.
+    Below {
+        /// The sequence.
+        sequence: Sequence,
+        /// Its makespan.
+        makespan: u64,
+        /// How many directions come before it.
+        directions: u64,
+    },
+    /// There are more directions than the budget, in all or before the first sequence below the threshold. The search
+    /// goes on with these parts, one after the other.
+    Rest(Vec<Part>),
+}
+
+/// What a search of a node came to, apart from its directions.
+#[derive(Drop)]
+pub(crate) enum Outcome {
+    /// No sequence of the node has a makespan below the threshold.
+    Proved,
+    /// The first sequence of the node, in the order of the search, whose makespan is below the threshold.
+    Below {
+        /// The sequence.
+        sequence: Sequence,
+        /// Its makespan.
+        makespan: u64,
+    },
+    /// There are more directions than the budget. The search goes on with these parts, one after the other.
+    Rest(Vec<Part>),
+}
+
 /// Why nothing was found.
 #[derive(Clone, Copy, Debug, PartialEq, Eq, Error)]
 pub enum ProveFault {

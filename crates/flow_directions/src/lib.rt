@@ -2,8 +2,9 @@
 //!
 //! - `directions.rt`: the search for directions that prove a threshold for a node.
 //! - `found.rt`: what a search finds.
-//! - `prover.rt`: who searches an instance for directions.
+//! - `prover.rt`: who searches an instance for directions, or counts them.
 //! - `start.rt`: the node at which a search begins.
+//! - `signs.rt`: the signs of the directions that a search takes.
 //! - `walk.rt`: the walk through the nodes that the search opens.
 //! - `tree.rt`: the open nodes of a search, and what they share.
 //! - `level.rt`: the nodes whose children are searched.
@@ -20,12 +21,13 @@ mod laws;
 mod level;
 mod lists;
 mod prover;
+mod signs;
 mod start;
 mod sums;
 mod tree;
 mod walk;
 
-pub use directions::{advance, prove};
-pub use found::{Advanced, Found, Part, ProveFault};
+pub use directions::{advance, count, prove, tally};
+pub use found::{Advanced, Counted, Found, Part, ProveFault, Tallied};
 pub use laws::{directions_by_children, directions_prove, search_reaches_what_is_below};
-pub use prover::{Alone, News, Prover};
+pub use prover::{Alone, Counter, News, Prover};

@@ -1,7 +1,7 @@
-//! Who searches an instance for directions.
+//! Who searches an instance for directions, or counts them.
 
-use crate::directions::prove;
-use crate::found::Found;
+use crate::directions::{count, prove};
+use crate::found::{Counted, Found};
 use flow_shop::Instance;
 use std::alloc::{AllocError, Global};
 
@@ -59,6 +59,27 @@ pub trait Prover {
         requires { MayBeTold instance.now news };
 }
 
+/// Counts the directions of an instance.
+pub trait Counter {
+    ghost use Rattle.std.specs.Prelude.{[], IfOk};
+    ghost use Rattle.flow_directions.specs.Search.{IsCounted};
+
+    // What has to hold where it counts.
+    ghost is_ready: { Self → Type 0 };
+
+    /// Counts the directions that prove that no sequence of an instance has a makespan below a threshold, with a
+    /// budget, as `count` does from the node of two empty lists. The fault is that memory ran out.
+    fn count(
+        &self,
+        alloc: Global,
+        instance: &Instance,
+        threshold: u64,
+        budget: u64,
+    ) -> Result<Counted, AllocError>
+        requires { is_ready self.now }
+        ensures { IfOk result (λ found. IsCounted instance.now threshold budget [] [] found) };
+}
+
 /// Searches on the calling thread.
 #[derive(Clone, Copy, Debug)]
 pub struct Alone;
@@ -89,4 +110,19 @@ impl Prover for Alone {
     }
 
     fn tell(&self, _instance: &Instance, _news: News) {}
+}
+
+impl Counter for Alone {
+    ghost is_ready = { λ _. Unit {0} };
+
+    fn count(
+        &self,
+        alloc: Global,
+        instance: &Instance,
+        threshold: u64,
+        budget: u64,
+    ) -> Result<Counted, AllocError> {
+        // Two empty lists are a node, so a fault is that memory ran out.
+        count(alloc, instance, &[], &[], threshold, budget).map_err(|_| AllocError)
+    }
 }

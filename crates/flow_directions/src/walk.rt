@@ -2,22 +2,22 @@
 
 ghost use Rattle.std.specs.Prelude.{◌≡◌, ℕ, ◌+◌, ◌*◌, ◌≤◌, List, [], ◌++◌, length, All, IfOk};
 ghost use Rattle.flow_shop.specs.Shop.{Shop};
-ghost use Rattle.flow_shop.specs.Directions.{sign};
 ghost use Rattle.flow_shop.specs.Sequences.{AreJobs, IsSequence};
 ghost use Rattle.flow_nodes.specs.Groups.{group_count};
 ghost use Rattle.flow_nodes.specs.Vectors.{limit_of};
 ghost use Rattle.flow_nodes.specs.Marks.{chosen};
-ghost use Rattle.flow_directions.specs.Search.{IsAdvanced, IsPart, Visit, parts_visits, visits};
+ghost use Rattle.flow_directions.specs.Search.{IsPart, Visit, parts_visits, visits};
 ghost use Rattle.flow_directions.specs.internal.Levels.{IsAt, StandsBelow, first_of, last_of, met_with, names_of};
-ghost use Rattle.flow_directions.specs.internal.Reached.{IsSequenceAfter};
+ghost use Rattle.flow_directions.specs.internal.Outcomes.{HasCome, IsReached};
 ghost use Rattle.flow_directions.specs.internal.Tree.{IsTree};
 
-use crate::found::{Advanced, Part};
+use crate::found::{Outcome, Part};
 use crate::level::{Level, Spot};
 use crate::lists::Lists;
+use crate::signs::Signs;
 use crate::tree::Tree;
 use flow_nodes::{Marks, Pack, Vector, group_count};
-use flow_shop::{End, Instance, Sequence, makespan};
+use flow_shop::{Instance, Sequence, makespan};
 use std::alloc::{AllocError, Global};
 
 /// What a search is to prove, and with how much.
@@ -27,17 +27,6 @@ pub(crate) struct Terms {
     pub(crate) threshold: u64,
     /// The most directions.
     pub(crate) budget: u64,
-}
-
-/// The sign of an end.
-#[inline(always)]
-fn sign_of(end: End) -> u8
-    ensures { result ≡ sign end }
-{
-    match end {
-        End::Front => b'+',
-        End::Back => b'-',
-    }
 }
 
 /// The jobs that a pack has at marked places, in order.
@@ -54,23 +43,18 @@ fn jobs_at<V: Vector>(alloc: Global, pack: &Pack<V>, marks: &Marks) -> Result<Ve
     Ok(jobs)
 }
 
-/// The sequence of jobs that are known to be one, with its makespan; it was reached after these directions.
+/// The sequence of jobs that are known to be one, with its makespan.
 pub(crate) fn sequence_of(
     alloc: Global,
     instance: &Instance,
     jobs: &[u16],
-    directions: Vec<u8>,
-) -> Result<Advanced, AllocError>
+) -> Result<Outcome, AllocError>
     requires { IsSequence instance.now.jobs jobs.now }
-    ensures found { IfOk result (λ found. IsSequenceAfter instance.now jobs.now directions.items found) }
+    ensures found { IfOk result (λ outcome. IsReached instance.now jobs.now outcome) }
 {
     let sequence = Sequence::of_known(alloc, jobs)?;
     let makespan = makespan(instance, &sequence);
-    Ok(Advanced::Below {
-        sequence,
-        makespan,
-        directions,
-    })
+    Ok(Outcome::Below { sequence, makespan })
 }
 
 /// The parts with which a search goes on that is over its budget at the child of the last of some levels: the child,
@@ -112,14 +96,16 @@ fn parts_left<V: Vector>(
     Ok(parts)
 }
 
-/// Searches the node that stands at the first place of a tree's list, at which so many jobs are left.
-pub(crate) fn search<V: Vector>(
+/// Searches the node that stands at the first place of a tree's list, at which so many jobs are left. Adds the signs of
+/// its directions to none.
+pub(crate) fn search<V: Vector, S: Signs>(
     instance: &Instance,
     terms: Terms,
     mut tree: Tree<V>,
     mut lists: Lists,
     left: u16,
-) -> Result<Advanced, AllocError>
+    signs: &mut S,
+) -> Result<Outcome, AllocError>
     requires wide { V.WIDTH ≡ 16 }
     requires some { 1 ≤ left }
     requires tree { IsTree V.CAP instance.now terms.threshold tree }
@@ -127,26 +113,28 @@ pub(crate) fn search<V: Vector>(
     requires room { 1 ≤ length tree.nodes.items }
     requires at { (first : List ℕ) × (last : List ℕ) × AreJobs instance.now.jobs (first ++ last)
         × IsAt V.list V.CAP V.WIDTH instance.now terms.threshold first last left lists tree }
+    requires none { S.are signs.old [] }
     ensures found { (first last : List ℕ) → AreJobs instance.now.jobs (first ++ last) →
         IsAt V.list V.CAP V.WIDTH instance.now terms.threshold first last left lists tree →
-        IfOk result (λ found. IsAdvanced instance.now terms.threshold terms.budget first last found) }
+        IfOk result (λ outcome.
+        HasCome (S.are signs.new) instance.now terms.threshold terms.budget first last outcome) }
 {
     let alloc = tree.alloc;
-    let mut directions = Vec::new(alloc);
     let mut levels = Vec::with_capacity(alloc, left as usize)?;
     if terms.budget == 0 {
         let parts = parts_left(&tree, &mut lists, &mut levels, left)?;
-        return Ok(Advanced::Rest { directions, parts });
+        return Ok(Outcome::Rest(parts));
     }
+    let mut budget = terms.budget - 1;
     let mut left = left;
     let mut here = Level::empty();
     tree.enter(instance, Spot { at: 0, top: 1 }, left, &mut here)?;
-    directions.push(sign_of(here.end))?;
+    signs.add(here.end)?;
     'walk: loop {
         match here.next(&tree.packs[group_count(left) - 1]) {
             None => {
                 let Some(level) = levels.pop() else {
-                    return Ok(Advanced::Proved(directions));
+                    return Ok(Outcome::Proved);
                 };
                 here = level;
                 lists.take(here.end);
@@ -156,15 +144,16 @@ pub(crate) fn search<V: Vector>(
                 lists.put(here.end, here.job);
                 left -= 1;
                 if left == 0 {
-                    return sequence_of(alloc, instance, lists.all(), directions);
+                    return sequence_of(alloc, instance, lists.all());
                 }
-                if directions.len() as u64 >= terms.budget {
+                if budget == 0 {
                     levels.push(here)?;
                     let parts = parts_left(&tree, &mut lists, &mut levels, left)?;
-                    return Ok(Advanced::Rest { directions, parts });
+                    return Ok(Outcome::Rest(parts));
                 }
                 tree.go(instance, &mut levels, &mut here, place, left)?;
-                directions.push(sign_of(here.end))?;
+                signs.add(here.end)?;
+                budget -= 1;
             }
         }
     }

@@ -1,5 +1,6 @@
 -- What the places of a search stand for, after an answer.
-use Rattle.std.proofs.Common.{◌≡◌, ℕ, false, cond, List, [], ◌∷◌, ◌++◌, length, Some, None, ap, sym, ◌∙◌, subst, ltb, eqb, inl, inr}
+use Rattle.std.proofs.Common.{◌≡◌, ℕ, false, cond, List, [], ◌∷◌, ◌++◌, length, Some, None, ap, sym, ◌∙◌, subst, ltb}
+use Rattle.std.proofs.Common.{eqb, inl, inr}
 use Rattle.std.specs.List.{AllByRecursion, flat_map, range_with_len}
 use Rattle.std.proofs.lemmas.Bool.{cases_Bool, MatchBool-at_true, MatchBool-at_false}
 use Rattle.flow_directions.specs.Search.{Visit, signs, first_reached, Continues}
@@ -10,7 +11,8 @@ use Rattle.flow_parts.specs.Meanings.{Met, met, behind, Meaning, place_met, orde
 use Rattle.flow_parts.proofs.Numbers.{all-first, all-rest, all-append, all-both, all-weaker}
 use Rattle.flow_parts.proofs.Links.{linked-same}
 use Rattle.flow_parts.proofs.Putting.{given-state}
-use Rattle.flow_parts.proofs.Meetings.{pair, behind-assoc, order-append, order-kept, open-met, closed-met, fresh-met}
+use Rattle.flow_parts.proofs.Behind.{pair, behind-assoc}
+use Rattle.flow_parts.proofs.Meetings.{order-append, order-kept, open-met, closed-met, fresh-met}
 
 module _ (meaning : Meaning) (old new : List Place) (first last : List ℕ) (number : ℕ) (all : List Visit)
     (given : (place_at old number).state ≡ 1)
@@ -114,7 +116,8 @@ answers-keep before after old new order order_after number searched meaning all 
     let stands_at : StandsFor meaning old (put.first ++ number ∷ put.behind) all =
     subst (λ xs. StandsFor meaning old xs all) put.was stands in
     let state = given-state before old number given in
-    let written : length (meaning.text number) ≡ (place_at new number).written = answer.written ∙ sym put.written in
+    let written : length (meaning.text number) ≡ (place_at new number).written =
+    answer.written ∙ sym (ap (λ p. p.written) put.place) in
     let same = linked-same (λ q. (place_at new q).next) 1
     (put.first ++ number ∷ behind_searched searched before.places put.behind) order_after put.is.linked now.linked in
     subst (λ xs. StandsFor meaning new xs all) same (elim (cases_Bool searched.reached) [
@@ -123,11 +126,11 @@ answers-keep before after old new order order_after number searched meaning all 
           subst (λ xs. StandsFor meaning new (put.first ++ number ∷ xs) all)
           (sym (ap (λ b. cond b [] (range_with_len before.places searched.left ++ put.behind)) reached))
           (reached-keeps meaning old new put.first put.behind number all state put.first_same stands_at
-          (put.state ∙ ap (λ b. cond b 3 2) reached) written true_answer.0 true_answer.1)
+          (ap (λ p. p.state) put.place ∙ ap (λ b. cond b 3 2) reached) written true_answer.0 true_answer.1)
       | inr not ↦
           subst (λ xs. StandsFor meaning new (put.first ++ number ∷ xs) all)
           (sym (ap (λ b. cond b [] (range_with_len before.places searched.left ++ put.behind)) not))
           (going-on-keeps meaning old new put.first put.behind number all state put.first_same stands_at
-          before.places searched.left (put.state ∙ ap (λ b. cond b 3 2) not) written (put.waits not)
+          before.places searched.left (ap (λ p. p.state) put.place ∙ ap (λ b. cond b 3 2) not) written (put.waits not)
           (put.behind_same not) (MatchBool-at_false _ _ not answer.then))
     ])

@@ -1,5 +1,6 @@
 -- What a search came to.
-use Rattle.std.proofs.Common.{◌≡◌, ◌≢◌, ℕ, ◌+◌, ◌-◌, ◌<◌, ◌≤◌, inl, inr, true, false, cond, List, [], ◌∷◌, ◌++◌, length, Some, None, refl, ap, sym, ◌∙◌, arith, sum_by, ltb, eqb, append-nil, length-append, lit≤}
+use Rattle.std.proofs.Common.{◌≡◌, ◌≢◌, ℕ, ◌+◌, ◌-◌, ◌<◌, ◌≤◌, inl, inr, true, false, cond, List, [], ◌∷◌, ◌++◌, length}
+use Rattle.std.proofs.Common.{Some, None, refl, ap, sym, ◌∙◌, arith, sum_by, ltb, eqb, append-nil, length-append, lit≤}
 use Rattle.std.specs.List.{AllByRecursion, flat_map}
 use Rattle.std.proofs.lemmas.Bool.{cases_Bool, cond_both, eqb-true, ltb-true, ltb-false}
 use Rattle.std.proofs.lemmas.List.Sums.{sum_by-cons}
@@ -11,7 +12,8 @@ use Rattle.flow_parts.specs.declared.answer.Decided.TheVariants.{Proved, Below, 
 use Rattle.flow_parts.specs.Orders.{place_at, is_open, open_in, settled_in, reached_in, EndsWhereReached}
 use Rattle.flow_parts.specs.Searches.{IsSearch, decided_of}
 use Rattle.flow_parts.specs.Meanings.{behind, Meaning, place_met, order_met, StandsFor, Agrees, DecidedAgrees}
-use Rattle.flow_parts.proofs.Meetings.{pair, closed-met}
+use Rattle.flow_parts.proofs.Behind.{pair}
+use Rattle.flow_parts.proofs.Meetings.{closed-met}
 
 module _ (meaning : Meaning) (at : ℕ → Place) where
   abbrev HasLengths : List ℕ → Type 0
@@ -137,7 +139,8 @@ module _ (search : Search) (places : List Place) (order : List ℕ) (meaning : M
     settled-is : length (flat_map meaning.text order) ≡ search.settled
     settled-is = closed-length meaning (place_at places) order closed stands.lengths ∙ sym is.settled
 
-    proved : search.reached ≡ 0 → Agrees shop threshold search.budget begin end meaning order (Some (Proved search.settled))
+    proved : search.reached ≡ 0 →
+        Agrees shop threshold search.budget begin end meaning order (Some (Proved search.settled))
     proved nothing text is_text =
         let all = sym (closed-none meaning (place_at places) order closed (sym is.reached ∙ nothing))
         ∙ stands.met_in_all in (

@@ -1,12 +1,14 @@
 -- Where a place is given, or waits again.
-use Rattle.std.proofs.Common.{◌≡◌, ◌≢◌, ℕ, ◌+◌, ◌-◌, ◌<◌, ◌≤◌, ◌⊎◌, inl, inr, true, false, cond, List, [], ◌∷◌, ◌++◌, length, refl, ap, sym, ◌∙◌, subst, arith, ltb, eqb, lit<, lit≤}
+use Rattle.std.proofs.Common.{◌≡◌, ◌≢◌, ℕ, ◌+◌, ◌-◌, ◌<◌, ◌≤◌, ◌⊎◌, inl, inr, true, false, cond, List, [], ◌∷◌, ◌++◌}
+use Rattle.std.proofs.Common.{length, refl, ap, sym, ◌∙◌, subst, arith, ltb, eqb, lit<, lit≤}
 use Rattle.std.specs.List.{AllByRecursion, IsDistinct, list_any}
 use Rattle.std.proofs.lemmas.Bool.{cases_eq, eqb-true, ltb-true, ne_eqb}
 use Rattle.std.proofs.lemmas.List.Sums.{sum_by-cons}
 use Rattle.std.proofs.lemmas.Map.Steps.{length-le_from_distinct_below}
 use Rattle.flow_parts.specs.declared.place.Place.{Place}
 use Rattle.flow_parts.specs.declared.search.Search.{Search}
-use Rattle.flow_parts.specs.Orders.{place_at, is_open, open_in, counted_in, IsLinked, settled_in, first_open_in, reached_in, EndsWhereReached}
+use Rattle.flow_parts.specs.Orders.{place_at, is_open, open_in, counted_in, IsLinked, settled_in, first_open_in}
+use Rattle.flow_parts.specs.Orders.{reached_in, EndsWhereReached}
 use Rattle.flow_parts.specs.Searches.{IsSearch, GivesPlace, GivesNone}
 use Rattle.flow_parts.specs.internal.Walks.{AreAdded, IsFirstWaiting}
 use Rattle.std.proofs.Common.{append_assoc}
@@ -67,7 +69,8 @@ module _ (at at' : ℕ → Place) where
         ∙ ap (λ n. cond (is_open (at x)) 0 ((at x).written + n)) (settled-alike xs alike.1)
   ]
 
-  first-open-alike : (xs : List ℕ) → AllByRecursion (λ q. IsAlike (at q) (at' q)) xs → first_open_in at' xs ≡ first_open_in at xs
+  first-open-alike : (xs : List ℕ) → AllByRecursion (λ q. IsAlike (at q) (at' q)) xs →
+      first_open_in at' xs ≡ first_open_in at xs
   first-open-alike [] alike = refl
   first-open-alike (x ∷ xs) alike =
       ap (λ b. cond b (x + 1) (first_open_in at' xs)) (alike-open (at x) (at' x) alike.0)
@@ -92,7 +95,10 @@ module _ (at at' : ℕ → Place) where
   alike-all : (here : ℕ) (place : Place) → IsWritten at at' here place → is_open (at here) ≡ true →
       is_open place ≡ true → (q : ℕ) → IsAlike (at q) (at' q)
   alike-all here place written was is q = elim (cases_eq q here) [
-    | inl same ↦ inl (ap (λ n. is_open (at n)) same ∙ was, ap (λ n. is_open (at' n)) same ∙ ap is_open written.value ∙ is)
+    | inl same ↦ inl (
+      ap (λ n. is_open (at n)) same ∙ was,
+      ap (λ n. is_open (at' n)) same ∙ ap is_open written.value ∙ is,
+    )
     | inr not ↦ inr (written.others q not)
   ]
 
@@ -110,7 +116,8 @@ still-search search old new order here place is written was opened next size =
     let alike : (q : ℕ) → IsAlike (at q) (at' q) = alike-all at at' here place written was opened in
     let all = all-each (λ q. IsAlike (at q) (at' q)) order (λ q one. alike q) in
     let nexts : (q : ℕ) → (at' q).next ≡ (at q).next = λ q. elim (cases_eq q here) [
-      | inl same ↦ ap (λ n. (at' n).next) same ∙ ap (λ p. p.next) written.value ∙ next ∙ ap (λ n. (at n).next) (sym same)
+      | inl same ↦ ap (λ n. (at' n).next) same ∙ ap (λ p. p.next) written.value ∙ next
+          ∙ ap (λ n. (at n).next) (sym same)
       | inr not ↦ ap (λ p. p.next) (written.others q not)
     ] in
     record {
@@ -164,7 +171,8 @@ open-rest at link start (x ∷ xs) linked = elim (tested (is_open (at x))) [
 ]
 
 -- the first place that waits, from the first open one on, is the first one of the order that does
-pub first-waiting : (at : ℕ → Place) (link : ℕ → ℕ) (start : ℕ) (xs : List ℕ) (found : ℕ) (linked : IsLinked link start xs) →
+pub first-waiting : (at : ℕ → Place) (link : ℕ → ℕ) (start : ℕ) (xs : List ℕ) (found : ℕ)
+    (linked : IsLinked link start xs) →
     IsFirstWaiting at (open-rest at link start xs linked).1 found → IsFirstWaiting at xs found
 first-waiting at link start xs found linked (inl none) =
     let split = open-rest at link start xs linked in
@@ -225,6 +233,16 @@ gives-none old order link (inr found) none = absurd (omega (arith, found.4, none
 gives-none old order link (inl found) none = record { none = found.1; same = refl }
 
 -- a search whose one place waits
+-- the place of a search that begins
+pub first-place : (at : ℕ → Place) (new : List Place) → AreAdded at (place_at new) 0 1 0 →
+    place_at new 0 ≡ record { written = 0; next = 0; state = 0; zero = 0 }
+first-place at new are =
+    let place : Place = place_at new 0 in
+    ap (λ n. record place { written = n }) are.blank.0.0
+    ∙ ap (λ n. record place { written = 0; next = n }) (are.next [] tt refl).1
+    ∙ ap (λ n. record place { written = 0; next = 0; state = n }) are.waits.0
+    ∙ ap (λ n. record place { written = 0; next = 0; state = 0; zero = n }) are.blank.0.1
+
 pub first-search : (at : ℕ → Place) (budget : ℕ) (new : List Place) → AreAdded at (place_at new) 0 1 0 →
     1 ≤ length new →
     IsSearch (record {

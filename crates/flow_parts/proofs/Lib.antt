@@ -6,6 +6,7 @@ pub mod Walking
 pub mod Writing
 pub mod Giving
 pub mod Putting
+pub mod Behind
 pub mod Meetings
 pub mod Answering
 pub mod Decisions

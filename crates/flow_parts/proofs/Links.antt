@@ -2,10 +2,11 @@
 use Rattle.std.proofs.Common.{◌≡◌, ◌≢◌, ℕ, ◌≤◌, List, [], ◌∷◌, ◌++◌, length, refl, ap, sym, ◌∙◌, subst, arith}
 use Rattle.std.proofs.Common.{length-append}
 use Rattle.std.specs.List.{AllByRecursion}
-use Rattle.flow_parts.specs.Orders.{IsLinked}
+use Rattle.flow_parts.specs.Orders.{IsLinked, link_to}
 
 -- there is one list from a start on
-pub linked-same : (link : ℕ → ℕ) (start : ℕ) (xs ys : List ℕ) → IsLinked link start xs → IsLinked link start ys → xs ≡ ys
+pub linked-same : (link : ℕ → ℕ) (start : ℕ) (xs ys : List ℕ) → IsLinked link start xs → IsLinked link start ys →
+    xs ≡ ys
 linked-same link start [] [] a b = refl
 linked-same link start [] (y ∷ ys) a b = absurd (omega (arith, a, b.0))
 linked-same link start (x ∷ xs) [] a b = absurd (omega (arith, a.0, b))
@@ -13,6 +14,11 @@ linked-same link start (x ∷ xs) (y ∷ ys) a b =
     let same : x ≡ y = omega (arith, a.0, b.0) in
     ap (λ n. n ∷ xs) same
     ∙ ap (λ zs. y ∷ zs) (linked-same link (link y) xs ys (subst (λ n. IsLinked link (link n) xs) same a.1) b.1)
+
+-- the start is the link to the first place
+pub linked-start : (link : ℕ → ℕ) (start : ℕ) (xs : List ℕ) → IsLinked link start xs → start ≡ link_to xs
+linked-start link start [] linked = linked
+linked-start link start (x ∷ xs) linked = linked.0
 
 -- what stands behind a place
 pub linked-rest : (link : ℕ → ℕ) (start : ℕ) (xs : List ℕ) (p : ℕ) (ys : List ℕ) →

@@ -1,48 +1,13 @@
 -- What the places of a search stand for.
-use Rattle.std.proofs.Common.{◌≡◌, ◌≢◌, ℕ, zero, suc, ◌+◌, inl, inr, true, false, cond, List, [], ◌∷◌, ◌++◌, length, Option, Some, None, refl, ap, sym, ◌∙◌, ltb, eqb, append_assoc, append-nil}
+use Rattle.std.proofs.Common.{◌≡◌, ◌≢◌, ℕ, zero, suc, ◌+◌, inl, inr, true, false, cond, List, [], ◌∷◌, ◌++◌, length}
+use Rattle.std.proofs.Common.{Some, None, refl, ap, sym, ◌∙◌, ltb, eqb}
 use Rattle.std.specs.List.{AllByRecursion, flat_map, range_with_len}
 use Rattle.std.proofs.lemmas.Bool.{cases_eq}
-use Rattle.flow_directions.specs.Search.{Visit, signs, first_reached}
-use Rattle.flow_directions.proofs.VisitSteps.{none-or-reached, signs-append, first_reached-append}
-use Rattle.flow_directions.proofs.VisitSteps.{signs-append-reached, first_reached-append-reached}
 use Rattle.flow_parts.specs.declared.place.Place.{Place}
 use Rattle.flow_parts.specs.Orders.{place_at, is_open}
-use Rattle.flow_parts.specs.Meanings.{Met, met, joined, behind, Meaning, place_met, order_met, BeginsRight, GivesKeep}
+use Rattle.flow_parts.specs.Meanings.{met, behind, Meaning, place_met, order_met, BeginsRight, GivesKeep}
+use Rattle.flow_parts.proofs.Behind.{behind-nil, behind-assoc, met-append}
 use Rattle.flow_parts.proofs.Numbers.{all-weaker}
-
--- two pairs
-pub pair : (a c : List ℕ) (b d : Option (List ℕ)) → a ≡ c → b ≡ d → ◌≡◌ {A = Met} (a, b) (c, d)
-pair a c b d p q = ap (λ x. (x, b)) p ∙ ap (λ y. (c, y)) q
-
-joined-nil : (text : List ℕ) (reached : Option (List ℕ)) → joined text reached ([], None) ≡ (text, reached)
-joined-nil text None = ap (λ t. (t, None)) (append-nil text)
-joined-nil text (Some jobs) = refl
-
-pub behind-nil : (first : Met) → behind first ([], None) ≡ first
-behind-nil first = joined-nil first.0 first.1
-
-joined-assoc : (s : List ℕ) (r : Option (List ℕ)) (t : List ℕ) (q : Option (List ℕ)) (c : Met) →
-    behind (joined s r (t, q)) c ≡ joined s r (joined t q c)
-joined-assoc s None t None c = ap (λ x. (x, c.1)) (append_assoc s t c.0)
-joined-assoc s None t (Some jobs) c = refl
-joined-assoc s (Some jobs) t q c = refl
-
--- three, one after the other
-pub behind-assoc : (a b c : Met) → behind (behind a b) c ≡ behind a (behind b c)
-behind-assoc a b c = joined-assoc a.0 a.1 b.0 b.1 c
-
--- what two lists of visits meet
-met-append : (xs ys : List Visit) → met (xs ++ ys) ≡ behind (met xs) (met ys)
-met-append xs ys = elim (none-or-reached (first_reached xs)) [
-  | inl none ↦
-      pair (signs (xs ++ ys)) (signs xs ++ signs ys) (first_reached (xs ++ ys)) (first_reached ys)
-      (signs-append xs ys none) (first_reached-append xs ys none)
-      ∙ sym (ap (λ r. joined (signs xs) r (met ys)) none)
-  | inr reached ↦
-      pair (signs (xs ++ ys)) (signs xs) (first_reached (xs ++ ys)) (Some reached.0)
-      (signs-append-reached xs ys reached.0 reached.1) (first_reached-append-reached xs ys reached.0 reached.1)
-      ∙ sym (ap (λ r. joined (signs xs) r (met ys)) reached.1)
-]
 
 module _ (meaning : Meaning) where
   pub order-append : (at : ℕ → Place) (xs ys : List ℕ) →
@@ -110,7 +75,8 @@ gives-keep search old new order number meaning all gives stands =
     let was : is_open (place_at old number) ≡ true = ap (λ n. ltb n 2) gives.waits in
     let is : is_open (place_at new number) ≡ true = ap is_open gives.place in
     record {
-      met_in_all = states-met meaning (place_at old) (place_at new) number was is gives.others order ∙ stands.met_in_all;
+      met_in_all = states-met meaning (place_at old) (place_at new) number was is gives.others order
+          ∙ stands.met_in_all;
       lengths = all-weaker (λ q. is_open (place_at old q) ≡ false → length (meaning.text q) ≡ (place_at old q).written)
           (λ q. is_open (place_at new q) ≡ false → length (meaning.text q) ≡ (place_at new q).written) order
           (λ q known closed. elim (cases_eq q number) [

@@ -1,5 +1,7 @@
 -- Where a place that was given is searched.
-use Rattle.std.proofs.Common.{◌≡◌, ◌≢◌, ℕ, zero, suc, ◌+◌, ◌-◌, ◌<◌, ◌≤◌, ◌^◌, ◌⊎◌, inl, inr, Bool, true, false, cond, List, [], ◌∷◌, ◌++◌, length, refl, ap, sym, ◌∙◌, subst, arith, sum_by, ltb, eqb, lit≤, length-append}
+use Rattle.std.proofs.Common.{◌≡◌, ◌≢◌, ℕ, zero, suc, ◌+◌, ◌-◌, ◌<◌, ◌≤◌, ◌^◌, ◌⊎◌, inl, inr, Bool, true, false, cond}
+use Rattle.std.proofs.Common.{List, [], ◌∷◌, ◌++◌, length, refl, ap, sym, ◌∙◌, subst, arith, sum_by, ltb, eqb, lit≤}
+use Rattle.std.proofs.Common.{length-append}
 use Rattle.std.specs.List.{AllByRecursion, range_with_len}
 use Rattle.std.proofs.lemmas.Bool.{cases_eq, cases_lt, eqb-true, ltb-true, and_parts}
 use Rattle.std.proofs.lemmas.List.Sums.{sum_by-cons, sum_by-append}
@@ -7,11 +9,13 @@ use Rattle.flow_parts.specs.declared.place.Place.{Place}
 use Rattle.flow_parts.specs.declared.search.Search.{Search}
 use Rattle.flow_parts.specs.declared.answer.Searched.{Searched}
 use Rattle.flow_parts.specs.declared.walks.Dropped.{Dropped}
-use Rattle.flow_parts.specs.Orders.{place_at, is_open, open_in, counted_in, IsOneOf, IsLinked, settled_in, first_open_in, reached_in, EndsWhereReached}
+use Rattle.flow_parts.specs.Orders.{place_at, is_open, open_in, counted_in, IsOneOf, IsLinked, settled_in}
+use Rattle.flow_parts.specs.Orders.{first_open_in, reached_in, EndsWhereReached, link_to}
 use Rattle.flow_parts.specs.Searches.{IsSearch, IsPut, is_given}
 use Rattle.flow_parts.specs.internal.Walks.{AreDropped, IsCounted, AreCountable, AreAdded, start_of}
-use Rattle.flow_parts.proofs.Numbers.{all-first, all-rest, all-append, all-one, all-each, all-both, all-weaker, one-first, one-rest, one-cases, one-split, range-above}
-use Rattle.flow_parts.proofs.Links.{linked-rest, linked-with, linked-kept, apart-first, apart-rest}
+use Rattle.flow_parts.proofs.Numbers.{all-first, all-rest, all-append, all-one, all-each, all-both, all-weaker}
+use Rattle.flow_parts.proofs.Numbers.{one-first, one-rest, one-cases, one-split, range-above}
+use Rattle.flow_parts.proofs.Links.{linked-start, linked-rest, linked-with, linked-kept, apart-first, apart-rest}
 use Rattle.flow_parts.proofs.Counts.{sum-kept, ends-with, reached-with, settled-with}
 use Rattle.flow_parts.proofs.Writing.{IsWritten}
 
@@ -190,6 +194,10 @@ module _ (before : Search) (old : List Place) (order : List ℕ) (number : ℕ) 
     behind-apart : AllByRecursion (λ q. q ≢ number) behind
     behind-apart = apart-rest (λ q. (place_at old q).next) 1 first number behind linked
 
+    -- a place that was dropped before is another one
+    not-number : (q : ℕ) → 4 ≤ (place_at old q).state → q ≢ number
+    not-number q states same = omega (arith, ap (λ n. (place_at old n).state) same, was_given, states)
+
     opens : before.open ≡ sum_by (λ q. open_in (place_at old q)) first
         + (1 + sum_by (λ q. open_in (place_at old q)) behind)
     opens = is.opened ∙ ap (sum_by (λ q. open_in (place_at old q))) was
@@ -265,8 +273,9 @@ module _ (before : Search) (old : List Place) (order : List ℕ) (number : ℕ) 
               | inr rest ↦ elim rest [
                 | inl same ↦ absurd (not same)
                 | inr gone ↦
-                    let gone_state = all-one (λ r. (place_at mid r).state ≡ 4) behind q drops.dropped gone in
-                    absurd (omega (arith, less, ap (λ p. p.state) (writes_place.others q not) ∙ gone_state))
+                    let gone_place = all-one (λ r. place_at mid r ≡ record (place_at old r) { state = 4 }) behind q
+                    drops.dropped gone in
+                    absurd (omega (arith, less, ap (λ p. p.state) (writes_place.others q not ∙ gone_place)))
               ]
             ]
       ]
@@ -316,7 +325,8 @@ module _ (before : Search) (old : List Place) (order : List ℕ) (number : ℕ) 
           sym (is.first_open ∙ ap (first_open_in (place_at old)) was) in
           let settled : before.settled ≡ settled_in (place_at old) (first ++ number ∷ behind) =
           is.settled ∙ ap (settled_in (place_at old)) was in
-          let fields = made.fields walk.0 (subst (λ n. IsLinked (λ q. (place_at new q).next) n walk.0) first_open walk.1)
+          let fields = made.fields walk.0
+          (subst (λ n. IsLinked (λ q. (place_at new q).next) n walk.0) first_open walk.1)
           (omega (arith, walk.4, length-append first (number ∷ []), few, is.room, size))
           (omega (arith, walk.2, settled, sum, written-new, written_is (omega (arith, fits2)), fits2)) in
           let ends_new = ends-with (place_at old) (place_at new) first number behind [] ends first-same
@@ -351,8 +361,11 @@ module _ (before : Search) (old : List Place) (order : List ℕ) (number : ℕ) 
                 (sym (ap (λ b. cond b [] (range_with_len before.places searched.left ++ behind)) reached)) made_search;
             budget = ap (λ search. search.budget) fields;
             places = ap (λ search. search.places) fields ∙ made-places;
-            state = state ∙ sym (ap (λ b. cond b 3 2) reached);
-            written = ap (λ p. p.written) writes_place.value;
+            place = writes_place.value ∙ sym (ap (λ b. record (place_at old number) {
+              written = searched.written;
+              next = link_to (cond b [] (range_with_len before.places searched.left ++ behind));
+              state = cond b 3 2;
+            }) reached);
             first_same = first-same;
             waits = λ not. absurd (cc (reached, not));
             blank = λ not. absurd (cc (reached, not));
@@ -363,9 +376,14 @@ module _ (before : Search) (old : List Place) (order : List ℕ) (number : ℕ) 
                 (λ r less same. omega (arith, less, same, above))
                 (all-rest (λ r. r < before.places) first (number ∷ behind) within).1);
             behind_same = λ not. absurd (cc (reached, not));
-            dropped = λ _. all-both (λ q. (place_at mid q).state ≡ 4) (λ q. q ≢ number)
-                (λ q. (place_at new q).state ≡ 4) behind
-                (λ q gone not. ap (λ p. p.state) (writes_place.others q not) ∙ gone) drops.dropped behind-apart;
+            dropped = λ _. all-both (λ q. place_at mid q ≡ record (place_at old q) { state = 4 }) (λ q. q ≢ number)
+                (λ q. place_at new q ≡ record (place_at old q) { state = 4 }) behind
+                (λ q gone not. writes_place.others q not ∙ gone) drops.dropped behind-apart;
+            gone = λ q below states.
+                writes_place.others q (not-number q states)
+                ∙ drops.others q (all-weaker (λ r. (place_at old r).state < 4) (λ r. r ≢ q) behind
+                (λ r less same. omega (arith, less, ap (λ n. (place_at old n).state) same, states))
+                (all-rest (λ r. (place_at old r).state < 4) first (number ∷ behind) kept).1);
           }
 
     -- where the search goes on there
@@ -438,6 +456,12 @@ module _ (before : Search) (old : List Place) (order : List ℕ) (number : ℕ) 
           (subst (λ n. IsLinked (λ q. (place_at new q).next) n then) (sym (ap (λ p. p.next) writes_place.value))
           (relinked (start_of before.places searched.left (place_at old number).next) behind behind-apart
           (adds.next behind behind-less (linked-rest (λ q. (place_at old q).next) 1 first number behind linked))))
+
+      -- the link of the place is to what stands behind it
+      start-is : start_of before.places searched.left (place_at old number).next ≡ link_to then
+      start-is = sym (ap (λ p. p.next) writes_place.value)
+          ∙ linked-start (λ q. (place_at new q).next) (place_at new number).next then
+          (linked-rest (λ q. (place_at new q).next) 1 first number then new-linked2)
 
       fresh-less : AllByRecursion (λ q. q < places) (range_with_len before.places searched.left)
       fresh-less = all-weaker (λ q. q < before.places + searched.left) (λ q. q < places)
@@ -543,7 +567,8 @@ module _ (before : Search) (old : List Place) (order : List ℕ) (number : ℕ) 
           sym (is.first_open ∙ ap (first_open_in (place_at old)) was) in
           let settled : before.settled ≡ settled_in (place_at old) (first ++ number ∷ behind) =
           is.settled ∙ ap (settled_in (place_at old)) was in
-          let fields = made.fields walk.0 (subst (λ n. IsLinked (λ q. (place_at new q).next) n walk.0) first_open walk.1)
+          let fields = made.fields walk.0
+          (subst (λ n. IsLinked (λ q. (place_at new q).next) n walk.0) first_open walk.1)
           (omega (arith, walk.4, new-few, places_is, room, size))
           (omega (arith, walk.2, settled, sum, written-new2, written_is, fits2)) in
           let ends_new = ends-with (place_at old) (place_at new) first number behind then ends first-same2
@@ -589,8 +614,13 @@ module _ (before : Search) (old : List Place) (order : List ℕ) (number : ℕ) 
             budget = ap (λ search. search.budget) fields;
             places = ap (λ search. search.places) fields ∙ places_is
                 ∙ sym (ap (λ b. before.places + cond b zero searched.left) reached);
-            state = state2 ∙ sym (ap (λ b. cond b 3 2) reached);
-            written = ap (λ p. p.written) writes_place.value;
+            place = writes_place.value
+                ∙ ap (λ n. record (place_at old number) { written = searched.written; next = n; state = 2 }) start-is
+                ∙ sym (ap (λ b. record (place_at old number) {
+                  written = searched.written;
+                  next = link_to (cond b [] then);
+                  state = cond b 3 2;
+                }) reached);
             first_same = first-same2;
             waits = λ _. fresh-waits;
             blank = λ _. all-both (λ q. ((place_at mid q).written ≡ 0) × ((place_at mid q).zero ≡ 0)) (λ q. q ≢ number)
@@ -607,4 +637,5 @@ module _ (before : Search) (old : List Place) (order : List ℕ) (number : ℕ) 
                 ∙ adds.beyond q above;
             behind_same = λ _. behind-same;
             dropped = λ not. absurd (cc (reached, not));
+            gone = λ q below states. same-below q below (not-number q states);
           }

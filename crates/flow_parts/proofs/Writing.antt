@@ -1,5 +1,6 @@
 -- Writes into the array of places.
-use Rattle.std.proofs.Common.{◌≡◌, ◌≢◌, ℕ, suc, ◌+◌, ◌-◌, ◌<◌, ◌≤◌, ◌^◌, inl, inr, List, [], ◌∷◌, ◌++◌, length, refl, ap, sym, ◌∙◌, subst, arith, sum_by, slice_set}
+use Rattle.std.proofs.Common.{◌≡◌, ◌≢◌, ℕ, suc, ◌+◌, ◌-◌, ◌<◌, ◌≤◌, ◌^◌, inl, inr, List, [], ◌∷◌, ◌++◌, length, refl}
+use Rattle.std.proofs.Common.{ap, sym, ◌∙◌, subst, arith, sum_by, slice_set}
 use Rattle.std.proofs.Common.{append_assoc, append-nil}
 use Rattle.std.specs.List.{AllByRecursion, range_with_len}
 use Rattle.std.proofs.lemmas.Bool.{cases_eq}
@@ -72,10 +73,10 @@ dropped-more : (at at' at'' : ℕ → Place) (gone : List ℕ) (here : ℕ) → 
     AllByRecursion (λ q. q ≢ here) gone → at' here ≡ at here →
     IsWritten at' at'' here (record (at' here) { state = 4 }) → AreDropped at at'' (gone ++ here ∷ [])
 dropped-more at at' at'' gone here are apart same written = record {
-  dropped = all-append (λ q. (at'' q).state ≡ 4) gone (here ∷ [])
-      (all-both (λ q. (at' q).state ≡ 4) (λ q. q ≢ here) (λ q. (at'' q).state ≡ 4) gone
-      (λ q is not. ap (λ place. place.state) (written.others q not) ∙ is) are.dropped apart)
-      (ap (λ place. place.state) written.value, tt);
+  dropped = all-append (λ q. at'' q ≡ record (at q) { state = 4 }) gone (here ∷ [])
+      (all-both (λ q. at' q ≡ record (at q) { state = 4 }) (λ q. q ≢ here)
+      (λ q. at'' q ≡ record (at q) { state = 4 }) gone (λ q is not. written.others q not ∙ is) are.dropped apart)
+      (written.value ∙ ap {A = Place} {B = Place} (λ place. record place { state = 4 }) same, tt);
   others = λ q not.
       written.others q (λ is. (all-rest (λ r. r ≢ q) gone (here ∷ []) not).0 (sym is))
       ∙ are.others q (all-first (λ r. r ≢ q) gone (here ∷ []) not);
@@ -97,7 +98,8 @@ pub dropping-more : (at at' at'' : ℕ → Place) (size step link start : ℕ) (
     after.written ≡ dropped.written + counted_in (at' (link - 1))) →
     next ≡ (at' (link - 1)).next →
     Dropping at at'' size (step + 1) next after rest
-dropping-more at at' at'' size step link start dropped after rest next walk whole some written fits fits2 opened counted is =
+dropping-more at at' at'' size step link start dropped after rest next walk whole some written fits fits2 opened
+    counted is =
     let first = linked-some (λ number. (at number).next) link walk.more walk.linked some in
     let here : ℕ = link - 1 in
     let are : rest ≡ walk.gone ++ here ∷ first.0 = walk.are ∙ ap (λ xs. walk.gone ++ xs) first.1 in
@@ -145,7 +147,8 @@ module _ (at at' at'' : ℕ → Place) (here m k next_link : ℕ) (place : Place
       AllByRecursion (λ number. number < here) behind → IsLinked (λ number. (at number).next) next_link behind →
       IsLinked (λ number. (at'' number).next) (here + 1) (range_with_len here (suc k) ++ behind)
   added-linked starts behind within linked =
-      let old = are.next behind (all-weaker (λ q. q < here) (λ q. q < m) behind (λ q less. omega (arith, less, is)) within)
+      let old = are.next behind
+      (all-weaker (λ q. q < here) (λ q. q < m) behind (λ q less. omega (arith, less, is)) within)
       linked in
       let apart = all-append (λ q. q ≢ here) (range_with_len m k) behind above
       (all-weaker (λ q. q < here) (λ q. q ≢ here) behind (λ q less same. omega (arith, less, same)) within) in
@@ -216,7 +219,8 @@ pub adding-more : (at at' at'' : ℕ → Place) (first count index from here nex
     Adding at at' first count from next_link next → from ≡ index + 1 → here ≡ first + index → after ≡ here + 1 →
     IsWritten at' at'' here place → place.state ≡ 0 → place.next ≡ next → place.written ≡ 0 → place.zero ≡ 0 →
     Adding at at'' first count index next_link after
-adding-more at at' at'' first count index from here next_link next after place walk more is then written waits nexts none zeros =
+adding-more at at' at'' first count index from here next_link next after place walk more is then written waits nexts
+    none zeros =
     record {
       m = here;
       k = suc walk.k;

@@ -31,6 +31,11 @@ abbrev pub IsLinked : (ℕ → ℕ) → ℕ → List ℕ → Type 0
 IsLinked link start [] = start ≡ 0
 IsLinked link start (number ∷ more) = (start ≡ number + 1) × IsLinked link (link number) more
 
+-- one more than the first of these places; 0 where there is none
+abbrev pub link_to : List ℕ → ℕ
+link_to [] = 0
+link_to (number ∷ more) = number + 1
+
 -- how many directions were written before the first open place
 abbrev pub settled_in : (ℕ → Place) → List ℕ → ℕ
 settled_in at [] = 0

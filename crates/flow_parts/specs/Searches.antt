@@ -10,7 +10,7 @@ use Rattle.flow_parts.specs.declared.answer.Put.TheVariants.{Taken, Late, NoRoom
 use Rattle.flow_parts.specs.declared.answer.Decided.{Decided}
 use Rattle.flow_parts.specs.declared.answer.Decided.TheVariants.{Proved, Below, Over}
 use Rattle.flow_parts.specs.Orders.{place_at, open_in, counted_in, settled_in, first_open_in, reached_in}
-use Rattle.flow_parts.specs.Orders.{IsOneOf, IsLinked, EndsWhereReached}
+use Rattle.flow_parts.specs.Orders.{IsOneOf, IsLinked, EndsWhereReached, link_to}
 
 -- These places, one behind the other from place 0 on, are the order of a search. They are the places that are used and
 -- were not dropped; nothing stands behind a place at which a sequence was reached; and the numbers of the search are
@@ -64,8 +64,9 @@ put_of search places number searched =
     TooMany)
     Late
 
--- a search in which a place of the order was searched: the order is as it was before that place, and what stands behind
--- it is as `behind_searched` says; the new places wait; what is not in the order any more was dropped
+-- A search in which a place of the order was searched. The order is as it was before that place, and what stands behind
+-- it is as `behind_searched` says. The place has its directions, and links to what stands behind it; the new places
+-- wait; what is not in the order any more was dropped. All else is as it was.
 pub record IsPut (before after : Search) (old new : List Place) (order : List ℕ) (number : ℕ) (searched : Searched) :
     Type 0 where
   pub first : List ℕ
@@ -74,8 +75,11 @@ pub record IsPut (before after : Search) (old new : List Place) (order : List �
   pub is : IsSearch after new (first ++ number ∷ behind_searched searched before.places behind)
   pub budget : after.budget ≡ before.budget
   pub places : after.places ≡ before.places + cond searched.reached 0 searched.left
-  pub state : (place_at new number).state ≡ cond searched.reached 3 2
-  pub written : (place_at new number).written ≡ searched.written
+  pub place : place_at new number ≡ record (place_at old number) {
+    written = searched.written;
+    next = link_to (behind_searched searched before.places behind);
+    state = cond searched.reached 3 2;
+  }
   pub first_same : AllByRecursion (λ other. place_at new other ≡ place_at old other) first
   pub waits : searched.reached ≡ false →
       AllByRecursion (λ other. (place_at new other).state ≡ 0) (range_with_len before.places searched.left)
@@ -85,7 +89,10 @@ pub record IsPut (before after : Search) (old new : List Place) (order : List �
   pub unused : (other : ℕ) → after.places ≤ other → place_at new other ≡ place_at old other
   pub behind_same : searched.reached ≡ false →
       AllByRecursion (λ other. place_at new other ≡ place_at old other) behind
-  pub dropped : searched.reached ≡ true → AllByRecursion (λ other. (place_at new other).state ≡ 4) behind
+  pub dropped : searched.reached ≡ true →
+      AllByRecursion (λ other. place_at new other ≡ record (place_at old other) { state = 4 }) behind
+  pub gone : (other : ℕ) → other < before.places → 4 ≤ (place_at old other).state →
+      place_at new other ≡ place_at old other
 
 -- what a search came to
 abbrev pub decided_of : Search → Option Decided

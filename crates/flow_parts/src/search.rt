@@ -35,7 +35,8 @@ impl Search {
     pub fn new(budget: u64, places: &mut [Place]) -> Option<Search>
         ensures none { IsNone result ↔ (length places.old ≡ 0) }
         ensures begun { IfSome result (λ search. IsSearch search places.new (0 ∷ [])) }
-        ensures waits { IfSome result (λ search. (place_at places.new 0).state ≡ 0) }
+        ensures waits { IfSome result (λ search. place_at places.new 0
+            ≡ record { written = 0; next = 0; state = 0; zero = 0 }) }
         ensures budget { IfSome result (λ search. search.budget ≡ budget) }
         ensures places { IfSome result (λ search. search.places ≡ 1) }
         ensures unused { (number : ℕ) → 1 ≤ number → place_at places.new number ≡ place_at places.old number }

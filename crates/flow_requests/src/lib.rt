@@ -40,15 +40,32 @@ pub struct CertifyRequest {
     pub directions: u32,
     /// The number of workers.
     pub workers: u32,
+    /// How the proof is written.
+    pub proof: ProofForm,
 }
 
-/// What is printed of a lawful text, and which bounds suffice.
+/// How a proof by directions is written.
+#[derive(Clone, Copy, Debug, PartialEq)]
+pub enum ProofForm {
+    /// As signs where there are few directions, and else as their number.
+    ByLength,
+    /// As signs, one for each direction: a two-ended certificate.
+    Signs,
+    /// As the number of the directions: a counted certificate.
+    Count,
+}
+
+/// How a certificate is checked, what is printed of a lawful one, and which bounds suffice.
 #[derive(Clone, Copy, Debug, PartialEq)]
 pub struct CheckRequest {
     /// What is printed of a lawful text.
     pub output: CheckOutput,
     /// Whether a text is refused whose bounds are not one number.
     pub optimal: bool,
+    /// The most nodes that a counted certificate may state.
+    pub most: u64,
+    /// The number of workers that count.
+    pub workers: u32,
 }
 
 /// What is printed of a lawful text.
@@ -90,7 +107,7 @@ pub enum Request {
         /// After how many seconds it ends, where its time is limited.
         seconds: Option<u32>,
     },
-    /// A two-ended certificate of the least makespan, or of bounds of it.
+    /// A two-ended or a counted certificate of the least makespan, or of bounds of it.
     Certify {
         /// How the block is certified.
         request: CertifyRequest,
@@ -99,8 +116,15 @@ pub enum Request {
         /// After how many seconds it ends, where its time is limited.
         seconds: Option<u32>,
     },
-    /// What a certificate, two-ended or not, proves, or its sequence.
-    Check(CheckRequest),
+    /// What a certificate of any kind proves, or its sequence.
+    Check {
+        /// How it is checked, and what is printed.
+        request: CheckRequest,
+        /// Whether it is told how far the count is.
+        progress: bool,
+    },
+    /// The two-ended certificate of a counted one.
+    Signs,
     /// The times of a sequence, as a table or a picture.
     Schedule(ScheduleForm),
 }
@@ -112,7 +136,7 @@ pub enum SecondFile<F> {
     Absent,
     /// A start.
     Start(F),
-    /// A certificate, two-ended or not.
+    /// A certificate of any kind.
     Certificate(F),
     /// A certificate, where it begins as one, and else a start.
     StartOrCertificate(F),

@@ -3,7 +3,7 @@
 //! - `dispatch.rt`: what is done for the words of a command line, on which files.
 //! - `words.rt`: how the words are read.
 //! - `inputs.rt`: the inputs that a command line names.
-//! - `progress.rt`: the lines that `certify --progress` writes.
+//! - `progress.rt`: the lines that `--progress` writes.
 //! - `lines.rt`: lines that a thread of their own writes to standard error.
 //! - `refusal.rt`: why the program stopped.
 //! - `status.rt`: the exit status.

@@ -1,4 +1,4 @@
-//! The watch of a run: the lines that `certify --progress` writes to standard error, and when its time is over.
+//! The watch of a run: the lines that `--progress` writes to standard error, and when its time is over.
 
 use crate::lines::Lines;
 use crate::refusal::Stop;
@@ -19,8 +19,8 @@ const SILENCE: u64 = 5_000;
 /// A line for standard error.
 #[derive(Drop)]
 pub(crate) enum Line {
-    /// How far a run is.
-    Progress {
+    /// How far `certify` is.
+    Certify {
         /// How long ago it began.
         seconds: u64,
         /// The step that it is at.
@@ -30,14 +30,21 @@ pub(crate) enum Line {
         /// How many directions it wrote.
         directions: u64,
     },
-    /// Why it stopped.
+    /// How far `check` is.
+    Check {
+        /// How long ago it began.
+        seconds: u64,
+        /// How many nodes it counted.
+        nodes: u64,
+    },
+    /// Why the program stopped.
     Refusal(Stop),
 }
 
 impl Display for Line {
     fn fmt<W: fmt::Write>(&self, f: &mut Formatter<W>) -> fmt::Result {
         match self {
-            Line::Progress {
+            Line::Certify {
                 seconds,
                 step,
                 bounds: (lower, upper),
@@ -46,6 +53,7 @@ impl Display for Line {
                 f,
                 "certify: {seconds} s, step {step}, bounds {lower} {upper}, {directions} directions"
             ),
+            Line::Check { seconds, nodes } => write!(f, "check: {seconds} s, {nodes} nodes"),
             Line::Refusal(stop) => write!(f, "{stop}"),
         }
     }
@@ -72,7 +80,8 @@ pub(crate) struct Progress<'a, R> {
     begun: Cell<Option<u64>>,
     /// When the last line was written.
     written: Cell<u64>,
-    step: Cell<u32>,
+    /// The step that it is at. A check has none.
+    step: Cell<Option<u32>>,
     bounds: Cell<(u64, u64)>,
     /// The directions of the searches that are over.
     before: Cell<u64>,
@@ -95,7 +104,7 @@ impl<'a, R: Wait + Eprint + Clock> Progress<'a, R> {
             lines: Cell::new(None),
             begun: Cell::new(None),
             written: Cell::new(0),
-            step: Cell::new(0),
+            step: Cell::new(None),
             bounds: Cell::new((0, 0)),
             before: Cell::new(0),
             directions: Cell::new(0),
@@ -131,12 +140,24 @@ impl<'a, R: Wait + Eprint + Clock> Progress<'a, R> {
             return;
         }
         self.written.set(now);
-        self.hand_on(Line::Progress {
-            seconds: now.saturating_sub(begun) / 1_000,
-            step: self.step.get(),
-            bounds: self.bounds.get(),
-            directions: self.before.get().saturating_add(self.directions.get()),
-        });
+        self.hand_on(self.line(now.saturating_sub(begun) / 1_000));
+    }
+
+    /// The line of a run that began so many seconds ago.
+    fn line(&self, seconds: u64) -> Line {
+        let directions = self.before.get().saturating_add(self.directions.get());
+        match self.step.get() {
+            Some(step) => Line::Certify {
+                seconds,
+                step,
+                bounds: self.bounds.get(),
+                directions,
+            },
+            None => Line::Check {
+                seconds,
+                nodes: directions,
+            },
+        }
     }
 
     /// Whether nothing is to be said so long after the beginning: no run that was not asked says anything in its first
@@ -187,7 +208,7 @@ impl<'a, R: Wait + Eprint + Clock> Watch for Progress<'a, R> {
         match news {
             // Once the time is over the run only passes through the steps that are left.
             News::Step(_) if self.is_over() => {}
-            News::Step(step) => self.step.set(step),
+            News::Step(step) => self.step.set(Some(step)),
             News::Bounds { lower, upper } => {
                 let before = self.before.get().saturating_add(self.directions.get());
                 self.before.set(before);

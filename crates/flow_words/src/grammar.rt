@@ -6,7 +6,7 @@ use std::alloc::{AllocError, Global};
 /// The version of the program, those of the texts that it writes and reads, and the kit of the release. The first is
 /// that of the file VERSION at the top of the repository; `build` refuses another, and a release by another kit.
 const VERSION: &str =
-    "2.0.0, certificates of versions 1 and 2, two-ended certificates of version 1; \
+    "2.0.0, certificates of versions 1 and 2, two-ended and counted certificates of version 1; \
 its release is proved and built with rattle-kit-13f logic dac8208d650f15bf";
 
 /// A word of a command: its name, how it is read, and what the help says of it.
@@ -33,8 +33,13 @@ enum Kind {
     Limit {
         value: &'static str,
     },
-    /// The name of a file after a long name, which may be left out.
-    File {
+    /// A number of up to 64 bits after a long name; left out, it is the default.
+    Long {
+        value: &'static str,
+        default: &'static str,
+    },
+    /// The name of a file or of a form after a long name, which may be left out.
+    Name {
         value: &'static str,
     },
     /// The name of a form after a long name; left out, it is the default.
@@ -60,7 +65,7 @@ const INDEX: Word = Word {
 
 const START: Word = Word {
     name: "start",
-    kind: Kind::File { value: "SEQUENCE" },
+    kind: Kind::Name { value: "SEQUENCE" },
     help: "A file with a starting sequence, in the form that neh prints; left out, it is that of neh",
 };
 
@@ -115,9 +120,15 @@ const TIME_LIMIT: Word = Word {
     help: "Ends after so many seconds, 0 to 4294967295, with the best that is known",
 };
 
+const PROGRESS: Word = Word {
+    name: "progress",
+    kind: Kind::Flag,
+    help: "Writes lines to standard error that say how far the run is",
+};
+
 static NEH: [Word; 2] = [FILE, INDEX];
 
-static CERTIFY: [Word; 11] = [
+static CERTIFY: [Word; 12] = [
     FILE,
     INDEX,
     TIME_LIMIT,
@@ -133,12 +144,14 @@ static CERTIFY: [Word; 11] = [
         },
         help: "How many directions a proof has at most, 1 to 1000000000; fewer where the shop is large",
     },
-    WORKERS,
     Word {
-        name: "progress",
-        kind: Kind::Flag,
-        help: "Writes lines to standard error that say how far the run is",
+        name: "proof",
+        kind: Kind::Name { value: "FORM" },
+        help: "signs for a two-ended certificate, which has a sign for each direction, count for a counted one, which \
+has their number; left out, signs where there are at most 10000000",
     },
+    WORKERS,
+    PROGRESS,
     START,
 ];
 
@@ -203,13 +216,13 @@ static SOLVE: [Word; 7] = [
     START,
 ];
 
-static CHECK: [Word; 6] = [
+static CHECK: [Word; 9] = [
     FILE,
     INDEX,
     Word {
         name: "CERT",
         kind: Kind::Word,
-        help: "The file of the certificate, two-ended or not; /dev/stdin for standard input",
+        help: "The file of the certificate, of any kind; /dev/stdin for standard input",
     },
     Word {
         name: "sequence",
@@ -226,6 +239,33 @@ the SHA-256 of FILE and CERT",
         name: "optimal",
         kind: Kind::Flag,
         help: "Refuses a text that does not prove a least makespan: one whose bounds differ",
+    },
+    Word {
+        name: "most",
+        kind: Kind::Long {
+            value: "N",
+            default: "10000000000",
+        },
+        help: "The most nodes that a counted certificate may state, 0 to 18446744073709551615; the check opens so many",
+    },
+    Word {
+        name: "workers",
+        kind: Kind::Option {
+            value: "K",
+            default: "1",
+        },
+        help: "How many workers count the nodes of a counted certificate, 1 to 64",
+    },
+    PROGRESS,
+];
+
+static SIGNS: [Word; 3] = [
+    FILE,
+    INDEX,
+    Word {
+        name: "CERT",
+        kind: Kind::Word,
+        help: "The file of the counted certificate; /dev/stdin for standard input",
     },
 ];
 
@@ -257,12 +297,12 @@ struct CommandWords {
 }
 
 /// All commands, in the order of the help.
-fn commands() -> [CommandWords; 8] {
+fn commands() -> [CommandWords; 9] {
     [
         CommandWords {
             name: "certify",
-            about: "Writes a two-ended certificate: a sequence, and bounds of the least makespan, which are one number \
-where that is proved",
+            about: "Writes a certificate: a sequence, and bounds of the least makespan, which are one number where that \
+is proved",
             example: "Example: ./flowshop certify examples/three_machines.txt 1 >certificate",
             words: &CERTIFY,
         },
@@ -298,9 +338,15 @@ where that is proved",
         },
         CommandWords {
             name: "check",
-            about: "Checks a certificate, two-ended or not, and prints what it proves",
+            about: "Checks a certificate of any kind, and prints what it proves",
             example: "Example: ./flowshop check examples/three_machines.txt 1 certificate --optimal",
             words: &CHECK,
+        },
+        CommandWords {
+            name: "signs",
+            about: "Writes the two-ended certificate of a counted one",
+            example: "Example: ./flowshop signs examples/three_machines.txt 1 counted",
+            words: &SIGNS,
         },
         CommandWords {
             name: "schedule",
@@ -358,7 +404,12 @@ fn argument_of<'a>(alloc: Global, word: &Word) -> Arg<'a> {
             .long(word.name)
             .value_name(value)
             .value_parser(value_parser!(u32)),
-        Kind::File { value } => argument
+        Kind::Long { value, default } => argument
+            .long(word.name)
+            .value_name(value)
+            .default_value(default)
+            .value_parser(value_parser!(u64)),
+        Kind::Name { value } => argument
             .long(word.name)
             .value_name(value)
             .action(ArgAction::Set),

@@ -2,8 +2,8 @@
 
 use clap::ArgMatches;
 use flow_requests::{
-    CertifyRequest, CheckOutput, CheckRequest, ImproveRequest, Invocation, Request, ScheduleForm,
-    SecondFile, SolveRequest,
+    CertifyRequest, CheckOutput, CheckRequest, ImproveRequest, Invocation, ProofForm, Request,
+    ScheduleForm, SecondFile, SolveRequest,
 };
 use std::alloc::{AllocError, Global};
 
@@ -32,6 +32,9 @@ pub fn invocation_of<'a>(
     }
     if let Some(given) = matches.subcommand_matches("check") {
         return Ok(check_of(given));
+    }
+    if let Some(given) = matches.subcommand_matches("signs") {
+        return Ok(signs_of(given));
     }
     if let Some(given) = matches.subcommand_matches("schedule") {
         return Ok(schedule_of(given));
@@ -102,19 +105,44 @@ fn certify_of(given: &ArgMatches) -> Option<Request> {
             improve: improvement_of(given)?,
             directions: given.get_one::<u32>("directions")?,
             workers: given.get_one::<u32>("workers")?,
+            proof: proof_of(given)?,
         },
         progress: given.get_flag("progress"),
         seconds: given.get_one::<u32>("time-limit"),
     })
 }
 
+/// The form of a proof; none where no form has the name.
+fn proof_of(given: &ArgMatches) -> Option<ProofForm> {
+    let Some(name) = given.get_str("proof") else {
+        return Some(ProofForm::ByLength);
+    };
+    match name {
+        "signs" => Some(ProofForm::Signs),
+        "count" => Some(ProofForm::Count),
+        _ => None,
+    }
+}
+
+/// The name of a certificate.
+fn certificate_of<'a>(given: &ArgMatches<'a>) -> Option<SecondFile<&'a str>> {
+    Some(SecondFile::Certificate(given.get_str("CERT")?))
+}
+
 fn check_of<'a>(given: &ArgMatches<'a>) -> Option<Invocation<'a>> {
     let request = CheckRequest {
         output: output_of(given)?,
         optimal: given.get_flag("optimal"),
+        most: given.get_one::<u64>("most")?,
+        workers: given.get_one::<u32>("workers")?,
     };
-    let certificate = SecondFile::Certificate(given.get_str("CERT")?);
-    of_block(given, certificate, Some(Request::Check(request)))
+    let progress = given.get_flag("progress");
+    let check = Request::Check { request, progress };
+    of_block(given, certificate_of(given)?, Some(check))
+}
+
+fn signs_of<'a>(given: &ArgMatches<'a>) -> Option<Invocation<'a>> {
+    of_block(given, certificate_of(given)?, Some(Request::Signs))
 }
 
 /// What the words of `check` ask to print; none where they ask for two things.

@@ -1,4 +1,4 @@
-pub mod Behind
 pub mod PieceSteps
-pub mod Results
+pub mod KeptSteps
+pub mod ReplySteps
 pub mod FoundByPieces

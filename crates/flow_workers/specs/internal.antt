@@ -1,4 +1,5 @@
 pub mod Pieces
+pub mod Steps
 pub mod Replies
 pub mod Taken
 pub mod Found

@@ -2,9 +2,11 @@
 
 ghost use Rattle.std.specs.Prelude.{◌≡◌, IfOk};
 ghost use Rattle.flow_shop.specs.Directions.{first_with, last_with};
-ghost use Rattle.flow_workers.specs.internal.Pieces.{behind, all_met, piece_met, pieces_met};
+ghost use Rattle.flow_parts.specs.Meanings.{behind};
+ghost use Rattle.flow_workers.specs.internal.Pieces.{all_met, piece_met, pieces_met, reading_of};
 ghost use Rattle.flow_workers.specs.internal.Taken.{IsNodeOf, taken_met};
 
+use crate::kept::Kept;
 use crate::pace::Pace;
 use crate::piece::{Dealt, Piece};
 use flow_directions::Part;
@@ -30,10 +32,13 @@ fn child(alloc: Global, first: &[u16], last: &[u16], end: End, job: u16) -> Resu
 }
 
 /// Takes the first piece off. Where it is children of a node, takes the first of them, and leaves the others.
-fn take_first(alloc: Global, pieces: &mut VecDeque<Piece>) -> Result<Option<Piece>, AllocError>
-    ensures { (shop : _) (threshold : _) → IfOk result (λ taken.
-        behind (taken_met shop threshold taken) (pieces_met shop threshold pieces.new.items)
-        ≡ pieces_met shop threshold pieces.old.items) }
+fn take_first<K: Kept>(
+    alloc: Global,
+    pieces: &mut VecDeque<Piece<K>>,
+) -> Result<Option<Piece<K>>, AllocError>
+    ensures { (sought : _) → IfOk result (λ taken. behind (taken_met (reading_of K.text K.mark sought) taken)
+        (pieces_met (reading_of K.text K.mark sought) pieces.new.items)
+        ≡ pieces_met (reading_of K.text K.mark sought) pieces.old.items) }
 {
     let Some(piece) = pieces.pop_front() else {
         return Ok(None);
@@ -50,7 +55,7 @@ fn take_first(alloc: Global, pieces: &mut VecDeque<Piece>) -> Result<Option<Piec
         return Ok(Some(piece));
     };
     if jobs.is_empty() {
-        return Ok(Some(Piece::Done(Vec::new(alloc))));
+        return Ok(Some(Piece::Done(K::none(alloc))));
     }
     let mut jobs = jobs;
     let job = jobs.remove(0);
@@ -66,14 +71,14 @@ fn take_first(alloc: Global, pieces: &mut VecDeque<Piece>) -> Result<Option<Piec
 
 /// Takes the first pieces off, until they have as many nodes as the pace allows, or those that are done as many
 /// directions as the round: directions behind a node may have been found in vain.
-pub(crate) fn deal(
+pub(crate) fn deal<K: Kept>(
     alloc: Global,
-    pieces: &mut VecDeque<Piece>,
+    pieces: &mut VecDeque<Piece<K>>,
     pace: &Pace,
-) -> Result<Vec<Dealt>, AllocError>
-    ensures { (shop : _) (threshold : _) → IfOk result (λ dealt.
-        behind (all_met shop threshold dealt.items) (pieces_met shop threshold pieces.new.items)
-        ≡ pieces_met shop threshold pieces.old.items) }
+) -> Result<Vec<Dealt<K>>, AllocError>
+    ensures { (sought : _) → IfOk result (λ dealt. behind (all_met (reading_of K.text K.mark sought) dealt.items)
+        (pieces_met (reading_of K.text K.mark sought) pieces.new.items)
+        ≡ pieces_met (reading_of K.text K.mark sought) pieces.old.items) }
 {
     let mut dealt = Vec::new(alloc);
     let mut nodes: usize = 0;
@@ -86,7 +91,7 @@ pub(crate) fn deal(
             break;
         };
         match &piece {
-            Piece::Done(directions) => known = known.saturating_add(directions.len() as u64),
+            Piece::Done(directions) => known = known.saturating_add(directions.count()),
             _ => nodes = nodes.saturating_add(1),
         }
         dealt.push(Dealt::Open(piece))?;
@@ -95,9 +100,9 @@ pub(crate) fn deal(
 }
 
 /// Puts a piece before others. Those behind a sequence that is reached are let go.
-fn put_first(pieces: &mut VecDeque<Piece>, piece: Piece) -> Result<(), AllocError>
-    ensures { (shop : _) (threshold : _) → IfOk result (λ _. pieces_met shop threshold pieces.new.items
-        ≡ behind (piece_met shop threshold piece) (pieces_met shop threshold pieces.old.items)) }
+fn put_first<K: Kept>(pieces: &mut VecDeque<Piece<K>>, piece: Piece<K>) -> Result<(), AllocError>
+    ensures { (reading : _) → IfOk result (λ _. pieces_met reading pieces.new.items
+        ≡ behind (piece_met reading piece) (pieces_met reading pieces.old.items)) }
 {
     if let Piece::Reached { .. } = &piece {
         pieces.clear();
@@ -107,9 +112,12 @@ fn put_first(pieces: &mut VecDeque<Piece>, piece: Piece) -> Result<(), AllocErro
 }
 
 /// Puts some pieces before others.
-fn put_run(pieces: &mut VecDeque<Piece>, run: VecDeque<Piece>) -> Result<(), AllocError>
-    ensures { (shop : _) (threshold : _) → IfOk result (λ _. pieces_met shop threshold pieces.new.items
-        ≡ behind (pieces_met shop threshold run.items) (pieces_met shop threshold pieces.old.items)) }
+fn put_run<K: Kept>(
+    pieces: &mut VecDeque<Piece<K>>,
+    run: VecDeque<Piece<K>>,
+) -> Result<(), AllocError>
+    ensures { (reading : _) → IfOk result (λ _. pieces_met reading pieces.new.items
+        ≡ behind (pieces_met reading run.items) (pieces_met reading pieces.old.items)) }
 {
     let mut run = run;
     'pieces: while let Some(piece) = run.pop_back() {
@@ -119,9 +127,12 @@ fn put_run(pieces: &mut VecDeque<Piece>, run: VecDeque<Piece>) -> Result<(), All
 }
 
 /// Puts what was dealt before the pieces that were not.
-pub(crate) fn put_back(pieces: &mut VecDeque<Piece>, dealt: Vec<Dealt>) -> Result<(), AllocError>
-    ensures { (shop : _) (threshold : _) → IfOk result (λ _. pieces_met shop threshold pieces.new.items
-        ≡ behind (all_met shop threshold dealt.items) (pieces_met shop threshold pieces.old.items)) }
+pub(crate) fn put_back<K: Kept>(
+    pieces: &mut VecDeque<Piece<K>>,
+    dealt: Vec<Dealt<K>>,
+) -> Result<(), AllocError>
+    ensures { (reading : _) → IfOk result (λ _. pieces_met reading pieces.new.items
+        ≡ behind (all_met reading dealt.items) (pieces_met reading pieces.old.items)) }
 {
     let mut dealt = dealt;
     'dealt: while let Some(last) = dealt.pop() {

@@ -7,9 +7,11 @@
 //! - `deal.rt`: which pieces are dealt in a round.
 //! - `pace.rt`: how much is searched in a round.
 //! - `node.rt`: the search of one node.
+//! - `kept.rt`: what is kept of directions: their signs, or how many they are.
 #![tactic(auto)]
 
 mod deal;
+mod kept;
 mod node;
 mod pace;
 mod piece;
@@ -19,4 +21,4 @@ mod workers;
 
 pub use flow_directions::News;
 pub use watch::{Unwatched, Watch};
-pub use workers::{Workers, prove_by};
+pub use workers::{Workers, count_by, prove_by};

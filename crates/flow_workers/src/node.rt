@@ -1,12 +1,11 @@
 //! The search of one node.
 
-ghost use Rattle.std.specs.Prelude.{◌≡◌, ◌≤◌, ◌⊎◌, true, ◌∷◌, All, length, map, IfOk};
-ghost use Rattle.flow_directions.specs.Search.{visits};
-ghost use Rattle.flow_workers.specs.internal.Pieces.{IsSearched, has_reached, met, pieces_met, written};
+ghost use Rattle.std.specs.Prelude.{◌≡◌, map, IfOk};
+ghost use Rattle.flow_workers.specs.internal.Steps.{pieces_of};
 ghost use Rattle.flow_workers.specs.declared.piece.Piece.TheVariants.{Left};
 
 use crate::piece::Piece;
-use flow_directions::{Advanced, Part, advance};
+use flow_directions::Part;
 use flow_shop::Instance;
 use std::alloc::{AllocError, Global};
 use std::collections::VecDeque;
@@ -21,17 +20,15 @@ pub(crate) struct Sought<'a> {
 
 /// What the search of a node came to.
 #[derive(Drop)]
-pub(crate) struct NodeSearch {
-    /// What stands for the node.
-    pub(crate) pieces: VecDeque<Piece>,
-    /// How many directions were written.
-    pub(crate) written: u64,
-    /// Whether a sequence below the threshold was reached.
-    pub(crate) reached: bool,
+pub(crate) struct Step<K> {
+    /// The node, as far as it was searched.
+    pub(crate) piece: Piece<K>,
+    /// The parts that are left behind it.
+    pub(crate) left: Vec<Part>,
 }
 
 /// Parts as pieces that are still to be searched.
-fn pieces_of(alloc: Global, parts: Vec<Part>) -> Result<VecDeque<Piece>, AllocError>
+fn left_pieces<K: Drop>(alloc: Global, parts: Vec<Part>) -> Result<VecDeque<Piece<K>>, AllocError>
     ensures { IfOk result (λ pieces. pieces.items ≡ map Left parts.items) }
 {
     let mut parts = parts;
@@ -42,66 +39,14 @@ fn pieces_of(alloc: Global, parts: Vec<Part>) -> Result<VecDeque<Piece>, AllocEr
     Ok(pieces)
 }
 
-/// A piece that was searched, with the parts that are left behind it.
-fn with_left(alloc: Global, piece: Piece, parts: Vec<Part>) -> Result<NodeSearch, AllocError>
-    ensures pieces { IfOk result (λ found. found.pieces.items ≡ piece ∷ map Left parts.items) }
-    ensures written { IfOk result (λ found. found.written ≡ written found.pieces.items) }
-    ensures reached { IfOk result (λ found. found.reached ≡ has_reached found.pieces.items) }
+/// The pieces that stand for a node.
+pub(crate) fn pieces_of<K: Drop>(
+    alloc: Global,
+    step: Step<K>,
+) -> Result<VecDeque<Piece<K>>, AllocError>
+    ensures { IfOk result (λ pieces. pieces.items ≡ pieces_of step) }
 {
-    let written = piece.written();
-    let reached = piece.has_reached();
-    let mut pieces = pieces_of(alloc, parts)?;
-    pieces.push_front(piece)?;
-    Ok(NodeSearch {
-        pieces,
-        written,
-        reached,
-    })
-}
-
-/// Searches the node of two lists, until as many directions are written as the budget, or nothing of the node is left
-/// to be searched. Where a sequence below the threshold is reached, no piece is kept behind it.
-pub(crate) fn search_node(
-    sought: &Sought,
-    first: &[u16],
-    last: &[u16],
-    budget: u64,
-) -> Result<NodeSearch, AllocError>
-    ensures met { IfOk result (λ found. pieces_met sought.now.instance.now sought.now.threshold found.pieces.items
-        ≡ met (visits sought.now.instance.now sought.now.threshold first.now last.now)) }
-    ensures written { IfOk result (λ found. found.written ≡ written found.pieces.items) }
-    ensures reached { IfOk result (λ found. found.reached ≡ has_reached found.pieces.items) }
-    ensures within { IfOk result (λ found. found.written ≤ budget) }
-    ensures goes_on { IfOk result (λ found. (found.written ≡ budget) ⊎ All IsSearched found.pieces.items) }
-    ensures alone { IfOk result (λ found. found.reached ≡ true → length found.pieces.items ≡ 1) }
-{
-    let none = Vec::new(sought.alloc);
-    match advance(
-        sought.alloc,
-        sought.instance,
-        first,
-        last,
-        sought.threshold,
-        budget,
-    ) {
-        Ok(Advanced::Proved(directions)) => with_left(sought.alloc, Piece::Done(directions), none),
-        Ok(
-            Advanced::Below {
-                sequence,
-                directions,
-                ..
-            },
-        ) => {
-            let piece = Piece::Reached {
-                sequence,
-                directions,
-            };
-            with_left(sought.alloc, piece, none)
-        }
-        Ok(Advanced::Rest { directions, parts }) => {
-            with_left(sought.alloc, Piece::Done(directions), parts)
-        }
-        // The lists of a part are those of a node, so a fault is that memory ran out.
-        Err(_) => Err(AllocError),
-    }
+    let mut pieces = left_pieces(alloc, step.left)?;
+    pieces.push_front(step.piece)?;
+    Ok(pieces)
 }

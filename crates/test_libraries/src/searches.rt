@@ -2,7 +2,7 @@
 
 use crate::drawn_searches::{SEARCHES, fields_of, names};
 use flow_core::{Instance, generate};
-use flow_directions::{Found, ProveFault, prove};
+use flow_directions::{Counted, Found, ProveFault, count, prove};
 use sha2::{Digest, Sha256};
 use std::test::Fail;
 
@@ -49,6 +49,14 @@ fn published_instances_have_their_directions(rt: HostRuntime) -> Result<(), Fail
             length.saturating_sub(1),
         )?;
         assert!(rt; over == Found::Over, "seed {seed}");
+        for (budget, wanted) in [
+            (*length, Counted::Proved(*length)),
+            (u64::MAX, Counted::Proved(*length)),
+            (length.saturating_sub(1), Counted::Over),
+        ] {
+            let counted = count(rt.alloc(), &instance, &[], &[], *number, budget)?;
+            assert_eq!(rt; counted, wanted, "seed {seed}, budget {budget}");
+        }
     }
     Ok(())
 }
@@ -62,9 +70,29 @@ fn is_written(found: &Found, text: &str) -> bool {
     }
 }
 
+/// Whether what was counted is what was found, with the number of the directions in their place.
+fn is_counted(counted: &Counted, found: &Found) -> bool {
+    match (counted, found) {
+        (Counted::Proved(count), Found::Proved(directions)) => *count == directions.len() as u64,
+        (
+            Counted::Below {
+                sequence,
+                makespan,
+                directions,
+            },
+            Found::Below {
+                sequence: jobs,
+                makespan: value,
+                directions: count,
+            },
+        ) => sequence.jobs() == jobs.jobs() && makespan == value && directions == count,
+        (counted, found) => *counted == Counted::Over && *found == Found::Over,
+    }
+}
+
 #[test]
 fn drawn_instances_have_their_directions(rt: HostRuntime) -> Result<(), Fail> {
-    let mut count = 0u32;
+    let mut rows = 0u32;
     for line in SEARCHES.lines() {
         let ([jobs, machines, seed, first], texts) = fields_of(line).ok_or("no fields")?;
         let instance = generate(rt.alloc(), jobs, machines, seed)?;
@@ -72,10 +100,12 @@ fn drawn_instances_have_their_directions(rt: HostRuntime) -> Result<(), Fail> {
             let number = u64::from(first).saturating_add(more as u64);
             let found = prove(rt.alloc(), &instance, &[], &[], number, 1_000)?;
             assert!(rt; is_written(&found, text), "{line}: {number}");
-            count = count.saturating_add(1);
+            let counted = count(rt.alloc(), &instance, &[], &[], number, 1_000)?;
+            assert!(rt; is_counted(&counted, &found), "{line}: {number}, counted");
+            rows = rows.saturating_add(1);
         }
     }
-    assert_eq!(rt; count, 501);
+    assert_eq!(rt; rows, 501);
     Ok(())
 }
 

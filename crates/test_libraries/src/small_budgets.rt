@@ -2,7 +2,7 @@
 
 use crate::drawn_searches::{SEARCHES, fields_of, names};
 use flow_core::{End, Instance, Sequence, generate};
-use flow_directions::{Advanced, Part, advance};
+use flow_directions::{Advanced, Part, Tallied, advance, tally};
 use std::alloc::Global;
 use std::test::Fail;
 
@@ -47,9 +47,43 @@ fn child(alloc: Global, first: &[u16], last: &[u16], end: End, job: u16) -> Opti
     Some(Part::Node { first, last })
 }
 
+/// Whether a search that counts came to what one came to that writes: as many directions, the same parts.
+fn is_tallied(tallied: &Tallied, advanced: &Advanced) -> bool {
+    match (tallied, advanced) {
+        (Tallied::Proved(count), Advanced::Proved(directions)) => *count == directions.len() as u64,
+        (
+            Tallied::Below {
+                sequence,
+                makespan,
+                directions,
+            },
+            Advanced::Below {
+                sequence: jobs,
+                makespan: value,
+                directions: text,
+            },
+        ) => {
+            sequence.jobs() == jobs.jobs() && makespan == value && *directions == text.len() as u64
+        }
+        (Tallied::Rest(left), Advanced::Rest { parts, .. }) => left == parts,
+        _ => false,
+    }
+}
+
 impl<'a> Search<'a> {
-    /// Searches a node.
+    /// Whether a search of a node that counts comes to what one comes to that writes.
+    fn counts_alike(&self, first: &[u16], last: &[u16]) -> Option<bool> {
+        let (alloc, instance, number) = (self.alloc, self.instance, self.number);
+        let advanced = advance(alloc, instance, first, last, number, self.budget).ok()?;
+        let tallied = tally(alloc, instance, first, last, number, self.budget).ok()?;
+        Some(is_tallied(&tallied, &advanced))
+    }
+
+    /// Searches a node, where its directions are counted alike.
     fn search(&mut self, first: &[u16], last: &[u16]) -> Option<Stand> {
+        if !self.counts_alike(first, last)? {
+            return None;
+        }
         match advance(
             self.alloc,
             self.instance,

@@ -6,11 +6,11 @@ ghost use Rattle.flow_requests.specs.SecondFile.{file_in};
 
 use crate::groups::{is_refusal, refused_where};
 use crate::schedules::{TABLE, is_picture};
-use flow_check::CheckFault;
+use flow_check::{CheckFault, MOST_NODES};
 use flow_commands::{
-    CertifyRequest, CheckOutput, CheckRequest, CommandFault, ImproveRequest, Means, Request,
-    ScheduleForm, SecondFile, SolveRequest, Unwatched, run_check, run_gen, run_neh, run_request,
-    run_solve, run_span,
+    CertifyRequest, CheckOutput, CheckRequest, CommandFault, ImproveRequest, Means, ProofForm,
+    Request, ScheduleForm, SecondFile, SolveRequest, Unwatched, run_check, run_gen, run_neh,
+    run_request, run_solve, run_span,
 };
 use flow_core::{MemorySink, MemorySource, StartFault};
 use flow_pool::{Open, SolveFault};
@@ -55,6 +55,9 @@ const BY_TWO_WORKERS: &[u8] = b"flowshop two-ended 1\n6 2\n25 25\n5 4 3 2 1 6\n\
 ++++++++++++++++++++++++++++++++++++++++++++++++++++++++++++++++++++++++++++++++++++++++++++++++++++\
 ++++++++++++++++++++++++++\nend\n";
 
+/// The counted certificate of the instance with three machines.
+const COUNTED_12: &[u8] = b"flowshop counted 1\n3 3\n12 12\n3 1 2\n2\nend\n";
+
 /// What is printed for a certificate whose sequence is asked for.
 const CHECKED_LINES: &[u8] = b"sequence 3 1 2\nmakespan 12\n";
 
@@ -87,6 +90,7 @@ const PROVED: CertifyRequest = CertifyRequest {
     improve: NO_ROUND,
     directions: 1_000,
     workers: 1,
+    proof: ProofForm::ByLength,
 };
 
 /// Bounds by fifty directions, with a little of a beam and a few rounds.
@@ -94,6 +98,7 @@ const BOUNDED: CertifyRequest = CertifyRequest {
     improve: SOME_ROUNDS,
     directions: 50,
     workers: 1,
+    proof: ProofForm::ByLength,
 };
 
 /// `solve` with two workers at depth 0.
@@ -108,6 +113,8 @@ const SOLVE: SolveRequest = SolveRequest {
 const CHECK: CheckRequest = CheckRequest {
     output: CheckOutput::Proved,
     optimal: false,
+    most: MOST_NODES,
+    workers: 1,
 };
 
 /// A call of a command, with what it is given beside its text.
@@ -143,7 +150,7 @@ pub(crate) struct Run {
 }
 
 /// How many runs there are.
-pub(crate) const RUN_COUNT: usize = 20;
+pub(crate) const RUN_COUNT: usize = 23;
 
 /// All runs.
 pub(crate) const RUNS: [Run; RUN_COUNT] = [
@@ -244,6 +251,22 @@ pub(crate) const RUNS: [Run; RUN_COUNT] = [
         wanted: Wanted::Text(BY_TWO_WORKERS),
     },
     Run {
+        name: "certify with a count",
+        text: THREE_MACHINES_TEXT,
+        call: Call::Request(
+            SecondFile::Start(START),
+            Request::Certify {
+                request: CertifyRequest {
+                    proof: ProofForm::Count,
+                    ..PROVED
+                },
+                progress: false,
+                seconds: None,
+            },
+        ),
+        wanted: Wanted::Text(COUNTED_12),
+    },
+    Run {
         name: "solve in version 2",
         text: THREE_MACHINES_TEXT,
         call: Call::Request(
@@ -275,29 +298,62 @@ pub(crate) const RUNS: [Run; RUN_COUNT] = [
         text: THREE_MACHINES_TEXT,
         call: Call::Request(
             SecondFile::Certificate(TWO_ENDED_12),
-            Request::Check(CheckRequest {
-                output: CheckOutput::Sequence,
-                ..CHECK
-            }),
+            Request::Check {
+                request: CheckRequest {
+                    output: CheckOutput::Sequence,
+                    ..CHECK
+                },
+                progress: false,
+            },
         ),
         wanted: Wanted::Text(CHECKED_LINES),
+    },
+    Run {
+        name: "check of a counted certificate by two workers",
+        text: THREE_MACHINES_TEXT,
+        call: Call::Request(
+            SecondFile::Certificate(COUNTED_12),
+            Request::Check {
+                request: CheckRequest {
+                    workers: 2,
+                    ..CHECK
+                },
+                progress: false,
+            },
+        ),
+        wanted: Wanted::Text(b"optimal 12\n"),
+    },
+    Run {
+        name: "signs of a counted certificate",
+        text: THREE_MACHINES_TEXT,
+        call: Call::Request(SecondFile::Certificate(COUNTED_12), Request::Signs),
+        wanted: Wanted::Text(TWO_ENDED_12),
     },
     Run {
         name: "check with a report",
         text: GENERATED_TEXT,
         call: Call::Request(
             SecondFile::Certificate(TWO_ENDED_OF_SEED),
-            Request::Check(CheckRequest {
-                output: CheckOutput::Report,
-                ..CHECK
-            }),
+            Request::Check {
+                request: CheckRequest {
+                    output: CheckOutput::Report,
+                    ..CHECK
+                },
+                progress: false,
+            },
         ),
         wanted: Wanted::Text(REPORT),
     },
     Run {
         name: "check of bounds",
         text: THREE_MACHINES_TEXT,
-        call: Call::Request(SecondFile::Certificate(TWO_ENDED_11), Request::Check(CHECK)),
+        call: Call::Request(
+            SecondFile::Certificate(TWO_ENDED_11),
+            Request::Check {
+                request: CHECK,
+                progress: false,
+            },
+        ),
         wanted: Wanted::Text(b"bounds 11 13\n"),
     },
     Run {
@@ -305,10 +361,13 @@ pub(crate) const RUNS: [Run; RUN_COUNT] = [
         text: THREE_MACHINES_TEXT,
         call: Call::Request(
             SecondFile::Certificate(TWO_ENDED_11),
-            Request::Check(CheckRequest {
-                optimal: true,
-                ..CHECK
-            }),
+            Request::Check {
+                request: CheckRequest {
+                    optimal: true,
+                    ..CHECK
+                },
+                progress: false,
+            },
         ),
         wanted: Wanted::Fault(CommandFault::Bounds {
             lower: 11,

@@ -4,6 +4,7 @@ ghost use Rattle.std.specs.Prelude.{◌≡◌, false};
 ghost use Rattle.std.specs.Option.{ForSome};
 ghost use Rattle.flow_requests.specs.SecondFile.{file_in};
 
+use flow_check::MOST_NODES;
 use flow_commands::{
     CheckOutput, CheckRequest, CommandFault, ImproveRequest, Means, Request, SecondFile, Unwatched,
     run_gen, run_neh, run_request,
@@ -207,10 +208,23 @@ fn improvement(numbers: [u32; 4]) -> ImproveRequest {
     }
 }
 
+/// What `check` is asked for where no option is given.
+const CHECK: CheckRequest = CheckRequest {
+    output: CheckOutput::Proved,
+    optimal: false,
+    most: MOST_NODES,
+    workers: 1,
+};
+
+/// The request of `check` with these choices.
+fn checked_with(request: CheckRequest) -> Request {
+    Request::Check {
+        request,
+        progress: false,
+    }
+}
+
 /// What is printed of a certificate, where its bounds may differ.
 fn checked(output: CheckOutput) -> Request {
-    Request::Check(CheckRequest {
-        output,
-        optimal: false,
-    })
+    checked_with(CheckRequest { output, ..CHECK })
 }

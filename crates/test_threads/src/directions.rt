@@ -1,9 +1,9 @@
 //! The search for directions on several threads.
 
-use flow_directions::{Found, Prover, prove};
+use flow_directions::{Counted, Counter, Found, Prover, count, prove};
 use flow_generator::generate;
 use flow_shop::Instance;
-use flow_workers::{News, Watch, Workers, prove_by};
+use flow_workers::{News, Watch, Workers, count_by, prove_by};
 use sha2::{Digest, Sha256};
 use std::alloc::Global;
 use std::cell::Cell;
@@ -124,6 +124,40 @@ fn is_published<R: Threads + Sync>(rt: &R, alloc: Global, row: &Published, worke
     begins && text.len() as u64 == length && below == Ok(Some(alone))
 }
 
+/// Whether so many workers count these directions, with a budget of as many and of any number, and below the next number
+/// what one thread counts, and tell a watch of all directions. With a budget of one less, or of none, they are over it.
+fn is_counted<R: Threads + Sync>(rt: &R, alloc: Global, row: &Published, workers: usize) -> bool {
+    let (jobs, machines, seed, number, length, _) = *row;
+    let Ok(instance) = generate(alloc, jobs, machines, seed) else {
+        return false;
+    };
+    let told = Told::nothing();
+    let workers = Workers {
+        rt,
+        count: workers,
+        watch: &told,
+    };
+    let counted = workers.count(alloc, &instance, number, length);
+    if counted != Ok(Counted::Proved(length)) || told.fell.get() || told.last.get() != length {
+        return false;
+    }
+    for (budget, wanted) in [
+        (u64::MAX, Counted::Proved(length)),
+        (length.saturating_sub(1), Counted::Over),
+        (0, Counted::Over),
+    ] {
+        if count_by(&workers, alloc, &instance, number, budget) != Ok(wanted) {
+            return false;
+        }
+    }
+    let next = number.saturating_add(1);
+    let below = count_by(&workers, alloc, &instance, next, length);
+    match count(alloc, &instance, &[], &[], next, length) {
+        Ok(alone) => below == Ok(alone),
+        Err(_) => false,
+    }
+}
+
 #[test]
 fn workers_find_the_published_directions(rt: HostRuntime) {
     for row in &PUBLISHED {
@@ -131,6 +165,11 @@ fn workers_find_the_published_directions(rt: HostRuntime) {
             assert!(rt;
                 is_published(&rt, rt.alloc(), row, *workers),
                 "seed {}, {workers} workers",
+                row.2
+            );
+            assert!(rt;
+                is_counted(&rt, rt.alloc(), row, *workers),
+                "seed {}, counted by {workers} workers",
                 row.2
             );
         }

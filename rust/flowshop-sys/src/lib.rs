@@ -148,20 +148,23 @@ statuses! {
     FLOWSHOP_HEADER = 60;
     /// Line 2 of a certificate is at fault.
     FLOWSHOP_SIZE = 61;
-    /// Line 3 of a certificate is at fault.
+    /// Line 3 of a certificate is at fault, or line 5 of a counted one.
     FLOWSHOP_VALUE = 62;
     /// Line 4 of a certificate is no sequence of the shop.
     FLOWSHOP_SEQUENCE = 63;
     /// The makespan of the sequence is not the value, or not the upper bound.
     FLOWSHOP_NOT_ATTAINED = 64;
-    /// A line is not one tree, or no directions that prove the bound; place: the line.
+    /// A line is not one tree, no directions that prove the bound, or not how many nodes the search opens; place: the
+    /// line.
     FLOWSHOP_TREE = 65;
     /// Of a certificate of version 1 or 2: a bound is below the value; place: the line.
     FLOWSHOP_WEAK = 66;
     /// A makespan is below the value, or below the lower bound; place: the line.
     FLOWSHOP_LOW = 67;
-    /// What follows the trees or the directions is not the last line alone.
+    /// What follows the trees, the directions or the count is not the last line alone.
     FLOWSHOP_END = 68;
+    /// A counted certificate states more nodes than the caller allows; it may be lawful.
+    FLOWSHOP_MOST = 69;
     /// A benchmark text has no line that is not blank.
     FLOWSHOP_NO_BLOCK = 70;
     /// A line of words is wanted; place, here and in the next five: the line.
@@ -187,6 +190,32 @@ statuses! {
 pub struct flowshop_outcome {
     pub status: u32,
     pub place: usize,
+}
+
+/// The limits.
+#[repr(C)]
+#[derive(Clone, Copy, Debug)]
+pub struct flowshop_limit_numbers {
+    pub max_jobs: u32,
+    pub max_machines: u32,
+    pub max_time: u32,
+    pub max_number: u32,
+    pub max_job: u32,
+    pub max_seed: u32,
+    pub max_width: u32,
+    pub max_rounds: u32,
+    pub max_work: u32,
+    pub max_directions: u32,
+    pub max_depth: u32,
+    pub max_prefixes: u32,
+    pub max_budget: u32,
+    pub min_version: u32,
+    pub max_version: u32,
+    pub max_workers: u32,
+    pub max_text: u32,
+    pub max_certificate: u32,
+    pub max_beside: u32,
+    pub max_nodes: u64,
 }
 
 /// A shop.
@@ -390,6 +419,8 @@ pub fn flowshop_root() -> flowshop_node {
 extern "C" {
     /// The version of the library as one number.
     pub fn flowshop_version() -> u32;
+    /// All limits.
+    pub fn flowshop_limits(limits: *mut flowshop_limit_numbers) -> flowshop_outcome;
     /// The shop of a seed, by Taillard's generator.
     pub fn flowshop_generate(
         jobs: u32,
@@ -450,6 +481,14 @@ extern "C" {
         shop: *const flowshop_shop,
         text: *const u8,
         text_count: usize,
+        bounds: *mut flowshop_bounds,
+    ) -> flowshop_outcome;
+    /// The same, where the caller says how many nodes a counted certificate may state.
+    pub fn flowshop_check_within(
+        shop: *const flowshop_shop,
+        text: *const u8,
+        text_count: usize,
+        most: u64,
         bounds: *mut flowshop_bounds,
     ) -> flowshop_outcome;
     /// The least makespan, a sequence that has it, and a certificate with trees.
@@ -553,6 +592,15 @@ extern "C" {
         lower: u64,
         directions: *const u8,
         directions_count: usize,
+        text: *mut flowshop_text,
+    ) -> flowshop_outcome;
+    /// The counted certificate of a sequence, a lower bound and how many directions there are.
+    pub fn flowshop_run_counted(
+        shop: *const flowshop_shop,
+        sequence: *const u16,
+        sequence_count: usize,
+        lower: u64,
+        count: u64,
         text: *mut flowshop_text,
     ) -> flowshop_outcome;
 }

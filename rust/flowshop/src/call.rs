@@ -296,11 +296,17 @@ fn bounded<R>(
     Ok((bounded, given))
 }
 
-pub(crate) fn check(shop: Numbers, text: &[u8]) -> Result<Bounded, Refused> {
-    let record = shop.record();
+/// What a text proves; one that states at most so many nodes, where a number is given.
+pub(crate) fn check(shop: Numbers, text: &[u8], most: Option<u64>) -> Result<Bounded, Refused> {
+    let (record, bytes, count) = (shop.record(), text.as_ptr(), text.len());
     let (found, ()) = bounded(shop.jobs, |bounds| {
         // SAFETY: each pointer goes with its count.
-        done(|| unsafe { sys::flowshop_check(&record, text.as_ptr(), text.len(), bounds) })
+        done(|| unsafe {
+            match most {
+                None => sys::flowshop_check(&record, bytes, count, bounds),
+                Some(most) => sys::flowshop_check_within(&record, bytes, count, most, bounds),
+            }
+        })
     })?;
     Ok(found)
 }

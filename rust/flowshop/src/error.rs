@@ -69,13 +69,14 @@ pub enum Error {
     Header,
     /// Line 2 of a certificate is not that of the shop.
     Size,
-    /// Line 3 of a certificate has not the value, or not both bounds.
+    /// Line 3 of a certificate has not the value, or not both bounds; or line 5 of a counted one has no count.
     Value,
     /// Line 4 of a certificate is no sequence of the shop.
     Sequence,
     /// The makespan of the sequence on line 4 is not the value, or not the upper bound, of line 3.
     NotAttained,
-    /// A line of a certificate is not one tree, or its directions do not prove the lower bound.
+    /// A line of a certificate is not one tree, its directions do not prove the lower bound, or its count is not
+    /// that of the search.
     Tree {
         /// The line.
         line: usize,
@@ -90,8 +91,10 @@ pub enum Error {
         /// The line.
         line: usize,
     },
-    /// What follows the trees or the directions of a certificate is not its last line alone.
+    /// What follows the trees, the directions or the count of a certificate is not its last line alone.
     End,
+    /// A counted certificate states more nodes than the check may open. It may be lawful.
+    Most,
     /// A benchmark text has no line that is not blank.
     NoBlock,
     /// A line of words is wanted in a benchmark text.
@@ -144,7 +147,7 @@ impl From<Refused> for Error {
         match status {
             20..=22 => of_list(status, place),
             14 | 31..=50 => of_options(status, place),
-            60..=68 => of_certificate(status, place),
+            60..=69 => of_certificate(status, place),
             70..=77 => of_text(status, place),
             sys::FLOWSHOP_MEMORY => Error::Memory,
             sys::FLOWSHOP_CPU => Error::Processor,
@@ -192,6 +195,7 @@ fn of_certificate(status: u32, place: usize) -> Error {
         sys::FLOWSHOP_WEAK => Error::Weak { line: place },
         sys::FLOWSHOP_LOW => Error::Low { line: place },
         sys::FLOWSHOP_END => Error::End,
+        sys::FLOWSHOP_MOST => Error::Most,
         _ => Error::Unknown { status, place },
     }
 }
@@ -243,13 +247,14 @@ impl Error {
             Error::OverBudget { .. } => "the tree is longer than the budget",
             Error::Header => "line 1 names no certificate",
             Error::Size => "line 2 is not that of the shop",
-            Error::Value => "line 3 has not the value, or not both bounds",
+            Error::Value => "line 3 has not the value, or not both bounds, or line 5 no count",
             Error::Sequence => "line 4 is no sequence of the shop",
             Error::NotAttained => "the sequence on line 4 has not the makespan of line 3",
             Error::Tree { .. } => "this is not one whole proof",
             Error::Weak { .. } => "a bound is below the value",
             Error::Low { .. } => "a makespan is below what is to be proved",
             Error::End => "what follows the proof is not the last line alone",
+            Error::Most => "the text states more nodes than the check may open",
             Error::NoBlock => "the text is empty, or has blanks alone",
             Error::Label { .. } => "a line of words is wanted",
             Error::Byte { .. } => "a line of numbers has another byte than digits and blanks",

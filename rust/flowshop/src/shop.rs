@@ -273,7 +273,8 @@ impl Shop {
     }
 
     /// The bounds that a text proves, a certificate of any kind, and the sequence that it states. Every lawful text is
-    /// accepted, whoever made it, and nothing else.
+    /// accepted, whoever made it, and nothing else; but a counted certificate of more than 10,000,000,000 nodes is
+    /// refused. The check of a counted one makes the search again that found its bounds, and may take as long.
     ///
     /// ```
     /// use flowshop::{Error, Shop};
@@ -285,7 +286,21 @@ impl Shop {
     /// # Ok::<(), Error>(())
     /// ```
     pub fn check(&self, text: impl AsRef<[u8]>) -> Result<Bounds, Error> {
-        Ok(call::check(self.numbers(), text.as_ref())?.into())
+        Ok(call::check(self.numbers(), text.as_ref(), None)?.into())
+    }
+
+    /// The same, where a counted certificate may state at most so many nodes.
+    ///
+    /// ```
+    /// use flowshop::{Error, Shop};
+    /// let shop = Shop::from_jobs(&[[4, 0, 4], [0, 8, 0], [0, 2, 1]])?;
+    /// let text = "flowshop counted 1\n3 3\n12 12\n3 1 2\n2\nend\n";
+    /// assert!(shop.check_within(text, 2)?.is_optimal());
+    /// assert_eq!(shop.check_within(text, 1), Err(Error::Most));
+    /// # Ok::<(), Error>(())
+    /// ```
+    pub fn check_within(&self, text: impl AsRef<[u8]>, most: u64) -> Result<Bounds, Error> {
+        Ok(call::check(self.numbers(), text.as_ref(), Some(most))?.into())
     }
 
     /// Searches for directions that prove that no sequence of a node has a makespan below a number, at most as many as

@@ -14,6 +14,6 @@ abbrev pub heading_with : Planned → Verdict → List ℕ
 heading_with plan verdict =
     heading plan.shop plan.options.version plan.options.depth verdict.value verdict.sequence
 
--- the third line of a two-ended certificate
+-- the third line of a two-ended or a counted certificate
 abbrev pub bounds_line : Bounds → List ℕ
 bounds_line bounds = line (spaced (bounds.lower ∷ bounds.upper ∷ []))

@@ -6,9 +6,9 @@ use Rattle.flow_parts.specs.declared.walks.Dropped.{Dropped}
 use Rattle.flow_parts.specs.declared.walks.Settled.{Settled}
 use Rattle.flow_parts.specs.Orders.{place_at, open_in, counted_in, settled_in, first_open_in, IsLinked}
 
--- these places were dropped, and the others are as they were
+-- these places were dropped, nothing else of them changed, and the others are as they were
 pub record AreDropped (at at' : ℕ → Place) (gone : List ℕ) : Type 0 where
-  pub dropped : AllByRecursion (λ number. (at' number).state ≡ 4) gone
+  pub dropped : AllByRecursion (λ number. at' number ≡ record (at number) { state = 4 }) gone
   pub others : (number : ℕ) → AllByRecursion (λ other. other ≢ number) gone → at' number ≡ at number
   pub states : (number : ℕ) → ((at' number).state ≡ (at number).state) ⊎ ((at' number).state ≡ 4)
 

@@ -6,7 +6,7 @@ use crate::dispatch::run_words;
 use crate::refusal::Stop;
 use crate::tests::files::{DEPTH_1, Named, START};
 use crate::tests::lines::{
-    ANSWERS, CERTIFY, CHECK, IMPROVE, OPTIONS, Row, SCHEDULE, STARTS, VERSIONS,
+    ANSWERS, CERTIFY, CHECK, IMPROVE, OPTIONS, Row, SCHEDULE, SIGNS, STARTS, VERSIONS,
 };
 use crate::tests::refusal::is_line;
 use crate::words::CommandLine;
@@ -131,6 +131,11 @@ fn schedule_takes_its_files_and_its_form(rt: HostRuntime) {
 #[test]
 fn check_takes_each_file_by_its_name(rt: HostRuntime) {
     run_rows(&rt, rt.alloc(), "check", DEPTH_1, &CHECK);
+}
+
+#[test]
+fn signs_takes_each_file_by_its_name(rt: HostRuntime) {
+    run_rows(&rt, rt.alloc(), "signs", DEPTH_1, &SIGNS);
 }
 
 /// Lines whose output is long: how many bytes of it there is room for, how it begins, and the line on standard error.

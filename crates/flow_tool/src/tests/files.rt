@@ -33,6 +33,9 @@ pub(crate) const OF_TWO_MACHINES: &[u8] = b"flowshop certificate 1\n3 2 0\n9\n2 
 /// A two-ended certificate of the instance of three machines.
 pub(crate) const TWO_ENDED: &[u8] = b"flowshop two-ended 1\n3 3\n12 12\n3 1 2\n++\nend\n";
 
+/// The counted certificate of the instance of three machines.
+pub(crate) const COUNTED: &[u8] = b"flowshop counted 1\n3 3\n12 12\n3 1 2\n2\nend\n";
+
 /// A two-ended certificate of the instance of three machines, whose bounds differ.
 const BOUNDS: &[u8] = b"flowshop two-ended 1\n3 3\n10 13\n2 1 3\n\nend\n";
 
@@ -40,7 +43,7 @@ const BOUNDS: &[u8] = b"flowshop two-ended 1\n3 3\n10 13\n2 1 3\n\nend\n";
 pub(crate) const START: &[u8] = b"sequence 1 2 3\nmakespan 15\n";
 
 /// What each file holds, but for the one of the name `stdin`; and how many bytes it gives before it refuses.
-static FILES: [(&str, &[u8], Option<usize>); 13] = [
+static FILES: [(&str, &[u8], Option<usize>); 14] = [
     ("text_three", THREE_MACHINES, None),
     ("text_both", BOTH, None),
     ("./stdin", THREE_MACHINES, None),
@@ -49,6 +52,7 @@ static FILES: [(&str, &[u8], Option<usize>); 13] = [
     ("of_two", OF_TWO_MACHINES, None),
     ("generated", GENERATED, None),
     ("two_ended", TWO_ENDED, None),
+    ("counted", COUNTED, None),
     ("bounds", BOUNDS, None),
     ("start", START, None),
     ("other_start", b"sequence 1 2 3\nmakespan 14\n", None),

@@ -3,8 +3,8 @@
 use crate::tests::dispatch::words_of;
 use clap::error::ErrorKind;
 use flow_requests::{
-    CertifyRequest, CheckOutput, CheckRequest, ImproveRequest, Invocation, Request, ScheduleForm,
-    SecondFile, SolveRequest,
+    CertifyRequest, CheckOutput, CheckRequest, ImproveRequest, Invocation, ProofForm, Request,
+    ScheduleForm, SecondFile, SolveRequest,
 };
 use flow_words::{invocation_of, make_command};
 use std::alloc::Global;
@@ -47,31 +47,63 @@ const OTHER: ImproveRequest = ImproveRequest {
     work: 7,
 };
 
+/// The request of `check` where no option is given.
+const CHECK: CheckRequest = CheckRequest {
+    output: CheckOutput::Proved,
+    optimal: false,
+    most: 10_000_000_000,
+    workers: 1,
+};
+
 /// Command lines, and what they ask for: the name of the second file, and what is asked of block 1 of the text FILE.
-const OF_BLOCK: [(&str, SecondFile<&str>, Request); 12] = [
+const OF_BLOCK: [(&str, SecondFile<&str>, Request); 15] = [
     (
         "check FILE 1 CERT",
         SecondFile::Certificate("CERT"),
-        Request::Check(CheckRequest {
-            output: CheckOutput::Proved,
-            optimal: false,
-        }),
+        Request::Check {
+            request: CHECK,
+            progress: false,
+        },
     ),
     (
         "check FILE 1 CERT --optimal --sequence",
         SecondFile::Certificate("CERT"),
-        Request::Check(CheckRequest {
-            output: CheckOutput::Sequence,
-            optimal: true,
-        }),
+        Request::Check {
+            request: CheckRequest {
+                output: CheckOutput::Sequence,
+                optimal: true,
+                ..CHECK
+            },
+            progress: false,
+        },
     ),
     (
         "check FILE 1 CERT --verbose",
         SecondFile::Certificate("CERT"),
-        Request::Check(CheckRequest {
-            output: CheckOutput::Report,
-            optimal: false,
-        }),
+        Request::Check {
+            request: CheckRequest {
+                output: CheckOutput::Report,
+                ..CHECK
+            },
+            progress: false,
+        },
+    ),
+    (
+        "check FILE 1 CERT --workers 65 --progress --most 18446744073709551615",
+        SecondFile::Certificate("CERT"),
+        Request::Check {
+            request: CheckRequest {
+                most: 18_446_744_073_709_551_615,
+                workers: 65,
+                ..CHECK
+            },
+            progress: true,
+        },
+    ),
+    (
+        "signs FILE 1 CERT",
+        SecondFile::Certificate("CERT"),
+        Request::Signs,
     ),
     ("neh FILE 1", SecondFile::Absent, Request::Neh),
     (
@@ -123,6 +155,21 @@ const OF_BLOCK: [(&str, SecondFile<&str>, Request); 12] = [
                 improve: USUAL,
                 directions: 100_000_000,
                 workers: 1,
+                proof: ProofForm::ByLength,
+            },
+            progress: false,
+            seconds: None,
+        },
+    ),
+    (
+        "certify FILE 1 --proof signs --workers 2",
+        SecondFile::Absent,
+        Request::Certify {
+            request: CertifyRequest {
+                improve: USUAL,
+                directions: 100_000_000,
+                workers: 2,
+                proof: ProofForm::Signs,
             },
             progress: false,
             seconds: None,
@@ -130,13 +177,14 @@ const OF_BLOCK: [(&str, SecondFile<&str>, Request); 12] = [
     ),
     (
         "certify FILE 1 --directions 4294967295 --work 7 --width 65537 --seed 0 --rounds 4294967295 \
---workers 65 --progress --time-limit 10 --start SEQUENCE",
+--workers 65 --progress --time-limit 10 --proof count --start SEQUENCE",
         SecondFile::Start("SEQUENCE"),
         Request::Certify {
             request: CertifyRequest {
                 improve: OTHER,
                 directions: 4_294_967_295,
                 workers: 65,
+                proof: ProofForm::Count,
             },
             progress: true,
             seconds: Some(10),
@@ -209,7 +257,7 @@ fn words_are_read_as_invocations(rt: HostRuntime) {
 }
 
 /// Command lines that are refused.
-static REFUSED: [&str; 23] = [
+static REFUSED: [&str; 27] = [
     "",
     "sort",
     "span FILE 1",
@@ -233,6 +281,10 @@ static REFUSED: [&str; 23] = [
     "solve FILE 1 --mirrored",
     "solve FILE 1 --target 1",
     "check FILE 1 CERT --either",
+    "check FILE 1 CERT --most 18446744073709551616",
+    "check FILE 1 CERT --most -1",
+    "check FILE 1 CERT --proof count",
+    "signs FILE 1",
 ];
 
 /// Whether a command line is refused, and neither for help nor for memory.

@@ -1,6 +1,8 @@
 //! Command lines, and what each comes to.
 
-use crate::tests::files::{DEPTH_0, DEPTH_1, DEPTH_2, GENERATED, OF_TWO_MACHINES, TWO_ENDED};
+use crate::tests::files::{
+    COUNTED, DEPTH_0, DEPTH_1, DEPTH_2, GENERATED, OF_TWO_MACHINES, TWO_ENDED,
+};
 
 /// How a command line goes on behind its first words, the bytes that it writes, and its line on standard error.
 pub(crate) type Row = (&'static str, &'static [u8], &'static str);
@@ -60,7 +62,7 @@ pub(crate) static ANSWERS: [Row; 20] = [
     ),
     (
         "--version",
-        b"flowshop 2.0.0, certificates of versions 1 and 2, two-ended certificates of version 1; \
+        b"flowshop 2.0.0, certificates of versions 1 and 2, two-ended and counted certificates of version 1; \
 its release is proved and built with rattle-kit-13f logic dac8208d650f15bf\n",
         "",
     ),
@@ -188,7 +190,7 @@ pub(crate) static IMPROVE: [Row; 21] = [
 
 /// The numbers and the starts of `certify`. The instance of three machines has one best sequence. Its directions were
 /// computed apart from the program, by the definitions.
-pub(crate) static CERTIFY: [Row; 17] = [
+pub(crate) static CERTIFY: [Row; 21] = [
     ("stdin 2", TWO_ENDED, ""),
     ("stdin 2 --start best_start", TWO_ENDED, ""),
     ("stdin 1", TWO_ENDED_OF_TWO, ""),
@@ -197,6 +199,10 @@ pub(crate) static CERTIFY: [Row; 17] = [
     ("text_three 1 --start start --width 0", TWO_ENDED, ""),
     ("stdin 2 --start start --seed 2147483646", TWO_ENDED, ""),
     ("stdin 2 --directions 1000000000", TWO_ENDED, ""),
+    ("text_three 1 --proof signs", TWO_ENDED, ""),
+    ("text_three 1 --proof count", COUNTED, ""),
+    ("text_three 1 --proof counted", b"", "refused command line"),
+    ("text_three 1 --proof", b"", "refused command line"),
     ("stdin 2 --rounds 100000001", b"", "refused option Rounds"),
     (
         "stdin 2 --seed 0 --directions 0",
@@ -235,8 +241,8 @@ pub(crate) static SCHEDULE: [Row; 11] = [
     ("text_three 1 start --form", b"", "refused command line"),
 ];
 
-/// The files of `check`: certificates, two-ended ones, and sequences.
-pub(crate) static CHECK: [Row; 32] = [
+/// The files of `check`: certificates of each kind, and sequences.
+pub(crate) static CHECK: [Row; 40] = [
     ("text_three 1 of_three", b"optimal 12\n", ""),
     ("text_three 1 bounds", b"bounds 10 13\n", ""),
     (
@@ -256,6 +262,38 @@ pub(crate) static CHECK: [Row; 32] = [
         "text_three 1 two_ended --optimal --sequence",
         b"sequence 3 1 2\nmakespan 12\n",
         "",
+    ),
+    ("text_three 1 counted", b"optimal 12\n", ""),
+    (
+        "text_three 1 counted --most 2 --workers 64",
+        b"optimal 12\n",
+        "",
+    ),
+    (
+        "text_three 1 counted --most 1",
+        b"",
+        "refused certificate Most",
+    ),
+    (
+        "text_three 1 counted --most 18446744073709551615 --progress",
+        b"optimal 12\n",
+        "",
+    ),
+    (
+        "text_three 1 counted --most 18446744073709551616",
+        b"",
+        "refused command line",
+    ),
+    ("text_three 1 two_ended --most 0", b"optimal 12\n", ""),
+    (
+        "text_three 1 generated --workers 65",
+        b"",
+        "refused option Workers",
+    ),
+    (
+        "text_three 1 of_three --workers 0",
+        b"",
+        "refused option Workers",
     ),
     ("stdin 1 bounds", b"", "refused certificate Size"),
     ("text_three 1 stdin", b"optimal 12\n", ""),
@@ -285,4 +323,14 @@ pub(crate) static CHECK: [Row; 32] = [
         "",
     ),
     ("text_three 1 generated", b"", "refused certificate Header"),
+];
+
+/// The files of `signs`.
+pub(crate) static SIGNS: [Row; 6] = [
+    ("text_three 1 counted", TWO_ENDED, ""),
+    ("stdin 2 counted", TWO_ENDED, ""),
+    ("stdin 1 counted", b"", "refused certificate Size"),
+    ("text_three 1 two_ended", b"", "refused certificate Header"),
+    ("text_three 1 missing", b"", "failed open"),
+    ("text_three 1 counted --most 5", b"", "refused command line"),
 ];

@@ -1,73 +1,76 @@
 -- What the pieces of a search stand for.
-use Rattle.std.specs.Prelude.{ℕ, ◌+◌, Bool, true, false, List, [], ◌∷◌, ◌++◌, length, Option, Some, None}
+use Rattle.std.specs.Prelude.{ℕ, Bool, true, false, List, [], ◌∷◌, length, map, Some, None}
 use Rattle.flow_shop.specs.Shop.{Shop}
-use Rattle.flow_directions.specs.Search.{Visit, signs, first_reached, part_visits}
+use Rattle.flow_directions.specs.Search.{Visit, part_visits}
+use Rattle.flow_parts.specs.Meanings.{Met, met, behind}
+use Rattle.flow_workers.specs.declared.node.Sought.{Sought}
 use Rattle.flow_workers.specs.declared.piece.Piece.{Piece}
 use Rattle.flow_workers.specs.declared.piece.Piece.TheVariants.{Done, Reached, Left}
 use Rattle.flow_workers.specs.declared.piece.Dealt.{Dealt}
 use Rattle.flow_workers.specs.declared.piece.Dealt.TheVariants.{Open, Searched}
 
--- what a search meets: the signs of the nodes that it opens before a sequence is reached, and that sequence
-abbrev pub Met : Type 0
-Met = List ℕ × Option (List ℕ)
+-- how pieces are read: the directions that are kept in them, what is kept of a sign, and the search that they are of
+pub record Reading (K : Type 0) : Type 0 where
+  pub text : K → List ℕ
+  pub mark : ℕ → ℕ
+  pub shop : Shop
+  pub threshold : ℕ
 
--- what is met in a list of visits
-abbrev pub met : List Visit → Met
-met visits = (signs visits, first_reached visits)
+-- how the pieces of what is sought are read
+abbrev pub reading_of : {K : Type 0} → (K → List ℕ) → (ℕ → ℕ) → Sought → Reading K
+reading_of text mark sought =
+    record { text = text; mark = mark; shop = sought.instance.now; threshold = sought.threshold }
 
--- signs, a sequence where one is reached, and what is met behind them: nothing behind a sequence
-abbrev pub joined : List ℕ → Option (List ℕ) → Met → Met
-joined text None more = (text ++ more.0, more.1)
-joined text (Some jobs) more = (text, Some jobs)
+-- what is met, with what is kept of its signs
+abbrev pub marked : (ℕ → ℕ) → Met → Met
+marked mark found = (map mark found.0, found.1)
 
--- what is met, and then something else
-abbrev pub behind : Met → Met → Met
-behind first more = joined first.0 first.1 more
+-- what is met in a list of visits, with what is kept of its signs
+abbrev pub kept_met : (ℕ → ℕ) → List Visit → Met
+kept_met mark visits = marked mark (met visits)
 
 -- what a piece stands for
-abbrev pub piece_met : Shop → ℕ → Piece → Met
-piece_met shop threshold (Done text) = (text.items, None)
-piece_met shop threshold (Reached sequence text) = (text.items, Some sequence)
-piece_met shop threshold (Left part) = met (part_visits shop threshold part)
+abbrev pub piece_met : {K : Type 0} → Reading K → Piece K → Met
+piece_met reading (Done directions) = (reading.text directions, None)
+piece_met reading (Reached sequence directions) = (reading.text directions, Some sequence)
+piece_met reading (Left part) = kept_met reading.mark (part_visits reading.shop reading.threshold part)
 
 -- what pieces stand for, one after the other
-abbrev pub pieces_met : Shop → ℕ → List Piece → Met
-pieces_met shop threshold [] = ([], None)
-pieces_met shop threshold (piece ∷ pieces) = behind (piece_met shop threshold piece) (pieces_met shop threshold pieces)
+abbrev pub pieces_met : {K : Type 0} → Reading K → List (Piece K) → Met
+pieces_met reading [] = ([], None)
+pieces_met reading (piece ∷ pieces) = behind (piece_met reading piece) (pieces_met reading pieces)
 
 -- what a piece that was dealt stands for
-abbrev pub dealt_met : Shop → ℕ → Dealt → Met
-dealt_met shop threshold (Open piece) = piece_met shop threshold piece
-dealt_met shop threshold (Searched pieces) = pieces_met shop threshold pieces.items
+abbrev pub dealt_met : {K : Type 0} → Reading K → Dealt K → Met
+dealt_met reading (Open piece) = piece_met reading piece
+dealt_met reading (Searched pieces) = pieces_met reading pieces.items
 
 -- what all pieces that were dealt stand for, one after the other
-abbrev pub all_met : Shop → ℕ → List Dealt → Met
-all_met shop threshold [] = ([], None)
-all_met shop threshold (one ∷ more) = behind (dealt_met shop threshold one) (all_met shop threshold more)
+abbrev pub all_met : {K : Type 0} → Reading K → List (Dealt K) → Met
+all_met reading [] = ([], None)
+all_met reading (one ∷ more) = behind (dealt_met reading one) (all_met reading more)
 
--- how many directions pieces have that were searched
-abbrev pub written : List Piece → ℕ
-written [] = 0
-written (Done text ∷ pieces) = length text.items + written pieces
-written (Reached sequence text ∷ pieces) = length text.items + written pieces
-written (Left part ∷ pieces) = written pieces
+-- how many directions a piece has, where it was searched
+abbrev pub written : {K : Type 0} → (K → List ℕ) → Piece K → ℕ
+written text (Done directions) = length (text directions)
+written text (Reached sequence directions) = length (text directions)
+written text (Left part) = 0
 
--- whether some piece has reached a sequence
-abbrev pub has_reached : List Piece → Bool
-has_reached [] = false
-has_reached (Done text ∷ pieces) = has_reached pieces
-has_reached (Reached sequence text ∷ pieces) = true
-has_reached (Left part ∷ pieces) = has_reached pieces
+-- whether a piece has reached a sequence
+abbrev pub has_reached : {K : Type 0} → Piece K → Bool
+has_reached (Done directions) = false
+has_reached (Reached sequence directions) = true
+has_reached (Left part) = false
 
 -- a piece of which nothing is still to be searched
-abbrev pub IsSearched : Piece → Type 0
-IsSearched (Done text) = Unit {0}
-IsSearched (Reached sequence text) = Unit {0}
+abbrev pub IsSearched : {K : Type 0} → Piece K → Type 0
+IsSearched (Done directions) = Unit {0}
+IsSearched (Reached sequence directions) = Unit {0}
 IsSearched (Left part) = ⊥
 
 -- no directions of the first piece are known yet, unless it has reached a sequence
-abbrev pub IsSettled : List Piece → Type 0
+abbrev pub IsSettled : {K : Type 0} → List (Piece K) → Type 0
 IsSettled [] = Unit {0}
-IsSettled (Done text ∷ pieces) = ⊥
-IsSettled (Reached sequence text ∷ pieces) = Unit {0}
+IsSettled (Done directions ∷ pieces) = ⊥
+IsSettled (Reached sequence directions ∷ pieces) = Unit {0}
 IsSettled (Left part ∷ pieces) = Unit {0}

@@ -4,8 +4,8 @@ ghost use Rattle.std.specs.Prelude.{◌≡◌, false};
 
 use super::endless::Endless;
 use super::texts::{
-    ABOVE_16_BITS, AIMED, BEST, FOUR_MACHINES, GENERATED, HALVED, LAST, LONG_JOBS, LONG_TOTAL,
-    LONG_TREES, NINE_JOBS, ON_THREE, ONE_JOB, ONE_LONG_JOB, SEVEN_JOBS, THREE_MACHINES,
+    ABOVE_16_BITS, AIMED, BEST, COUNTED_12, FOUR_MACHINES, GENERATED, HALVED, LAST, LONG_JOBS,
+    LONG_TOTAL, LONG_TREES, NINE_JOBS, ON_THREE, ONE_JOB, ONE_LONG_JOB, SEVEN_JOBS, THREE_MACHINES,
     TOTAL_IN_NARROW, TOTAL_IN_WIDE, TWO_ENDED_12, TWO_MACHINES, UP_TO_16_BITS,
 };
 use super::{
@@ -13,7 +13,7 @@ use super::{
     of_certificate, start_of,
 };
 use flow_commands::{
-    CertifyRequest, CheckOutput, CommandFault, Means, Request, Unwatched, run_request,
+    CertifyRequest, CheckOutput, CommandFault, Means, ProofForm, Request, Unwatched, run_request,
 };
 use flow_core::{MemorySink, ReadFault, TextFault};
 use std::alloc::Global;
@@ -23,29 +23,49 @@ use std::thread::Threads;
 /// Numbers of an improvement without beam and rounds.
 const NONE: [u32; 4] = [0, 0, 1, 0];
 
-/// A text, a start text, width, rounds, seed and work, and the most directions; and what is written, or the fault.
-type Row = (&'static [u8], Option<&'static [u8]>, [u32; 4], u32, Wanted);
+/// A text, a start text, width, rounds, seed and work, the most directions, and the form of the proof; and what is
+/// written, or the fault.
+type Row = (
+    &'static [u8],
+    Option<&'static [u8]>,
+    [u32; 4],
+    u32,
+    ProofForm,
+    Wanted,
+);
+
+const UNASKED: ProofForm = ProofForm::ByLength;
 
 /// The text with three machines has one best sequence. The directions were computed apart from the program, by the
 /// definitions.
-static ROWS: [Row; 6] = rows! {
-    THREE_MACHINES, Some(LAST), NONE, 1_000, Ok(TWO_ENDED_12);
-    THREE_MACHINES, Some(BEST), [65_536, 100_000_000, 2_147_483_646, 1_000_000], 1_000_000_000, Ok(TWO_ENDED_12);
-    ONE_JOB, None, NONE, 1, Ok(b"flowshop two-ended 1\n1 1\n0 0\n1\n\nend\n");
+static ROWS: [Row; 10] = rows! {
+    THREE_MACHINES, Some(LAST), NONE, 1_000, UNASKED, Ok(TWO_ENDED_12);
+    THREE_MACHINES, Some(LAST), NONE, 1_000, ProofForm::Signs, Ok(TWO_ENDED_12);
+    THREE_MACHINES, Some(LAST), NONE, 1_000, ProofForm::Count, Ok(COUNTED_12);
+    THREE_MACHINES, Some(BEST), [65_536, 100_000_000, 2_147_483_646, 1_000_000], 1_000_000_000, UNASKED,
+        Ok(TWO_ENDED_12);
+    ONE_JOB, None, NONE, 1, UNASKED, Ok(b"flowshop two-ended 1\n1 1\n0 0\n1\n\nend\n");
+    ONE_JOB, None, NONE, 1, ProofForm::Count, Ok(b"flowshop counted 1\n1 1\n0 0\n1\n0\nend\n");
     // One round with each of two seeds, by the plain program bench/improve.rs, and the bound with no job put.
-    LONG_TREES, None, [0, 1, 1, 1], 1, Ok(b"flowshop two-ended 1\n9 4\n557 616\n1 6 4 3 9 5 7 2 8\n\nend\n");
-    LONG_TREES, None, [0, 1, 2, 1], 1, Ok(b"flowshop two-ended 1\n9 4\n557 616\n1 6 3 9 4 5 7 2 8\n\nend\n");
+    LONG_TREES, None, [0, 1, 1, 1], 1, UNASKED,
+        Ok(b"flowshop two-ended 1\n9 4\n557 616\n1 6 4 3 9 5 7 2 8\n\nend\n");
+    LONG_TREES, None, [0, 1, 2, 1], 1, UNASKED,
+        Ok(b"flowshop two-ended 1\n9 4\n557 616\n1 6 3 9 4 5 7 2 8\n\nend\n");
+    LONG_TREES, None, [0, 1, 2, 1], 1, ProofForm::Count,
+        Ok(b"flowshop counted 1\n9 4\n557 616\n1 6 3 9 4 5 7 2 8\n0\nend\n");
     // The text comes before the numbers.
-    b"", None, NONE, 0, Err(CommandFault::Text(TextFault::NoBlock));
+    b"", None, NONE, 0, UNASKED, Err(CommandFault::Text(TextFault::NoBlock));
 };
 
-/// The request of `certify` with these numbers of an improvement, so many directions, and so many workers.
-fn certified(numbers: [u32; 4], directions: u32, workers: u32) -> Request {
+/// The request of `certify` with these numbers of an improvement, so many directions, so many workers, and a form of the
+/// proof.
+fn certified(numbers: [u32; 4], directions: u32, workers: u32, proof: ProofForm) -> Request {
     Request::Certify {
         request: CertifyRequest {
             improve: improvement(numbers),
             directions,
             workers,
+            proof,
         },
         progress: false,
         seconds: None,
@@ -54,8 +74,8 @@ fn certified(numbers: [u32; 4], directions: u32, workers: u32) -> Request {
 
 /// Whether `certify` comes to what a row says.
 fn holds<R: Threads + Wait + Sync>(rt: &R, alloc: Global, row: &Row) -> bool {
-    let (text, start, numbers, directions, wanted) = *row;
-    let request = certified(numbers, directions, 1);
+    let (text, start, numbers, directions, proof, wanted) = *row;
+    let request = certified(numbers, directions, 1, proof);
     let texts = Given {
         text,
         second: start_of(start),
@@ -116,18 +136,19 @@ static KNOWN: [Known; 25] = rows! {
     HALVED, [4, 0, 1, 1], 20, Ok(b"bounds 535 548\n");
 };
 
-/// Certifies the text of a row with so many workers. Returns whether it is not refused.
+/// Certifies the text of a row with so many workers, in a form of the proof. Returns whether it is not refused.
 fn is_certified<R: Threads + Wait + Sync>(
     rt: &R,
     alloc: Global,
     row: &Known,
     workers: u32,
+    proof: ProofForm,
     out: &mut MemorySink,
 ) -> bool
     requires { out.old.failed ≡ false }
 {
     let (text, numbers, directions, _) = *row;
-    let request = certified(numbers, directions, workers);
+    let request = certified(numbers, directions, workers, proof);
     let means = Means {
         rt,
         alloc,
@@ -137,16 +158,25 @@ fn is_certified<R: Threads + Wait + Sync>(
     run_request(&means, &mut all_of(text), 1, &mut none, &request, out) == Ok(())
 }
 
-/// Whether `check` prints what a row says for what `certify` writes, and more workers write the same.
-fn proves<R: Threads + Wait + Sync>(rt: &R, alloc: Global, row: &Known) -> bool {
+/// Whether `check` prints what a row says for what `certify` writes in a form, and more workers write the same.
+fn proves<R: Threads + Wait + Sync>(
+    rt: &R,
+    alloc: Global,
+    row: &Known,
+    proof: ProofForm,
+    out: &mut MemorySink,
+) -> bool
+    requires { out.old.failed ≡ false }
+{
     let (text, _, _, wanted) = *row;
-    let mut out = MemorySink::new(alloc, ROOM);
-    if !is_certified(rt, alloc, row, 1, &mut out) {
+    if !is_certified(rt, alloc, row, 1, proof, out) {
         return false;
     }
     for workers in &[2, 64] {
         let mut other = MemorySink::new(alloc, ROOM);
-        if !is_certified(rt, alloc, row, *workers, &mut other) || other.bytes() != out.bytes() {
+        let is_same = is_certified(rt, alloc, row, *workers, proof, &mut other)
+            && other.bytes() == out.bytes();
+        if !is_same {
             return false;
         }
     }
@@ -155,16 +185,30 @@ fn proves<R: Threads + Wait + Sync>(rt: &R, alloc: Global, row: &Known) -> bool 
     answers(rt, alloc, &texts, &request, ROOM, end_of(wanted))
 }
 
+/// Whether `check` prints what a row says for what `certify` writes in both forms, and `signs` makes one of the other.
+fn proves_both<R: Threads + Wait + Sync>(rt: &R, alloc: Global, row: &Known) -> bool {
+    let mut signs = MemorySink::new(alloc, ROOM);
+    let mut counted = MemorySink::new(alloc, ROOM);
+    if !proves(rt, alloc, row, ProofForm::Signs, &mut signs)
+        || !proves(rt, alloc, row, ProofForm::Count, &mut counted)
+    {
+        return false;
+    }
+    let texts = of_certificate(row.0, counted.bytes());
+    let end = end_of(Ok(signs.bytes()));
+    answers(rt, alloc, &texts, &Request::Signs, ROOM, end)
+}
+
 #[test]
 fn check_accepts_what_certify_wrote(rt: HostRuntime) {
     for (number, row) in KNOWN.iter().enumerate() {
-        assert!(rt; proves(&rt, rt.alloc(), row), "row {number}");
+        assert!(rt; proves_both(&rt, rt.alloc(), row), "row {number}");
     }
 }
 
 #[test]
 fn certify_fills_a_sink_up_to_its_limit(rt: HostRuntime) {
-    let request = certified(NONE, 1_000, 1);
+    let request = certified(NONE, 1_000, 1, UNASKED);
     for room in 0..46usize {
         let end = filled(room, TWO_ENDED_12);
         assert!(rt;
@@ -184,7 +228,7 @@ fn certify_stops_an_endless_text(rt: HostRuntime) {
     };
     let mut none = OF_THREE.second_source();
     let mut file = Endless::new();
-    let request = certified(NONE, 1_000, 1);
+    let request = certified(NONE, 1_000, 1, UNASKED);
     let ran = run_request(&means, &mut file, 1, &mut none, &request, &mut out);
     assert!(rt; comes_to(ran, &out, Err(CommandFault::Read(ReadFault::TooLong))));
 }

@@ -138,6 +138,9 @@ pub(super) const GENERATED: &[u8] =
 /// at the front 14, 13 and 10; with 3 1 and 3 2 at the front they are 12 and 14.
 pub(super) const TWO_ENDED_12: &[u8] = b"flowshop two-ended 1\n3 3\n12 12\n3 1 2\n++\nend\n";
 
+/// The counted certificate of the same bounds.
+pub(super) const COUNTED_12: &[u8] = b"flowshop counted 1\n3 3\n12 12\n3 1 2\n2\nend\n";
+
 pub(super) const TWO_ENDED_11: &[u8] = b"flowshop two-ended 1\n3 3\n11 13\n2 1 3\n-\nend\n";
 
 /// Start texts for three jobs that are refused, and their faults.

@@ -1,8 +1,7 @@
-use Rattle.std.proofs.Common.{rules}
+use Rattle.std.proofs.Common.{length, rules}
 use Rattle.std.proofs.lemmas.Result.{err_from_is_err_and}
-use Rattle.flow_check.specs.TwoEnded.{two_ended_text}
 use Rattle.flow_check.specs.declared.bounds.Bounds.{Bounds}
-use Rattle.flow_commands.specs.Certify.{AnswersCertify}
+use Rattle.flow_commands.specs.Certify.{AnswersCertify, has_signs, proof_text}
 use Rattle.flow_commands.specs.Runs.{sink_run}
 use Rattle.flow_commands.proofs.Certified.{certified-answers}
 use Rattle.flow_commands.proofs.Responses.{all-written, part-written}
@@ -16,30 +15,32 @@ returns g c =
     let bounds : Bounds = record { lower = found.lower; upper = found.upper } in
     let says = c.in_ok-found.ensures in
     all-written (AnswersCertify request shop c.args.given)
-    (sink_run g.K.Sink c.args.out.now c.write_two_ended.new.out)
-    (two_ended_text shop bounds found.sequence found.directions.items)
+    (sink_run g.K.Sink c.args.out.now c.write_found.new.out)
+    (proof_text (has_signs request.proof (length found.directions.items)) shop bounds found.sequence
+    found.directions.items)
     (certified-answers request shop c.args.given c.in_ok-start.start found.sequence found.directions.items bounds
     c.in_ok-effort.ensures.accepted (rw (← c.instance.view_is) c.instance.invariant.0) c.in_ok-start.ensures.start
-    says.each says.attained says.no_worse says.proved says.floor (rw c.in_ok-effort.ensures.most at says.few)
-    (rw c.as_slice.ensures.value at c.write_two_ended.ensures.lawful))
-    (rw c.as_slice.ensures.value at c.in_ok-write_two_ended.ensures.ok) (search rules)
+    says.each says.attained says.no_worse says.proved says.searched says.floor
+    (rw c.in_ok-effort.ensures.most at says.few)
+    c.write_found.ensures.lawful) c.in_ok-write_found.ensures.ok (search rules)
 
-pub returns-in_err-write_two_ended : goal.returns-in_err-write_two_ended
-returns-in_err-write_two_ended g c =
+pub returns-in_err-write_found : goal.returns-in_err-write_found
+returns-in_err-write_found g c =
     let request = c.args.command.now.request in
     let shop = c.args.instance in
     let found = c.in_ok-found.found in
     let bounds : Bounds = record { lower = found.lower; upper = found.upper } in
     let says = c.in_ok-found.ensures in
     let p =
-    err_from_is_err_and c.from_residual-in_err-write_two_ended.result
-    c.from_residual-in_err-write_two_ended.ensures.1 in
+    err_from_is_err_and c.from_residual-in_err-write_found.result
+    c.from_residual-in_err-write_found.ensures.1 in
     rw (p.1, p.2)
     (part-written (AnswersCertify request shop c.args.given)
-    (sink_run g.K.Sink c.args.out.now c.write_two_ended.new.out) _
-    (two_ended_text shop bounds found.sequence found.directions.items)
+    (sink_run g.K.Sink c.args.out.now c.write_found.new.out) _
+    (proof_text (has_signs request.proof (length found.directions.items)) shop bounds found.sequence
+    found.directions.items)
     (certified-answers request shop c.args.given c.in_ok-start.start found.sequence found.directions.items bounds
     c.in_ok-effort.ensures.accepted (rw (← c.instance.view_is) c.instance.invariant.0) c.in_ok-start.ensures.start
-    says.each says.attained says.no_worse says.proved says.floor (rw c.in_ok-effort.ensures.most at says.few)
-    (rw c.as_slice.ensures.value at c.write_two_ended.ensures.lawful))
-    (rw c.as_slice.ensures.value at c.in_err-write_two_ended.ensures.err) (search rules))
+    says.each says.attained says.no_worse says.proved says.searched says.floor
+    (rw c.in_ok-effort.ensures.most at says.few)
+    c.write_found.ensures.lawful) c.in_err-write_found.ensures.err (search rules))

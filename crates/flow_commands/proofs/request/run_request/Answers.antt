@@ -37,6 +37,12 @@ returns-in-Check-clause-ran g c = rw c.in-Check.is c.run-in-Check.ensures.ran
 pub returns-in-Check-clause-proved : goal.returns-in-Check-clause-proved
 returns-in-Check-clause-proved g c = run-says-true c.args.request.now (returns-in-Check-clause-ran g c)
 
+pub returns-in-Signs-clause-ran : goal.returns-in-Signs-clause-ran
+returns-in-Signs-clause-ran g c = rw c.in-Signs.is c.run-in-Signs.ensures.ran
+
+pub returns-in-Signs-clause-proved : goal.returns-in-Signs-clause-proved
+returns-in-Signs-clause-proved g c = run-says-true c.args.request.now (returns-in-Signs-clause-ran g c)
+
 pub returns-in-Schedule-clause-ran : goal.returns-in-Schedule-clause-ran
 returns-in-Schedule-clause-ran g c = rw c.in-Schedule.is c.run-in-Schedule.ensures.ran
 

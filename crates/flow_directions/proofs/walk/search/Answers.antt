@@ -8,12 +8,12 @@ use Rattle.flow_nodes.specs.Groups.{group_count}
 use Rattle.flow_nodes.specs.Marks.{chosen}
 use Rattle.flow_nodes.proofs.KeptNodes.{lengths}
 use Rattle.flow_shop.specs.Ends.{end_bound}
-use Rattle.flow_directions.specs.Search.{Continues, IsAdvanced, directions_of, first_below, visits}
+use Rattle.flow_directions.specs.Search.{Continues, directions_of, first_below, visits}
 use Rattle.flow_directions.specs.internal.Lists.{HasLists}
 use Rattle.flow_directions.specs.internal.Levels.{AreNested, IsBegun, IsLevel, IsNext, StandsBelow, first_of}
 use Rattle.flow_directions.specs.internal.Levels.{jobs_of, last_of, met_with, names_at, names_of}
 use Rattle.flow_directions.specs.declared.level.Level.{Level}
-use Rattle.flow_directions.specs.internal.Reached.{IsSequenceAfter}
+use Rattle.flow_directions.specs.internal.Outcomes.{HasCome, IsReached}
 use Rattle.flow_directions.proofs.FoundSteps.{each-ok, found-below, found-none, found-over}
 use Rattle.flow_directions.proofs.LevelMoves.{IsTurn}
 use Rattle.flow_directions.proofs.LevelSteps.{lists-pop, lists-push, nested-pop}
@@ -38,15 +38,21 @@ returns-then-terms-eq0 g c = record {
       let left : ℕ = c.args.left + length levels in
       let below : StandsBelow shop threshold (names_of packs) first last left c.args.lists levels =
       subst (StandsBelow shop threshold (names_of packs) first last left c.args.lists) (sym empty)
-      (record { are_levels = tt; has_lists = at.has_lists }) in
-      found-none shop threshold c.args.terms.budget first last c.new-directions.result parts c.new-directions.ensures.items
-      c.if-terms-eq0.true at.is_open.below (omega (arith, at.count, c.requires.some))
-      (c.in_ok-parts.ensures.parts shop threshold first last c.requires.tree below
-      ∙ ap (λ ls. met_with shop threshold (names_of packs) left first last ls
-      (visits shop threshold (first_of first ls) (last_of last ls))) empty)
-      (c.in_ok-parts.ensures.each shop threshold first last c.requires.tree below are)
-      (omega (arith, c.in_ok-parts.ensures.count, ap length empty, at.count, c.requires.some));
+      (record { are_levels = tt; has_lists = at.has_lists }) in (
+        [],
+        c.requires.none,
+        found-none shop threshold c.args.terms.budget first last parts c.if-terms-eq0.true at.is_open.below
+            (omega (arith, at.count, c.requires.some))
+            (c.in_ok-parts.ensures.parts shop threshold first last c.requires.tree below
+            ∙ ap (λ ls. met_with shop threshold (names_of packs) left first last ls
+            (visits shop threshold (first_of first ls) (last_of last ls))) empty)
+            (c.in_ok-parts.ensures.each shop threshold first last c.requires.tree below are)
+            (omega (arith, c.in_ok-parts.ensures.count, ap length empty, at.count, c.requires.some)),
+      );
 }
+
+pub add-requires : goal.add-requires
+add-requires g c = ([], c.requires.none, omega arith)
 
 pub walk-init : goal.walk-init
 walk-init g c =
@@ -57,25 +63,23 @@ walk-init g c =
     let nodes2 = c.enter.new.self.nodes.items in
     let levels = c.in_ok-levels.levels.items in
     let empty : levels ≡ [] = c.in_ok-levels.ensures.items in
-    let text = c.push.new.self.items in
-    let written : text ≡ sign here.end ∷ [] =
-    c.in_ok-push.ensures.items
-    ∙ ap (λ xs. xs ++ c.sign_of.result ∷ []) c.new-directions.ensures.items
-    ∙ ap (λ s. s ∷ []) c.sign_of.ensures in
     record {
       tree = made.tree c.args.terms.threshold c.requires.tree;
       packs = ap (λ ps. length ps.items) made.packs;
       left = omega (arith, ap length empty);
       some = c.requires.some;
       room = made.room;
-      within = omega (arith, ap length written, c.if-terms-eq0.false);
-      stands = λ first last are at.
-          subst (λ ls. Stands g.V.Vector.list g.V.Vector.CAP g.V.Vector.WIDTH shop c.args.terms.threshold first last
-          c.args.left
-          text c.args.lists packs2 nodes2 ls here) (sym empty)
-          (stands-first g.V.Vector.list g.V.Vector.CAP g.V.Vector.WIDTH shop c.args.terms.threshold first last c.args.left
-          c.args.lists c.args.tree packs2 nodes2 here text at c.requires.some
-          (made.level c.args.terms.threshold first last c.requires.tree at.is_open at.count) written);
+      walked = (
+        sign here.end ∷ [],
+        c.in_ok-add.ensures [] c.requires.none,
+        omega (arith, c.if-terms-eq0.false),
+        λ first last are at.
+            subst (λ ls. Stands g.V.Vector.list g.V.Vector.CAP g.V.Vector.WIDTH shop c.args.terms.threshold first last
+            c.args.left (sign here.end ∷ []) c.args.lists packs2 nodes2 ls here) (sym empty)
+            (stands-first g.V.Vector.list g.V.Vector.CAP g.V.Vector.WIDTH shop c.args.terms.threshold first last
+            c.args.left c.args.lists c.args.tree packs2 nodes2 here at c.requires.some
+            (made.level c.args.terms.threshold first last c.requires.tree at.is_open at.count)),
+      );
     }
 
 -- the pack that has the jobs left
@@ -109,11 +113,12 @@ returns-in_default g c = record {
       let levels = c.walk.levels.items in
       let empty : jobs_of (names_of packs) (c.args.left - length levels) c.walk.here ≡ [] =
       ap (chosen c.walk.here.rest.words) (sym (names g next)) ∙ c.in-None.ensures.none in
+      let walked = c.walk.invariant.walked in
       let done = stands-done g.V.Vector.list g.V.Vector.CAP g.V.Vector.WIDTH c.args.instance.now c.args.terms.threshold first
-      last c.args.left c.walk.directions.items c.walk.lists packs c.walk.tree.nodes.items levels c.walk.here
-      (c.walk.invariant.stands first last are at)
+      last c.args.left walked.0 c.walk.lists packs c.walk.tree.nodes.items levels c.walk.here
+      (walked.3 first last are at)
       (omega (arith, c.in_default.ensures.cases.0, c.walk.levels.ok.0)) empty in
-      (done.0, done.1, c.walk.invariant.within);
+      (walked.0, walked.1, (done.0, done.1, omega (arith, walked.2)));
 }
 
 pub take-requires : goal.take-requires
@@ -126,7 +131,7 @@ take-requires g c =
       c.in-Some-pop.level.job,
       lists-pop (λ f l. HasLists c.args.instance.now.jobs f l c.walk.lists) at.0 at.1 c.walk.levels.items rest
           c.in-Some-pop.level c.in-Some-pop.ensures.items
-          (c.walk.invariant.stands at.0 at.1 at.2 at.3).has_lists,
+          (c.walk.invariant.walked.3 at.0 at.1 at.2 at.3).has_lists,
     )
 
 pub walk-preserved-in-None : goal.walk-preserved-in-None
@@ -142,7 +147,7 @@ walk-preserved-in-None g c =
     let fewer : length levels ≡ length rest + 1 = ap length parted ∙ length-append rest (level ∷ []) in
     let at = c.requires.at in
     let nested = nested-pop rest level c.walk.here.top
-    (subst (λ ls. AreNested ls c.walk.here.top) parted (here.stands at.0 at.1 at.2 at.3).nested) in
+    (subst (λ ls. AreNested ls c.walk.here.top) parted (here.walked.3 at.0 at.1 at.2 at.3).nested) in
     let empty : jobs_of (names_of packs) (c.args.left - length levels) c.walk.here ≡ [] =
     ap (chosen c.walk.here.rest.words) (sym (names g next)) ∙ c.in-None.ensures.none in
     record {
@@ -151,22 +156,26 @@ walk-preserved-in-None g c =
       left = omega (arith, here.left, fewer);
       some = omega arith;
       room = omega (arith, here.room, nested.1);
-      within = here.within;
-      stands = λ first last are is.
-          let before = here.stands first last are is in
-          stands-back g.V.Vector.list g.V.Vector.CAP g.V.Vector.WIDTH shop c.args.terms.threshold first last c.args.left
-          c.walk.directions.items c.walk.lists packs c.walk.tree.nodes.items levels rest c.walk.here level
-          c.take.new.self
-          before empty parted
-          (c.take.ensures shop.jobs (first_of first rest) (last_of last rest) level.job
-          (lists-pop (λ f l. HasLists shop.jobs f l c.walk.lists) first last levels rest level parted
-          before.has_lists));
+      walked = (
+        here.walked.0,
+        here.walked.1,
+        here.walked.2,
+        λ first last are is.
+            let before = here.walked.3 first last are is in
+            stands-back g.V.Vector.list g.V.Vector.CAP g.V.Vector.WIDTH shop c.args.terms.threshold first last c.args.left
+            here.walked.0 c.walk.lists packs c.walk.tree.nodes.items levels rest c.walk.here level
+            c.take.new.self
+            before empty parted
+            (c.take.ensures shop.jobs (first_of first rest) (last_of last rest) level.job
+            (lists-pop (λ f l. HasLists shop.jobs f l c.walk.lists) first last levels rest level parted
+            before.has_lists)),
+      );
     }
 
 -- how many jobs the node has
 node-count : (g : Over) (c : After-next g) (first last : List ℕ) →
     Stands g.V.Vector.list g.V.Vector.CAP g.V.Vector.WIDTH c.args.instance.now c.args.terms.threshold first last c.args.left
-    c.walk.directions.items c.walk.lists c.walk.tree.packs.items c.walk.tree.nodes.items c.walk.levels.items
+    c.walk.invariant.walked.0 c.walk.lists c.walk.tree.packs.items c.walk.tree.nodes.items c.walk.levels.items
     c.walk.here →
     length (first_of first c.walk.levels.items) + length (last_of last c.walk.levels.items)
     + (c.args.left - length c.walk.levels.items) ≡ c.args.instance.now.jobs
@@ -179,7 +188,7 @@ pub put-requires : goal.put-requires
 put-requires g c =
     let at = c.requires.at in
     let next = (goal.at.put-requires g c).After-next in
-    let stands = c.walk.invariant.stands at.0 at.1 at.2 at.3 in
+    let stands = c.walk.invariant.walked.3 at.0 at.1 at.2 at.3 in
     omega (
       arith,
       node-count g next at.0 at.1 stands,
@@ -211,10 +220,10 @@ turn g c =
 -- where it was the last job, a sequence below the threshold is reached
 low : (g : Over) (c : After-put g) (first last : List ℕ) → c.walk.left ≡ 1 →
     Stands g.V.Vector.list g.V.Vector.CAP g.V.Vector.WIDTH c.args.instance.now c.args.terms.threshold first last c.args.left
-    c.walk.directions.items c.walk.lists c.walk.tree.packs.items c.walk.tree.nodes.items c.walk.levels.items
+    c.walk.invariant.walked.0 c.walk.lists c.walk.tree.packs.items c.walk.tree.nodes.items c.walk.levels.items
     c.walk.here →
     (first_below c.args.instance.now c.args.terms.threshold first last ≡ Some c.put.new.self.jobs.items)
-    × (c.walk.directions.items ≡ directions_of c.args.instance.now c.args.terms.threshold first last)
+    × (c.walk.invariant.walked.0 ≡ directions_of c.args.instance.now c.args.terms.threshold first last)
 low g c first last one stands =
     let shop = c.args.instance.now in
     let threshold = c.args.terms.threshold in
@@ -227,8 +236,8 @@ low g c first last one stands =
     let some = (goal.at.After-put g c).In-Some in
     let is = turn g some in
     let opened = turn-open g.V.Vector.list g.V.Vector.CAP g.V.Vector.WIDTH shop threshold first last c.args.left
-    c.walk.directions.items c.walk.lists packs nodes levels c.walk.here here c.in-Some.place stands is in
-    turn-low g.V.Vector.list g.V.Vector.CAP g.V.Vector.WIDTH shop threshold first last c.args.left c.walk.directions.items
+    c.walk.invariant.walked.0 c.walk.lists packs nodes levels c.walk.here here c.in-Some.place stands is in
+    turn-low g.V.Vector.list g.V.Vector.CAP g.V.Vector.WIDTH shop threshold first last c.args.left c.walk.invariant.walked.0
     c.walk.lists packs nodes levels c.walk.here here c.in-Some.place stands is c.put.new.self
     (omega (
       arith,
@@ -250,7 +259,7 @@ pub sequence_of-requires : goal.sequence_of-requires
 sequence_of-requires g c =
     let at = c.requires.at in
     let found = low g (goal.at.sequence_of-requires g c).After-put at.0 at.1
-    (omega (arith, c.if-left-eq0.true, c.walk.invariant.some)) (c.walk.invariant.stands at.0 at.1 at.2 at.3) in
+    (omega (arith, c.if-left-eq0.true, c.walk.invariant.some)) (c.walk.invariant.walked.3 at.0 at.1 at.2 at.3) in
     let reached = reached_is_below c.args.instance.now c.args.terms.threshold at.0 at.1 c.put.new.self.jobs.items at.2
     found.0 in
     subst (IsSequence c.args.instance.now.jobs) (sym c.all.ensures.value) reached.0.2
@@ -259,11 +268,17 @@ pub returns-then-left-eq0 : goal.returns-then-left-eq0
 returns-then-left-eq0 g c = record {
   found = λ first last are at.
       let found = low g (goal.at.returns-then-left-eq0 g c).After-put first last
-      (omega (arith, c.if-left-eq0.true, c.walk.invariant.some)) (c.walk.invariant.stands first last are at) in
-      each-ok (IsSequenceAfter c.args.instance.now c.all.result.now c.walk.directions.items)
-      (IsAdvanced c.args.instance.now c.args.terms.threshold c.args.terms.budget first last) c.sequence_of.result
-      (λ made is. found-below c.args.instance.now c.args.terms.threshold c.args.terms.budget first last c.all.result.now
-      c.walk.directions.items made (found.0 ∙ ap Some (sym c.all.ensures.value)) found.1 c.walk.invariant.within is)
+      (omega (arith, c.if-left-eq0.true, c.walk.invariant.some)) (c.walk.invariant.walked.3 first last are at) in
+      let walked = c.walk.invariant.walked in
+      each-ok (IsReached c.args.instance.now c.all.result.now)
+      (HasCome (g.S.Signs.are c.walk.signs) c.args.instance.now c.args.terms.threshold c.args.terms.budget first last)
+      c.sequence_of.result
+      (λ made is. (
+        walked.0,
+        walked.1,
+        found-below c.args.instance.now c.args.terms.threshold c.args.terms.budget first last c.all.result.now walked.0
+            made (found.0 ∙ ap Some (sym c.all.ensures.value)) found.1 (omega (arith, walked.2)) is,
+      ))
       c.sequence_of.ensures.found;
 }
 
@@ -271,7 +286,7 @@ returns-then-left-eq0 g c = record {
 stopped : (g : Over) (c : After-put g) (first last : List ℕ) (total : ℕ) (levels : List Level) → total ≡ c.args.left →
     levels ≡ c.walk.levels.items ++ c.next.new.self ∷ [] →
     Stands g.V.Vector.list g.V.Vector.CAP g.V.Vector.WIDTH c.args.instance.now c.args.terms.threshold first last c.args.left
-    c.walk.directions.items c.walk.lists c.walk.tree.packs.items c.walk.tree.nodes.items c.walk.levels.items
+    c.walk.invariant.walked.0 c.walk.lists c.walk.tree.packs.items c.walk.tree.nodes.items c.walk.levels.items
     c.walk.here →
     StandsBelow c.args.instance.now c.args.terms.threshold (names_of c.walk.tree.packs.items) first last total
     c.put.new.self
@@ -280,22 +295,22 @@ stopped g c first last total levels all levels_are stands =
     subst (StandsBelow c.args.instance.now c.args.terms.threshold (names_of c.walk.tree.packs.items) first last total
     c.put.new.self) (sym levels_are)
     (turn-stopped g.V.Vector.list g.V.Vector.CAP g.V.Vector.WIDTH c.args.instance.now c.args.terms.threshold first last
-    c.args.left c.walk.directions.items c.walk.lists c.walk.tree.packs.items c.walk.tree.nodes.items c.walk.levels.items
+    c.args.left c.walk.invariant.walked.0 c.walk.lists c.walk.tree.packs.items c.walk.tree.nodes.items c.walk.levels.items
     c.walk.here c.next.new.self c.in-Some.place stands (turn g (goal.at.After-put g c).In-Some) total c.put.new.self all
     (c.put.ensures c.args.instance.now.jobs (first_of first c.walk.levels.items) (last_of last c.walk.levels.items)
     stands.has_lists))
 
-pub parts_left-requires-then-len-terms-clause-at : goal.parts_left-requires-then-len-terms-clause-at
-parts_left-requires-then-len-terms-clause-at g c =
+pub parts_left-requires-then-budget-eq0-clause-at : goal.parts_left-requires-then-budget-eq0-clause-at
+parts_left-requires-then-budget-eq0-clause-at g c =
     let at = c.requires.at in
-    let levels2 = c.push-then-len-terms.new.self.items in
+    let levels2 = c.push.new.self.items in
     let pushed : levels2 ≡ c.walk.levels.items ++ c.next.new.self ∷ [] = c.in_ok-push-in-Some.ensures.items in (
       c.args.instance.now,
       c.args.terms.threshold,
       at.0,
       at.1,
       c.walk.invariant.tree,
-      stopped g (goal.at.parts_left-requires-then-len-terms-clause-at g c).After-put at.0 at.1
+      stopped g (goal.at.parts_left-requires-then-budget-eq0-clause-at g c).After-put at.0 at.1
           (c.walk.left - 1 + length levels2) levels2
           (omega (
             arith,
@@ -304,22 +319,22 @@ parts_left-requires-then-len-terms-clause-at g c =
             c.walk.invariant.left,
             c.walk.invariant.some,
           ))
-          pushed (c.walk.invariant.stands at.0 at.1 at.2 at.3),
+          pushed (c.walk.invariant.walked.3 at.0 at.1 at.2 at.3),
     )
 
-pub returns-then-len-terms : goal.returns-then-len-terms
-returns-then-len-terms g c = record {
+pub returns-then-budget-eq0 : goal.returns-then-budget-eq0
+returns-then-budget-eq0 g c = record {
   found = λ first last are at.
       let shop = c.args.instance.now in
       let threshold = c.args.terms.threshold in
       let packs = c.walk.tree.packs.items in
       let nodes = c.walk.tree.nodes.items in
       let levels = c.walk.levels.items in
-      let levels2 = c.push-then-len-terms.new.self.items in
+      let levels2 = c.push.new.self.items in
       let here = c.next.new.self in
-      let put = (goal.at.returns-then-len-terms g c).After-put in
+      let put = (goal.at.returns-then-budget-eq0 g c).After-put in
       let some = (goal.at.After-put g put).In-Some in
-      let stands = c.walk.invariant.stands first last are at in
+      let stands = c.walk.invariant.walked.3 first last are at in
       let pushed : levels2 ≡ levels ++ here ∷ [] = c.in_ok-push-in-Some.ensures.items in
       let total : ℕ = c.walk.left - 1 + length levels2 in
       let all : total ≡ c.args.left = omega (
@@ -331,48 +346,52 @@ returns-then-len-terms g c = record {
       ) in
       let below = stopped g put first last total levels2 all pushed stands in
       let opened = turn-open g.V.Vector.list g.V.Vector.CAP g.V.Vector.WIDTH shop threshold first last c.args.left
-      c.walk.directions.items c.walk.lists packs nodes levels c.walk.here here c.in-Some.place stands (turn g some) in
+      c.walk.invariant.walked.0 c.walk.lists packs nodes levels c.walk.here here c.in-Some.place stands (turn g some) in
       let continues = turn-over g.V.Vector.list g.V.Vector.CAP g.V.Vector.WIDTH shop threshold first last c.args.left
-      c.walk.directions.items c.walk.lists packs nodes levels c.walk.here here c.in-Some.place stands (turn g some) in
-      found-over shop threshold c.args.terms.budget total first last c.walk.directions c.in_ok-parts-in-Some.parts
-      (names_of packs) levels2
-      (omega (arith, c.walk.invariant.within, c.if-len-terms.true, c.len.ensures, c.walk.directions.ok.0))
-      (subst (λ n. Continues (visits shop threshold first last) c.walk.directions.items (met_with shop threshold
-      (names_of packs) n first last levels2 (visits shop threshold (first_of first levels2) (last_of last levels2))))
-      (sym all)
-      (subst (λ ls. Continues (visits shop threshold first last) c.walk.directions.items (met_with shop threshold
-      (names_of packs) c.args.left first last ls (visits shop threshold (first_of first ls) (last_of last ls))))
-      (sym pushed) continues))
-      (subst (λ ls. end_bound shop (first_of first ls) (last_of last ls) < threshold) (sym pushed)
-      (lists-push (λ f l. end_bound shop f l < threshold) first last levels here opened.below))
-      (subst (λ ls. 0 < length (jobs_left shop.jobs (first_of first ls ++ last_of last ls))) (sym pushed)
-      (lists-push (λ f l. 0 < length (jobs_left shop.jobs (f ++ l))) first last levels here (omega (
-        arith,
-        stands.is_here.count,
-        count-child shop.jobs here.end (first_of first levels) (last_of last levels) here.job opened.is_job.0
-            opened.is_job.1 opened.left,
-        c.walk.invariant.left,
-        c.walk.invariant.some,
-        c.if-left-eq0.false,
-      ))))
-      (c.in_ok-parts-in-Some.ensures.parts shop threshold first last c.walk.invariant.tree below)
-      (c.in_ok-parts-in-Some.ensures.each shop threshold first last c.walk.invariant.tree below are)
-      (omega (
-        arith,
-        c.in_ok-parts-in-Some.ensures.count,
-        ap length pushed,
-        length-append levels (here ∷ []),
-        at.count,
-        c.walk.invariant.left,
-        c.walk.invariant.some,
-        c.if-left-eq0.false,
-      ));
+      c.walk.invariant.walked.0 c.walk.lists packs nodes levels c.walk.here here c.in-Some.place stands (turn g some) in (
+        c.walk.invariant.walked.0,
+        c.walk.invariant.walked.1,
+        found-over shop threshold c.args.terms.budget total first last
+            c.walk.invariant.walked.0 c.in_ok-parts-in-Some.parts
+            (names_of packs) levels2
+            (omega (arith, c.walk.invariant.walked.2, c.if-budget-eq0.true))
+            (subst (λ n. Continues (visits shop threshold first last) c.walk.invariant.walked.0 (met_with shop threshold
+            (names_of packs) n first last levels2 (visits shop threshold (first_of first levels2) (last_of last levels2))))
+            (sym all)
+            (subst (λ ls. Continues (visits shop threshold first last) c.walk.invariant.walked.0 (met_with shop threshold
+            (names_of packs) c.args.left first last ls (visits shop threshold (first_of first ls) (last_of last ls))))
+            (sym pushed) continues))
+            (subst (λ ls. end_bound shop (first_of first ls) (last_of last ls) < threshold) (sym pushed)
+            (lists-push (λ f l. end_bound shop f l < threshold) first last levels here opened.below))
+            (subst (λ ls. 0 < length (jobs_left shop.jobs (first_of first ls ++ last_of last ls))) (sym pushed)
+            (lists-push (λ f l. 0 < length (jobs_left shop.jobs (f ++ l))) first last levels here (omega (
+              arith,
+              stands.is_here.count,
+              count-child shop.jobs here.end (first_of first levels) (last_of last levels) here.job opened.is_job.0
+                  opened.is_job.1 opened.left,
+              c.walk.invariant.left,
+              c.walk.invariant.some,
+              c.if-left-eq0.false,
+            ))))
+            (c.in_ok-parts-in-Some.ensures.parts shop threshold first last c.walk.invariant.tree below)
+            (c.in_ok-parts-in-Some.ensures.each shop threshold first last c.walk.invariant.tree below are)
+            (omega (
+              arith,
+              c.in_ok-parts-in-Some.ensures.count,
+              ap length pushed,
+              length-append levels (here ∷ []),
+              at.count,
+              c.walk.invariant.left,
+              c.walk.invariant.some,
+              c.if-left-eq0.false,
+            )),
+      );
 }
 
 -- the child is searched next
 next : (g : Over) (c : After-put g) (first last : List ℕ) →
     Stands g.V.Vector.list g.V.Vector.CAP g.V.Vector.WIDTH c.args.instance.now c.args.terms.threshold first last c.args.left
-    c.walk.directions.items c.walk.lists c.walk.tree.packs.items c.walk.tree.nodes.items c.walk.levels.items
+    c.walk.invariant.walked.0 c.walk.lists c.walk.tree.packs.items c.walk.tree.nodes.items c.walk.levels.items
     c.walk.here →
     IsNext g.V.Vector.list g.V.Vector.CAP g.V.Vector.WIDTH c.args.instance.now c.args.terms.threshold
     c.walk.tree.packs.items c.walk.tree.nodes.items (c.walk.left - 1 + 1) (first_of first c.walk.levels.items)
@@ -404,7 +423,7 @@ next g c first last stands =
     (first_of first levels) (last_of last levels) c.in-Some.place c.next.new.self) more
     (turn-next g.V.Vector.list g.V.Vector.CAP g.V.Vector.WIDTH c.args.instance.now c.args.terms.threshold first last
     c.args.left
-    c.walk.directions.items c.walk.lists packs nodes levels c.walk.here c.next.new.self c.in-Some.place stands
+    c.walk.invariant.walked.0 c.walk.lists packs nodes levels c.walk.here c.next.new.self c.in-Some.place stands
     (turn g some) size)
 
 pub go-requires-clause-at : goal.go-requires-clause-at
@@ -414,8 +433,13 @@ go-requires-clause-at g c =
       first_of at.0 c.walk.levels.items,
       last_of at.1 c.walk.levels.items,
       c.walk.invariant.tree,
-      next g (goal.at.go-requires-clause-at g c).After-put at.0 at.1 (c.walk.invariant.stands at.0 at.1 at.2 at.3),
+      next g (goal.at.go-requires-clause-at g c).After-put at.0 at.1 (c.walk.invariant.walked.3 at.0 at.1 at.2 at.3),
     )
+
+pub add-requires-in-Some : goal.add-requires-in-Some
+add-requires-in-Some g c =
+    let walked = c.walk.invariant.walked in
+    (walked.0, walked.1, omega (arith, walked.2, c.if-budget-eq0.false))
 
 pub walk-preserved : goal.walk-preserved
 walk-preserved g c =
@@ -430,14 +454,12 @@ walk-preserved g c =
     let made = c.in_ok-go-in-Some.ensures in
     let parent = made.above_it.0 in
     let child = c.go.new.here in
-    let text = c.walk.directions.items in
-    let text2 = c.push-in-Some.new.self.items in
     let inv = c.walk.invariant in
+    let text = inv.walked.0 in
+    let text2 : List ℕ = text ++ sign child.end ∷ [] in
     let put = (goal.at.walk-preserved g c).After-put in
     let some = (goal.at.After-put g put).In-Some in
     let pushed : levels2 ≡ levels ++ parent ∷ [] = made.above_it.1 in
-    let written : text2 ≡ text ++ sign child.end ∷ [] =
-    c.in_ok-push-in-Some-2.ensures.items ∙ ap (λ s. text ++ s ∷ []) c.sign_of-in-Some.ensures in
     let more : c.walk.left - 1 + 1 ≡ c.args.left - length levels = omega (arith, inv.left, inv.some) in
     let less : c.walk.left - 1 ≡ c.args.left - length levels - 1 = omega (arith, inv.left, inv.some) in
     record {
@@ -446,36 +468,32 @@ walk-preserved g c =
       left = omega (arith, inv.left, inv.some, ap length pushed, length-append levels (parent ∷ []));
       some = omega (arith, c.if-left-eq0.false);
       room = made.room;
-      within = omega (
-        arith,
-        ap length written,
-        length-append text (sign child.end ∷ []),
-        c.if-len-terms.false,
-        c.len.ensures,
-        c.walk.directions.ok.0,
+      walked = (
+        text2,
+        c.in_ok-add-in-Some.ensures text inv.walked.1,
+        omega (arith, length-append text (sign child.end ∷ []), inv.walked.2, c.if-budget-eq0.false),
+        λ first last are at.
+            let stands = inv.walked.3 first last are at in
+            let begin : List ℕ = first_of first levels in
+            let behind : List ℕ = last_of last levels in
+            let here = c.next.new.self in
+            let is_next = next g put first last stands in
+            subst (λ ls. Stands g.V.Vector.list g.V.Vector.CAP g.V.Vector.WIDTH shop threshold first last c.args.left text2
+            c.put.new.self packs2 nodes2 ls child) (sym pushed)
+            (turn-down g.V.Vector.list g.V.Vector.CAP g.V.Vector.WIDTH shop threshold first last c.args.left text c.walk.lists
+            packs nodes levels c.walk.here here c.in-Some.place stands (turn g some) packs2 nodes2 c.put.new.self parent
+            child
+            made.count
+            (omega (arith, c.requires.few, inv.packs))
+            (omega (arith, inv.left, inv.some, c.if-left-eq0.false))
+            (λ n none least. made.others n none (omega (arith, least, less)))
+            made.above made.above_it.2 made.above_it.3 made.above_it.4 made.above_it.5
+            (subst (λ n. IsLevel g.V.Vector.list g.V.Vector.CAP g.V.Vector.WIDTH shop threshold packs2 nodes2 n begin behind
+            parent) more (made.above_it.6 threshold begin behind inv.tree is_next))
+            (subst (λ n. IsBegun g.V.Vector.list g.V.Vector.CAP g.V.Vector.WIDTH shop threshold packs2 nodes2 n
+            (first_with here.end begin here.job) (last_with here.end behind here.job) child) less
+            (made.level threshold begin behind inv.tree is_next))
+            made.behind
+            (c.put.ensures shop.jobs begin behind stands.has_lists)),
       );
-      stands = λ first last are at.
-          let stands = inv.stands first last are at in
-          let begin : List ℕ = first_of first levels in
-          let behind : List ℕ = last_of last levels in
-          let here = c.next.new.self in
-          let is_next = next g put first last stands in
-          subst (λ ls. Stands g.V.Vector.list g.V.Vector.CAP g.V.Vector.WIDTH shop threshold first last c.args.left text2
-          c.put.new.self packs2 nodes2 ls child) (sym pushed)
-          (turn-down g.V.Vector.list g.V.Vector.CAP g.V.Vector.WIDTH shop threshold first last c.args.left text c.walk.lists
-          packs nodes levels c.walk.here here c.in-Some.place stands (turn g some) packs2 nodes2 c.put.new.self parent
-          child
-          made.count
-          (omega (arith, c.requires.few, inv.packs))
-          (omega (arith, inv.left, inv.some, c.if-left-eq0.false))
-          (λ n none least. made.others n none (omega (arith, least, less)))
-          made.above made.above_it.2 made.above_it.3 made.above_it.4 made.above_it.5
-          (subst (λ n. IsLevel g.V.Vector.list g.V.Vector.CAP g.V.Vector.WIDTH shop threshold packs2 nodes2 n begin behind
-          parent) more (made.above_it.6 threshold begin behind inv.tree is_next))
-          (subst (λ n. IsBegun g.V.Vector.list g.V.Vector.CAP g.V.Vector.WIDTH shop threshold packs2 nodes2 n
-          (first_with here.end begin here.job) (last_with here.end behind here.job) child) less
-          (made.level threshold begin behind inv.tree is_next))
-          made.behind
-          (c.put.ensures shop.jobs begin behind stands.has_lists)
-          text2 written);
     }

@@ -1,14 +1,16 @@
 use Rattle.std.proofs.Common.{◌∷◌, ap, sym, ◌∙◌, subst, arith}
 use Rattle.flow_shop.specs.Directions.{first_with, last_with}
 use Rattle.flow_directions.specs.Search.{part_visits}
-use Rattle.flow_workers.specs.internal.Pieces.{behind, met, pieces_met}
+use Rattle.flow_parts.specs.Meanings.{behind}
+use Rattle.flow_workers.specs.internal.Pieces.{Reading, kept_met, pieces_met, reading_of}
 use Rattle.flow_workers.specs.internal.Taken.{IsNodeOf}
 use Rattle.flow_workers.specs.declared.piece.Piece.TheVariants.{Left}
 use Rattle.flow_workers.proofs.PieceSteps.{children-met, first-and-others}
 use Rattle.flow_workers.proofs.deal.take_first.Goals as goal
 
 pub returns : goal.returns
-returns c shop threshold =
+returns g c sought =
+    let reading : Reading g.row.K.Denot = reading_of g.K.Kept.text g.K.Kept.mark sought in
     let rest = c.pop_front.new.self.items in
     let end = c.in-Left-Children.end in
     let first = c.in-Left-Children.first in
@@ -21,10 +23,10 @@ returns c shop threshold =
     c.as_slice.ensures.value
     (subst (λ xs. IsNodeOf (first_with end c.as_slice.result.now job) (last_with end xs job) node)
     c.as_slice-2.ensures.value c.in_ok-node.ensures) in
-    ap (λ xs. behind (met (part_visits shop threshold node)) (pieces_met shop threshold xs))
+    ap (λ xs. behind (kept_met reading.mark (part_visits reading.shop reading.threshold node)) (pieces_met reading xs))
     c.in_ok-push_front.ensures.items
-    ∙ children-met shop threshold end first last jobs others job node rest is
+    ∙ children-met reading end first last jobs others job node rest is
     (first-and-others jobs.items others.items job (omega (arith, c.remove-job.ensures.len)) c.remove-job.ensures.value
     c.remove-job.ensures.items)
-    ∙ sym (ap (pieces_met shop threshold) c.in-Some.ensures.items
-    ∙ ap (λ p. pieces_met shop threshold (p ∷ rest)) (c.in-Left-Children.is ∙ ap Left c.in-Left-Children.field-0-is))
+    ∙ sym (ap (pieces_met reading) c.in-Some.ensures.items
+    ∙ ap (λ p. pieces_met reading (p ∷ rest)) (c.in-Left-Children.is ∙ ap Left c.in-Left-Children.field-0-is))

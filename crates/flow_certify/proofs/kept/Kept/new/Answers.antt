@@ -1,5 +1,5 @@
 use Rattle.std.proofs.Common.{rules}
-use Rattle.flow_certify.proofs.Empty.{proves-bound}
+use Rattle.flow_certify.proofs.Empty.{proves-bound, writes-none}
 use Rattle.flow_certify.proofs.kept.Kept.new.Goals as goal
 
 pub returns-clause-proved : goal.returns-clause-proved
@@ -9,5 +9,6 @@ returns-clause-proved c = record {
   before = search rules;
   attained = search rules;
   proved = rw (c.new.ensures.lower, c.new-2.ensures.items) (proves-bound c.args.instance.now);
+  searched = rw (c.new.ensures.lower, c.new-2.ensures.items) (writes-none c.args.instance.now);
   few = search rules;
 }
