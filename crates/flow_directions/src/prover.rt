@@ -27,7 +27,7 @@ pub enum News {
 pub trait Prover {
     ghost use Rattle.std.specs.Prelude.{[], IfOk, IfSome};
     ghost use Rattle.flow_directions.specs.News.{MayBeTold};
-    ghost use Rattle.flow_directions.specs.Search.{IsFound, Shows};
+    ghost use Rattle.flow_directions.specs.Search.{IsCounted, IsFound, Shows};
 
     // What has to hold where it searches.
     ghost is_ready: { Self → Type 0 };
@@ -46,6 +46,19 @@ pub trait Prover {
         ensures found { IfOk result (λ found. IfSome found (λ found.
             IsFound instance.now threshold budget [] [] found)) }
         ensures shown { IfOk result (λ found. IfSome found (λ found. Shows instance.now threshold [] [] found)) };
+
+    /// Searches as `prove` does, and counts the directions instead of writing them. Returns none where the time was
+    /// over before it was found. The fault is that memory ran out.
+    fn count_directions(
+        &self,
+        alloc: Global,
+        instance: &Instance,
+        threshold: u64,
+        budget: u64,
+    ) -> Result<Option<Counted>, AllocError>
+        requires { is_ready self.now }
+        ensures counted { IfOk result (λ found. IfSome found (λ found.
+            IsCounted instance.now threshold budget [] [] found)) };
 
     /// Whether the time of the run is limited.
     fn is_limited(&self) -> bool;
@@ -99,6 +112,16 @@ impl Prover for Alone {
             // Two empty lists are a node, so a fault is that memory ran out.
             Err(_) => Err(AllocError),
         }
+    }
+
+    fn count_directions(
+        &self,
+        alloc: Global,
+        instance: &Instance,
+        threshold: u64,
+        budget: u64,
+    ) -> Result<Option<Counted>, AllocError> {
+        Ok(Some(Alone.count(alloc, instance, threshold, budget)?))
     }
 
     fn is_limited(&self) -> bool {
