@@ -1,5 +1,4 @@
-use Rattle.std.proofs.Common.{rules, ap, length, ◌∙◌, sym, subst}
-use Rattle.flow_certify.specs.Searched.{Keeps}
+use Rattle.std.proofs.Common.{rules}
 use Rattle.flow_certify.proofs.Shown.{reaches-none, writes-none}
 use Rattle.flow_certify.proofs.kept.Kept.new.Goals as goal
 
@@ -12,6 +11,6 @@ returns-clause-proved c =
       before = search rules;
       attained = search rules;
       searched = rw (c.new.ensures.lower) (reaches-none shop);
-      keeps = rw (c.new.ensures.lower, writes-none shop) c.none-proof.ensures.none;
+      keeps = rw (c.new.ensures.lower, writes-none shop) c.none.ensures.none;
       few = rw (c.new.ensures.lower, writes-none shop) (search rules);
     }
