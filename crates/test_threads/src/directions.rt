@@ -133,9 +133,9 @@ fn within(length: u64, budget: u64) -> Counted {
     }
 }
 
-/// Whether so many workers count these directions, with a budget of as many and of any number, and below the next number
-/// what one thread counts, and tell a watch of all directions. With a budget of one less, or of none, they are over it.
-/// For a run they count the same, watched or not.
+/// Whether so many workers count these directions, with a budget of as many and of any number, and below the next
+/// number what one thread counts, and tell a watch of all directions. With a budget of one less, or of none, they are
+/// over it. For a run they count the same, watched or not.
 fn is_counted<R: Threads + Sync>(rt: &R, alloc: Global, row: &Published, workers: usize) -> bool {
     let (jobs, machines, seed, number, length, _) = *row;
     let Ok(instance) = generate(alloc, jobs, machines, seed) else {
