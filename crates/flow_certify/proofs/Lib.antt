@@ -1,2 +1,2 @@
-mod Empty
 mod OneNext
+mod Shown

@@ -1,7 +1,7 @@
 -- How many directions the searches of `certify` may write. Names in capitals are constants of the code.
 use Rattle.std.specs.Prelude.{ℕ, ◌+◌, ◌-◌, ◌*◌, ◌/◌, ◌^◌, min, nat_le, ◌==◌, if◌then◌else◌}
 use Rattle.flow_shop.specs.Shop.{Shop}
-use Rattle.flow_certify.specs.Signs.{most_signs}
+use Rattle.flow_certify.specs.Signs.{most_searched}
 use Rattle.flow_certify.specs.declared.budgets.Budget.{Budget}
 use Rattle.flow_certify.specs.declared.budgets.Budget.TheVariants.{Of, Most, Tenth, Thirtieth, First}
 use Rattle.flow_certify.specs.declared.budgets.Fund.{Fund}
@@ -20,12 +20,12 @@ cost shop makespan = (shop.jobs * shop.machines + FIXED) * (if nat_le makespan 6
 abbrev pub all_directions : Shop → ℕ → ℕ → ℕ
 all_directions shop makespan limit = limit * SHARE / cost shop makespan
 
--- the fund of a run at its beginning: one search may write the least of the limit, what `check` reads, and four fifths
--- of what all may write; half of what all may write is kept; and a search costs a third of the square of the jobs beside
--- its directions
+-- the fund of a run at its beginning: one search may write no more than the limit lets it, and four fifths of what all
+-- may write; half of what all may write is kept; and a search costs a third of the square of the jobs beside its
+-- directions
 abbrev pub first_fund : Shop → ℕ → ℕ → Fund
 first_fund shop makespan limit = record {
-  most = min (min limit most_signs) (all_directions shop makespan limit - all_directions shop makespan limit / 5);
+  most = min (most_searched limit) (all_directions shop makespan limit - all_directions shop makespan limit / 5);
   left = all_directions shop makespan limit - all_directions shop makespan limit / 2;
   kept = all_directions shop makespan limit / 2;
   entry = shop.jobs * shop.jobs / 3;

@@ -1,9 +1,10 @@
 //! The budgets of the searches for a certificate: how many directions each may write, and all of them together.
 
-ghost use Rattle.std.specs.Prelude.{◌≡◌, ◌≤◌, min};
+ghost use Rattle.std.specs.Prelude.{◌≡◌, ◌≤◌};
 ghost use Rattle.flow_certify.specs.Funds.{charged, first_fund, granted, released};
-ghost use Rattle.flow_certify.specs.Signs.{most_signs};
+ghost use Rattle.flow_certify.specs.Signs.{most_searched};
 
+use crate::most::MostDirections;
 use flow_nodes::fits_narrow_lanes;
 use flow_shop::Instance;
 
@@ -21,9 +22,6 @@ pub(crate) enum Budget {
     /// The first one with which the proved number is raised: a tenth of the greatest, and no more than 10,000.
     First,
 }
-
-/// The most directions that fit, with the other lines of a two-ended certificate, into the text that `check` reads.
-const MOST_SIGNS: u64 = 999_990_000;
 
 /// All searches together may write this many times the caller's limit of directions, divided by what a direction costs.
 const SHARE: u64 = 850;
@@ -48,11 +46,11 @@ pub struct Fund {
 }
 
 impl Fund {
-    /// What searches may write, where the caller's limit is `directions`, and `makespan` is that of the start. One
-    /// search may write the least of three numbers: the limit, what `check` reads, and four fifths of what all may.
-    pub(crate) fn new(instance: &Instance, makespan: u64, directions: u32) -> Fund
-        ensures fund { result ≡ first_fund instance.now makespan directions }
-        ensures most { result.most ≤ min directions most_signs }
+    /// What searches may write, where `limit` is the caller's, and `makespan` is that of the start. One search may
+    /// write no more than the limit lets it, and four fifths of what all may.
+    pub(crate) fn new(instance: &Instance, makespan: u64, limit: MostDirections) -> Fund
+        ensures fund { result ≡ first_fund instance.now makespan limit }
+        ensures most { result.most ≤ most_searched limit }
     {
         let jobs = u64::from(instance.jobs());
         let narrow = jobs * u64::from(instance.machines()) + FIXED;
@@ -61,9 +59,9 @@ impl Fund {
         } else {
             narrow * 2
         };
-        let all = u64::from(directions) * SHARE / cost;
+        let all = limit.count() * SHARE / cost;
         Fund {
-            most: u64::from(directions).min(MOST_SIGNS).min(all - all / 5),
+            most: limit.searched().min(all - all / 5),
             left: all - all / 2,
             kept: all / 2,
             entry: jobs * jobs / 3,

@@ -1,21 +1,22 @@
 //! What a run of `certify` keeps, and how it does its tasks.
 
-ghost use Rattle.std.specs.Prelude.{◌≡◌, ◌≤◌, ◌-◌, min, true, [], length, IfOk};
+ghost use Rattle.std.specs.Prelude.{◌≡◌, ◌≤◌, ◌-◌, true, [], length, IfOk};
 ghost use Rattle.flow_shop.specs.Shop.{Shop};
 ghost use Rattle.flow_shop.specs.Paths.{span};
 ghost use Rattle.flow_shop.specs.Ends.{end_bound};
 ghost use Rattle.flow_shop.specs.Sequences.{IsSequence};
-ghost use Rattle.flow_certify.specs.Signs.{most_signs};
+ghost use Rattle.flow_certify.specs.Searched.{has_signs};
+ghost use Rattle.flow_certify.specs.Signs.{most_searched};
 ghost use Rattle.flow_certify.specs.Tasks.{IsAsked, may_become};
 ghost use Rattle.flow_certify.specs.declared.task.Task.TheVariants.{Search};
 ghost use Rattle.flow_certify.specs.declared.task.Answer.TheVariants as answer;
 ghost use Rattle.flow_certify.specs.internal.Keeping.{IsLater, IsProved};
 
-use crate::most::MostDirections;
+use crate::proof::{Outcome, Proof, ProofLimits, search};
 use crate::run::Run;
 use crate::shared::Shared;
 use crate::task::{Answer, Origin, Task};
-use flow_directions::{Found, News, Prover};
+use flow_directions::{News, Prover};
 use flow_improve::{Reached, beam_until, rounds_from};
 use flow_shop::{Instance, Sequence};
 use std::alloc::{AllocError, Global};
@@ -32,8 +33,8 @@ pub(crate) struct Kept {
     pub(crate) best: Sequence,
     /// The sequence that was the best before this one.
     before: Sequence,
-    /// The directions that prove the lower bound.
-    pub(crate) directions: Vec<u8>,
+    /// The directions that prove the lower bound, or how many they are.
+    pub(crate) proof: Proof,
 }
 
 impl Kept {
@@ -42,21 +43,22 @@ impl Kept {
         alloc: Global,
         instance: &Instance,
         start: &Sequence,
-        most: MostDirections,
+        limits: ProofLimits,
         is_limited: bool,
     ) -> Result<Kept, AllocError>
         requires { length start.now ≡ instance.now.jobs }
         ensures proved { IfOk result (IsProved instance.now) }
         ensures lower { IfOk result (λ kept. kept.run.lower ≡ end_bound instance.now [] []) }
         ensures upper { IfOk result (λ kept. kept.run.upper ≡ span instance.now start.now) }
-        ensures most { IfOk result (λ kept. kept.run.fund.most ≤ min most most_signs) }
+        ensures most { IfOk result (λ kept. kept.run.fund.most ≤ most_searched limits.most) }
+        ensures form { IfOk result (λ kept. has_signs kept.proof ≡ limits.keeps_signs) }
     {
         Ok(Kept {
-            run: Run::new(instance, start, most, is_limited),
+            run: Run::new(instance, start, limits.most, is_limited),
             start: Sequence::of_known(alloc, start.jobs())?,
             best: Sequence::of_known(alloc, start.jobs())?,
             before: Sequence::of_known(alloc, start.jobs())?,
-            directions: Vec::new(alloc),
+            proof: Proof::none(alloc, limits.keeps_signs),
         })
     }
 
@@ -128,24 +130,20 @@ impl Kept {
         ensures later { IsLater shared.now.instance.now self.old self.new }
         ensures tasks { IfOk result (λ goes_on. goes_on ≡ true → self.new.run.tasks ≡ self.old.run.tasks - 1) }
     {
-        let found = shared
-            .prover
-            .prove(shared.alloc, shared.instance, threshold, budget)?;
-        match found {
-            None => return Ok(false),
-            Some(Found::Proved(directions)) => {
-                let count = directions.len() as u64;
-                self.run
-                    .answered(task, &Answer::Proved { directions: count });
-                self.directions = directions;
+        let Some(outcome) = search(shared, self.proof.has_signs(), threshold, budget)? else {
+            return Ok(false);
+        };
+        match outcome {
+            Outcome::Proved(proof) => {
+                let directions = proof.directions();
+                self.run.answered(task, &Answer::Proved { directions });
+                self.proof = proof;
             }
-            Some(
-                Found::Below {
-                    sequence,
-                    makespan,
-                    directions,
-                },
-            ) => {
+            Outcome::Below {
+                sequence,
+                makespan,
+                directions,
+            } => {
                 self.run.answered(
                     task,
                     &Answer::Below {
@@ -155,7 +153,7 @@ impl Kept {
                 );
                 self.become_better(sequence);
             }
-            Some(Found::Over) => {
+            Outcome::Over => {
                 self.run.answered(task, &Answer::Over);
             }
         }
@@ -184,7 +182,7 @@ impl Kept {
         ensures before { self.new.before ≡ self.old.best }
         ensures run { self.new.run ≡ self.old.run }
         ensures start { self.new.start ≡ self.old.start }
-        ensures directions { self.new.directions ≡ self.old.directions }
+        ensures proof { self.new.proof ≡ self.old.proof }
     {
         self.before = mem::replace(&mut self.best, sequence);
     }

@@ -2,15 +2,21 @@
 
 ghost use Rattle.std.specs.Prelude.{◌≡◌, true};
 ghost use Rattle.std.specs.Option.{SomeIff};
-ghost use Rattle.flow_certify.specs.Signs.{may_be_most};
+ghost use Rattle.flow_certify.specs.Signs.{may_be_most, most_searched};
 
 use flow_limits::MAX_DIRECTIONS;
 use std::marker::Model;
 
-/// The limit that a caller sets on the directions of a certificate: a number in `1..=MAX_DIRECTIONS`.
+/// The greatest limit on the directions of a certificate. Those of a limit above `MAX_DIRECTIONS` are only counted.
+pub const MAX_COUNTED_DIRECTIONS: u64 = 1_000_000_000_000_000;
+
+/// The most directions that fit, with the other lines of a two-ended certificate, into the text that `check` reads.
+const MOST_SIGNS: u64 = 999_990_000;
+
+/// The limit that a caller sets on the directions of a certificate: a number in `1..=MAX_COUNTED_DIRECTIONS`.
 #[derive(Clone, Copy)]
 pub struct MostDirections {
-    count: u32,
+    count: u64,
 }
 
 impl Model for MostDirections {
@@ -27,20 +33,31 @@ impl Model for MostDirections {
 }
 
 impl MostDirections {
-    /// A limit of so many; `None` where that is not in `1..=MAX_DIRECTIONS`.
-    pub fn new(count: u32) -> Option<MostDirections>
+    /// A limit of so many; `None` where that is not in `1..=MAX_COUNTED_DIRECTIONS`.
+    pub fn new(count: u64) -> Option<MostDirections>
         ensures { SomeIff result (may_be_most count ≡ true) count }
     {
-        if count < 1 || count > MAX_DIRECTIONS {
+        if count < 1 || count > MAX_COUNTED_DIRECTIONS {
             return None;
         }
         Some(MostDirections { count })
     }
 
     /// How many directions it allows.
-    pub(crate) fn count(&self) -> u32
+    pub(crate) fn count(&self) -> u64
         ensures { result ≡ self.now }
     {
         self.count
+    }
+
+    /// How many directions one search may write: up to `MAX_DIRECTIONS` no more than `check` reads as signs.
+    pub(crate) fn searched(&self) -> u64
+        ensures { result ≡ most_searched self.now }
+    {
+        if self.count <= u64::from(MAX_DIRECTIONS) {
+            self.count.min(MOST_SIGNS)
+        } else {
+            self.count
+        }
     }
 }

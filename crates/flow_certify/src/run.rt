@@ -1,6 +1,6 @@
 //! A run of `certify`, as numbers: which task is next, and what an answer changes.
 
-ghost use Rattle.std.specs.Prelude.{◌≡◌, ◌↔◌, ◌<◌, ◌≤◌, min, cond, true, false, None, [], length};
+ghost use Rattle.std.specs.Prelude.{◌≡◌, ◌↔◌, ◌<◌, ◌≤◌, cond, true, false, None, [], length};
 ghost use Rattle.std.specs.Prelude.{◌&&◌, IfSome, IsSome, IsSomeAnd, IsTrue, if◌then◌else◌};
 ghost use Rattle.flow_shop.specs.Paths.{span};
 ghost use Rattle.flow_shop.specs.Ends.{end_bound};
@@ -8,7 +8,7 @@ ghost use Rattle.flow_bound.specs.Taillard.{taillard_bound};
 ghost use Rattle.flow_certify.specs.Schedule.{IsNext, act_at_hand, asked_of, beam_made, beam_of, first_run, halved};
 ghost use Rattle.flow_certify.specs.Schedule.{improved, passed, raised, ran_over, rounds_of, run_after, search_of};
 ghost use Rattle.flow_certify.specs.Schedule.{went_on};
-ghost use Rattle.flow_certify.specs.Signs.{most_signs};
+ghost use Rattle.flow_certify.specs.Signs.{most_searched};
 ghost use Rattle.flow_certify.specs.declared.task.Task.TheVariants.{End};
 ghost use Rattle.flow_certify.specs.Tasks.{acts, IsAnswered, IsAsked, HasSameBounds, may_ask, may_become};
 
@@ -33,7 +33,7 @@ const MOST_TASKS: u32 = 1_000_000_000;
 
 /// Where a run stands. It is numbers alone: it can be copied, kept in a file, and gone on with. `next` says what is to
 /// be done, `put` takes what became of it. Who does so keeps three sequences, the start, the best one and the one that
-/// was the best before it, and the directions that proved the lower bound.
+/// was the best before it, and the directions that proved the lower bound, or how many they are.
 #[repr(C)]
 #[derive(Clone, Copy, Debug)]
 pub struct Run {
@@ -77,7 +77,7 @@ impl Run {
         ensures lower { result.lower ≡ end_bound instance.now [] [] }
         ensures upper { result.upper ≡ span instance.now start.now }
         ensures least { result.least ≡ taillard_bound instance.now }
-        ensures most { result.fund.most ≤ min most most_signs }
+        ensures most { result.fund.most ≤ most_searched most }
         ensures limited { result.limited ≡ cond limited 1 0 }
     {
         let upper = makespan(instance, start);
@@ -89,7 +89,7 @@ impl Run {
             upper,
             least,
             start: upper,
-            fund: Fund::new(instance, upper, most.count()),
+            fund: Fund::new(instance, upper, most),
             over: 0,
             step_lower: lower,
             step_upper: upper,

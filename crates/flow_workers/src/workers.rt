@@ -220,6 +220,24 @@ pub fn prove_by<R: Threads + Sync, W: Watch>(
     }
 }
 
+/// Counts directions with so many workers on threads. Where the search may be given up, none is returned where the time
+/// was over before anything was found.
+fn counted<R: Threads + Sync, W: Watch>(
+    workers: &Workers<R, W>,
+    sought: &Sought,
+    budget: u64,
+    gives_up: bool,
+) -> Result<Option<Counted>, AllocError>
+    ensures counted { IfOk result (λ found. IfSome found (λ found.
+        IsCounted sought.now.instance.now sought.now.threshold budget [] [] found)) }
+    ensures none { IfOk result (λ found. IsNone found → gives_up ≡ true) }
+{
+    match search_by::<u64, R, W>(workers, sought, budget, gives_up)? {
+        None => Ok(None),
+        Some(ended) => Ok(Some(counted_of(ended))),
+    }
+}
+
 /// Counts the directions that prove that no sequence of an instance has a makespan below a threshold, with so many
 /// workers on threads. What is found is what `count` finds of the node of two empty lists: it is the same for any
 /// number of workers, however they take turns. No signs are kept. It is never given up; the watch is told of the
@@ -238,9 +256,9 @@ pub fn count_by<R: Threads + Sync, W: Watch>(
         instance,
         threshold,
     };
-    match search_by::<u64, R, W>(workers, &sought, budget, false)? {
+    match counted(workers, &sought, budget, false)? {
         None => unreachable!(),
-        Some(ended) => Ok(counted_of(ended)),
+        Some(found) => Ok(found),
     }
 }
 
@@ -255,6 +273,14 @@ pub struct Workers<'a, R, W> {
     pub watch: &'a W,
 }
 
+impl<'a, R: Threads + Sync, W: Watch> Workers<'a, R, W> {
+    /// Whether a run searches as one thread does: one worker, of whose directions nobody is told, and with no limit on
+    /// its time.
+    fn is_alone(&self) -> bool {
+        self.count <= 1 && !self.watch.is_on() && !self.watch.is_limited()
+    }
+}
+
 impl<'a, R: Threads + Sync, W: Watch> Prover for Workers<'a, R, W> {
     // Threads may share what starts them.
     ghost is_ready = { λ _. IsSync R.row };
@@ -266,10 +292,28 @@ impl<'a, R: Threads + Sync, W: Watch> Prover for Workers<'a, R, W> {
         threshold: u64,
         budget: u64,
     ) -> Result<Option<Found>, AllocError> {
-        if self.count <= 1 && !self.watch.is_on() && !self.watch.is_limited() {
+        if self.is_alone() {
             return Alone.prove(alloc, instance, threshold, budget);
         }
         prove_by(self, alloc, instance, threshold, budget)
+    }
+
+    fn count_directions(
+        &self,
+        alloc: Global,
+        instance: &Instance,
+        threshold: u64,
+        budget: u64,
+    ) -> Result<Option<Counted>, AllocError> {
+        if self.is_alone() {
+            return Alone.count_directions(alloc, instance, threshold, budget);
+        }
+        let sought = Sought {
+            alloc,
+            instance,
+            threshold,
+        };
+        counted(self, &sought, budget, true)
     }
 
     fn tell(&self, instance: &Instance, news: News) {
