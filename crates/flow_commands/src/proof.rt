@@ -32,8 +32,7 @@ pub(crate) fn writes_signs(form: ProofForm, most: u64, directions: u64) -> bool
 {
     match form {
         ProofForm::ByLength => keeps_signs(form, most) && directions <= MOST_UNASKED,
-        ProofForm::Signs => true,
-        ProofForm::Count => false,
+        ProofForm::Signs | ProofForm::Count => keeps_signs(form, most),
     }
 }
 
