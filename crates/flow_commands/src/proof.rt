@@ -45,10 +45,7 @@ pub(crate) fn limits_of(form: ProofForm, most: u64) -> Result<ProofLimits, Comma
     ensures device { NamesNoDevice result }
 {
     let (greatest, fault) = match form {
-        ProofForm::Signs => (
-            u64::from(MAX_DIRECTIONS),
-            CommandFault::SignedDirections,
-        ),
+        ProofForm::Signs => (u64::from(MAX_DIRECTIONS), CommandFault::SignedDirections),
         ProofForm::ByLength | ProofForm::Count => {
             (MAX_COUNTED_DIRECTIONS, CommandFault::Directions)
         }

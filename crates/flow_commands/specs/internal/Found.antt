@@ -24,7 +24,7 @@ found_directions shop found = directions_of shop found.lower [] []
 abbrev pub found_text : CertifyRequest → Shop → Certified → List ℕ
 found_text request shop found =
     proof_text (is_signed request (found_directions shop found)) shop (bounds_of found) found.sequence
-        (found_directions shop found)
+    (found_directions shop found)
 
 -- a lawful counted certificate shows this, and the search below its lower bound writes these directions, which prove it
 pub record SignsOf (shop : Shop) (bytes : List ℕ) (shown : Shown) (directions : List ℕ) : Type 0 where
