@@ -233,7 +233,17 @@ CASES["improve"] = [
 # search has one string of directions. That of 12 is read by hand in docs/formats.md.
 CASES["certify"] = [
     Run("certify three_machines.txt 1(| --start start| --rounds 0 --start start)", expected("two_ended")),
-    Run("certify three_machines.txt 1 --width 0 --rounds 0(| --directions 1000000000)", expected("two_ended")),
+    Run("certify three_machines.txt 1 --width 0 --rounds 0(| --directions 100000000| --directions 1000000000 "
+        "--proof signs)", expected("two_ended")),
+    # Where more directions are asked for, they are counted. As signs there are fewer, and the refusal says the range;
+    # the numbers of an improvement come before, and the workers behind.
+    Run("certify three_machines.txt 1 --directions (100000001|1000000001|1000000000000000)(| --workers 3)(| --proof "
+        "count)", expected("counted")),
+    Run("certify three_machines.txt 1 --directions (0|1000000000000001|18446744073709551615)(| --proof count)"
+        "(| --workers 0)", line="refused option Directions: 1 to 1000000000000000"),
+    Run("certify three_machines.txt 1 --proof signs --directions (0|1000000001|1000000000000001)(| --workers 0)",
+        line="refused option Directions: 1 to 1000000000 with --proof signs"),
+    Run("certify three_machines.txt 1 --directions 0(| --proof signs) --work 1000001", line="refused option Work"),
     # In no time there are the starting sequence, and the bound of the empty lists. With time enough this is proved.
     Run("certify three_machines.txt 1 --time-limit 0(| --workers 2)",
         text_of("two-ended 1", "3 3", "10 13", [2, 1, 3], "").decode()),
@@ -279,7 +289,8 @@ CASES["certify"] = [
     Run("check ones 1 (certified|bounds_of_ones)", "bounds 19 28\n"), Run("check ones 1 of_ones", "optimal 28\n"),
     # The same directions, counted. What one says becomes the other, and a check counts no more than it may.
     File("counted", of_ones(8, 28, 109_601, "counted 1")),
-    Run("certify ones 1 --width 0 --rounds 0 --proof count(| --workers 3)", of_ones(8, 28, 109_601, "counted 1")),
+    Run("certify ones 1 --width 0 --rounds 0 (--proof count|--directions 100000001|--directions 1000000000000000)"
+        "(| --workers 3)", of_ones(8, 28, 109_601, "counted 1")),
     Run("check ones 1 counted(| --most 109601| --optimal| --workers 1| --workers 3| --workers 64 --most 109601)",
         "optimal 28\n"),
     Run("signs ones 1 counted", of_ones(8, 28, 109_601)),
@@ -294,6 +305,9 @@ CASES["certify"] = [
     Run("check ones 1 counted --workers 3", line="refused certificate Low 5"),
     File("ones", ones(10)), File("of_ones", of_ones(10, 30, 9_864_101)),
     Run("certify ones 1 --width 0 --rounds 0(| --workers 4)", sha256(of_ones(10, 30, 9_864_101).encode()), view=sha256),
+    # A run that counts holds no signs: they are 10 MB.
+    Run("certify ones 1 --width 0 --rounds 0 (--proof count|--directions 1000000000000000)",
+        of_ones(10, 30, 9_864_101, "counted 1"), by='prlimit --data=8000000 "$@"'),
     Run("check ones 1 of_ones --optimal", "optimal 30\n"), File("ones", ones(13)),
     Run("certify ones 1 --width 0 --rounds 0 --directions 100000", "bounds 24 33\n", keep="certified",
         view=of_two_ended("ones")),

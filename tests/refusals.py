@@ -25,14 +25,14 @@ LIMITS = {
 }
 
 
-def wrong_numbers(options):
+def wrong_numbers(options, limits=LIMITS):
     """The name of the fault, and the options with which a call is refused that has these: each one below its least
     number and above its greatest one, and each with a wrong one behind it. In other options stands the greatest."""
     for place, name in enumerate(options):
-        least, most = LIMITS[name]
-        for number in {max(0, least - 1), most + 1, 2**32 - 1} - {least}:
+        least, most = limits[name]
+        for number in {max(0, least - 1), most + 1, max(most + 1, 2**32 - 1)} - {least}:
             for other in [None, *options[place + 1 :]]:
-                numbers = {each: LIMITS[each][1] + (each == other) for each in options}
+                numbers = {each: limits[each][1] + (each == other) for each in options}
                 yield name, {**numbers, name: number}
 
 

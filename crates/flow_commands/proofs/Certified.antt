@@ -1,6 +1,6 @@
 -- What `certify` answers: a lawful text that is short enough for `check`.
 use Rattle.std.proofs.Common.{◌≡◌, ◌≤◌, ◌<◌, ◌+◌, ◌*◌, ◌^◌, refl, ℕ, List, [], ◌∷◌, ◌++◌, length, min, arith}
-use Rattle.std.proofs.Common.{Bool, true, false, Option, None, Ok, decimal, length-append, append_assoc}
+use Rattle.std.proofs.Common.{Bool, true, false, Option, Some, None, Ok, decimal, length-append, append_assoc, rules}
 use Rattle.std.specs.List.{AllByRecursion}
 use Rattle.std.proofs.lemmas.Fmt.{length-decimal-le}
 use Rattle.std.proofs.lemmas.List.Elements.{recursion_from_All}
@@ -11,8 +11,9 @@ use Rattle.flow_core.specs.Sequences.{Extends, IsSequence}
 use Rattle.flow_core.specs.Shop.{Shop, IsWithinLimits}
 use Rattle.flow_core.specs.Directions.{Proves}
 use Rattle.flow_core.specs.Ends.{end_bound}
-use Rattle.flow_certify.specs.Signs.{most_signs}
-use Rattle.flow_certify.specs.Searched.{IsSearched}
+use Rattle.flow_directions.specs.Search.{first_below}
+use Rattle.flow_certify.specs.Signs.{most_counted, most_searched, most_signs}
+use Rattle.flow_certify.specs.declared.bounds.Certified.{Certified}
 use Rattle.flow_check.specs.Counted.{counted_title}
 use Rattle.flow_check.specs.FourLines.{sequence_lines, ShowsUpper}
 use Rattle.flow_check.specs.Kinds.{IsReadAs}
@@ -21,7 +22,11 @@ use Rattle.flow_check.specs.TextLines.{ending, line, spaced}
 use Rattle.flow_check.specs.TwoEnded.{two_ended_title}
 use Rattle.flow_check.specs.declared.bounds.Bounds.{Bounds}
 use Rattle.flow_requests.specs.declared.CertifyRequest.{CertifyRequest}
-use Rattle.flow_commands.specs.Certify.{AnswersCertify, Certifies, certify_fault, has_signs, proof_kind, proof_text}
+use Rattle.flow_requests.specs.declared.ProofForm.{ProofForm}
+use Rattle.flow_requests.specs.declared.ProofForm.TheVariants.{ByLength, Count, Signs}
+use Rattle.flow_commands.specs.Certify.{AnswersCertify, Certifies, certify_fault, directions_fault, is_signed}
+use Rattle.flow_commands.specs.Certify.{proof_kind, proof_text, writes_signs}
+use Rattle.flow_commands.specs.internal.Found.{bounds_of, found_directions, found_text}
 use Rattle.flow_commands.specs.Start.{StartsFrom}
 
 -- two numbers and a space
@@ -126,50 +131,68 @@ module _ (shop : Shop) (bounds : Bounds) (jobs directions : List ℕ) where
   upper-of true gives = gives.shows.upper
   upper-of false gives = gives.shows.upper
 
-  -- it is short enough
-  short-as : (signed : Bool) → IsWithinLimits shop → ShowsUpper shop bounds jobs → length directions ≤ most_signs →
+  -- it is short enough, with as many signs as `check` reads, or with a count of at most 16 digits
+  short-as : (signed : Bool) → IsWithinLimits shop → ShowsUpper shop bounds jobs →
+      (signed ≡ true → length directions ≤ most_signs) → length directions ≤ most_counted →
       length (proof_text signed shop bounds jobs directions) ≤ most_certificate
-  short-as true limits shows few =
-      text-short two_ended_title shop bounds jobs directions (omega arith) limits shows few
-  short-as false limits shows few =
-      let digits : length (decimal (length directions)) ≤ 9 =
-      length-decimal-le 9 (length directions) (omega arith) (omega (arith, few)) (omega (arith, few)) in
+  short-as true limits shows few within =
+      text-short two_ended_title shop bounds jobs directions (omega arith) limits shows (few refl)
+  short-as false limits shows few within =
+      let digits : length (decimal (length directions)) ≤ 16 =
+      length-decimal-le 16 (length directions) (omega arith) (omega (arith, within)) (omega (arith, within)) in
       text-short counted_title shop bounds jobs (decimal (length directions)) (omega arith) limits shows
       (omega (arith, digits))
 
+-- numbers that are accepted have a limit on directions that is
+of-directions : (request : CertifyRequest) → certify_fault request ≡ None →
+    directions_fault request.proof request.directions ≡ None
+of-directions request accepted = search rules
+
+-- with a limit that is accepted, signs that are written are no more than `check` reads, and a count has at most 16
+-- digits
+few-signs : (form : ProofForm) (most count : ℕ) → directions_fault form most ≡ None → count ≤ most_searched most →
+    writes_signs form most count ≡ true → count ≤ most_signs
+few-signs form most count accepted few signed = search rules
+
+few-counted : (form : ProofForm) (most count : ℕ) → directions_fault form most ≡ None → count ≤ most_searched most →
+    (count ≤ most) × (count ≤ most_counted)
+few-counted form most count accepted few = search rules
+
 -- where the numbers are accepted, the text of what a search finds from the sequence to start from is answered
 pub certified-answers : (request : CertifyRequest) (shop : Shop) (given : Option (List ℕ))
-    (start jobs directions : List ℕ) (bounds : Bounds) → certify_fault request ≡ None → IsWithinLimits shop →
-    StartsFrom shop given start → IsSequence shop.jobs jobs → span shop jobs ≡ bounds.upper →
-    bounds.upper ≤ span shop start → Proves shop bounds.lower directions → IsSearched shop bounds.lower directions →
-    end_bound shop [] [] ≤ bounds.lower → length directions ≤ min request.directions most_signs →
-    (IsSequence shop.jobs jobs → span shop jobs ≡ bounds.upper → Proves shop bounds.lower directions →
-    IsSearched shop bounds.lower directions →
-    GivesAs (proof_kind (has_signs request.proof (length directions))) shop
-    (proof_text (has_signs request.proof (length directions)) shop bounds jobs directions) bounds jobs) →
-    AnswersCertify request shop given
-    (Ok (proof_text (has_signs request.proof (length directions)) shop bounds jobs directions))
-certified-answers request shop given start jobs directions bounds accepted limits starts whole attained better proved
-    searched floor few lawful =
-    let signed = has_signs request.proof (length directions) in
-    let gives = lawful whole attained proved searched in
-    let most = request.directions in
-    let of_start : span shop jobs ≤ span shop start = omega (arith, attained, better) in
-    let within : length directions ≤ most = omega (arith, few, min-le_left most most_signs) in
-    let short : length directions ≤ most_signs = omega (arith, few, min-le_right most most_signs) in
-    let text : List ℕ = proof_text signed shop bounds jobs directions in
+    (start : List ℕ) (found : Certified) → certify_fault request ≡ None → IsWithinLimits shop →
+    StartsFrom shop given start → IsSequence shop.jobs found.sequence → span shop found.sequence ≡ found.upper →
+    found.upper ≤ span shop start → Proves shop found.lower (found_directions shop found) →
+    first_below shop found.lower [] [] ≡ None → end_bound shop [] [] ≤ found.lower →
+    length (found_directions shop found) ≤ most_searched request.directions →
+    (IsSequence shop.jobs found.sequence → span shop found.sequence ≡ found.upper →
+    Proves shop found.lower (found_directions shop found) → first_below shop found.lower [] [] ≡ None →
+    GivesAs (proof_kind (is_signed request (found_directions shop found))) shop (found_text request shop found)
+    (bounds_of found) found.sequence) →
+    AnswersCertify request shop given (Ok (found_text request shop found))
+certified-answers request shop given start found accepted limits starts whole attained better proved none floor few
+    lawful =
+    let directions = found_directions shop found in
+    let bounds = bounds_of found in
+    let signed = is_signed request directions in
+    let gives = lawful whole attained proved none in
+    let of_start : span shop found.sequence ≤ span shop start = omega (arith, attained, better) in
+    let no_fault = of-directions request accepted in
+    let of_limit = few-counted request.proof request.directions (length directions) no_fault few in
+    let text : List ℕ = found_text request shop found in
     let is : Certifies shop given request text = record {
       bounds = bounds;
-      jobs = jobs;
+      jobs = found.sequence;
       directions = directions;
-      searched = searched;
+      searched = (none, refl);
       written = refl;
-      read = read-as shop bounds jobs directions signed;
+      read = read-as shop bounds found.sequence directions signed;
       lawful = gives;
       improved = (start, starts, whole, of_start);
       floor = floor;
-      few = within;
-      short = short-as shop bounds jobs directions signed limits
-          (upper-of shop bounds jobs directions signed gives) short;
+      few = of_limit.0;
+      short = short-as shop bounds found.sequence directions signed limits
+          (upper-of shop bounds found.sequence directions signed gives)
+          (few-signs request.proof request.directions (length directions) no_fault few) of_limit.1;
     } in
     rw (AnswersCertify, accepted) (text, is, refl)

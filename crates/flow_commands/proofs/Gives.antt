@@ -72,6 +72,7 @@ of-two-kinds shop text Holds of_text of_jobs command.Index never = absurd never
 of-two-kinds shop text Holds of_text of_jobs (command.Instance fault) never = absurd never
 of-two-kinds shop text Holds of_text of_jobs (command.Improve fault) never = absurd never
 of-two-kinds shop text Holds of_text of_jobs command.Directions never = absurd never
+of-two-kinds shop text Holds of_text of_jobs command.SignedDirections never = absurd never
 of-two-kinds shop text Holds of_text of_jobs command.Workers never = absurd never
 of-two-kinds shop text Holds of_text of_jobs (command.Choice fault) never = absurd never
 of-two-kinds shop text Holds of_text of_jobs (command.Plan fault) never = absurd never

@@ -19,7 +19,7 @@ use Rattle.flow_search.specs.Plans.{verdict_of}
 use Rattle.flow_search.specs.declared.options.OptionFault.{OptionFault}
 use Rattle.flow_commands.specs.Output.{Output}
 use Rattle.flow_commands.specs.Block.{Origin}
-use Rattle.flow_commands.specs.Certify.{AnswersCertify, Certifies, WroteProof, certify_fault, has_signs, proof_kind}
+use Rattle.flow_commands.specs.Certify.{AnswersCertify, Certifies, WroteProof, certify_fault, is_signed, proof_kind}
 use Rattle.flow_commands.specs.Request.{SaysTrue, answers}
 use Rattle.flow_commands.specs.Runs.{CameBoth, CommandRun, Ran, SinkRun, Took}
 use Rattle.flow_commands.specs.Schedule.{AnswersSchedule, GivesTimed, WroteSchedule}
@@ -81,7 +81,7 @@ of-numbers {K} request shop given text sink answers took = go (certify_fault req
         rw (AnswersCertify, e) at answers in
         let here : text ≡ found.0 = let same = found.2 in cc in
         let is = found.1 in
-        let kind = proof_kind (has_signs request.proof (length is.directions)) in (
+        let kind = proof_kind (is_signed request is.directions) in (
           found.0,
           kind,
           is.bounds,

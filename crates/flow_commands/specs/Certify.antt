@@ -1,10 +1,10 @@
 -- What `certify` answers.
-use Rattle.std.specs.Prelude.{◌≡◌, ℕ, ◌≤◌, nat_le, Bool, true, false, List, [], ◌∷◌, length, Option, Some, None}
-use Rattle.std.specs.Prelude.{Ok, Err}
+use Rattle.std.specs.Prelude.{◌≡◌, ℕ, ◌≤◌, nat_le, Bool, true, false, ◌&&◌, List, [], ◌∷◌, length}
+use Rattle.std.specs.Prelude.{Option, Some, None, Ok, Err}
 use Rattle.std.specs.Int.{is_in_range}
 use Rattle.flow_core.specs.Shop.{Shop}
 use Rattle.flow_core.specs.Ends.{end_bound}
-use Rattle.flow_core.specs.Limits.{most_certificate, most_workers}
+use Rattle.flow_core.specs.Limits.{most_certificate, most_directions, most_workers}
 use Rattle.flow_core.specs.Refusals.{fault_unless, first_fault}
 use Rattle.flow_check.specs.Bounds.{AreProved}
 use Rattle.flow_check.specs.Counted.{counted_text}
@@ -23,29 +23,52 @@ use Rattle.flow_commands.specs.Output.{Output}
 use Rattle.flow_commands.specs.Improve.{IsImproved, improve_fault}
 use Rattle.flow_commands.specs.Runs.{SinkRun, Took}
 use Rattle.flow_commands.specs.declared.refusals.CommandFault.{CommandFault}
-use Rattle.flow_commands.specs.declared.refusals.CommandFault.TheVariants.{Directions, Workers}
+use Rattle.flow_commands.specs.declared.refusals.CommandFault.TheVariants.{Directions, SignedDirections, Workers}
 
 -- why a number of workers is refused, if it is
 abbrev pub workers_fault : ℕ → Option CommandFault
 workers_fault workers = fault_unless (is_in_range 1 most_workers workers) Workers
 
+-- why a limit on the directions of a proof is refused, if it is, by the form that is asked for: as signs there may be
+-- fewer
+abbrev pub directions_fault : ProofForm → ℕ → Option CommandFault
+directions_fault ByLength most = fault_unless (may_be_most most) Directions
+directions_fault Signs most = fault_unless (is_in_range 1 most_directions most) SignedDirections
+directions_fault Count most = fault_unless (may_be_most most) Directions
+
 -- why `certify` refuses its numbers, if it does
 abbrev pub certify_fault : CertifyRequest → Option CommandFault
 certify_fault request = first_fault (
     improve_fault request.improve
-    ∷ fault_unless (may_be_most request.directions) Directions
+    ∷ directions_fault request.proof request.directions
     ∷ workers_fault request.workers
     ∷ [])
+
+-- the greatest limit on directions with which their signs are kept where no form is asked for
+abbrev pub most_kept : ℕ
+most_kept = 100000000
 
 -- the most directions that are written as signs where no form is asked for
 abbrev pub most_unasked : ℕ
 most_unasked = 10000000
 
--- whether a proof of so many directions is written as signs, by the form that is asked for
-abbrev pub has_signs : ProofForm → ℕ → Bool
-has_signs ByLength count = nat_le count most_unasked
-has_signs Signs count = true
-has_signs Count count = false
+-- whether a run keeps the signs of its proof, by the form that is asked for and the limit on directions; else it keeps
+-- their number alone
+abbrev pub keeps_signs : ProofForm → ℕ → Bool
+keeps_signs ByLength most = nat_le most most_kept
+keeps_signs Signs most = true
+keeps_signs Count most = false
+
+-- whether a proof of so many directions is written as signs, by the form that is asked for and the limit on directions:
+-- where they are kept, and where no form is asked for only few of them
+abbrev pub writes_signs : ProofForm → ℕ → ℕ → Bool
+writes_signs ByLength most count = keeps_signs ByLength most && nat_le count most_unasked
+writes_signs Signs most count = true
+writes_signs Count most count = false
+
+-- whether a request asks for these directions as signs
+abbrev pub is_signed : CertifyRequest → List ℕ → Bool
+is_signed request directions = writes_signs request.proof request.directions (length directions)
 
 -- the text of bounds and a sequence, with a sign for each of these directions, or with their number
 abbrev pub proof_text : Bool → Shop → Bounds → List ℕ → List ℕ → List ℕ
@@ -65,9 +88,9 @@ pub record Certifies (shop : Shop) (given : Option (List ℕ)) (request : Certif
   pub jobs : List ℕ
   pub directions : List ℕ
   pub searched : IsSearched shop bounds.lower directions
-  pub written : text ≡ proof_text (has_signs request.proof (length directions)) shop bounds jobs directions
-  pub read : IsReadAs text (proof_kind (has_signs request.proof (length directions)))
-  pub lawful : GivesAs (proof_kind (has_signs request.proof (length directions))) shop text bounds jobs
+  pub written : text ≡ proof_text (is_signed request directions) shop bounds jobs directions
+  pub read : IsReadAs text (proof_kind (is_signed request directions))
+  pub lawful : GivesAs (proof_kind (is_signed request directions)) shop text bounds jobs
   pub improved : IsImproved shop given jobs
   pub floor : end_bound shop [] [] ≤ bounds.lower
   pub few : length directions ≤ request.directions

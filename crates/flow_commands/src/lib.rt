@@ -9,6 +9,7 @@
 //! - `block.rt`: the block of a benchmark text that an index names.
 //! - `start.rt`: the starting sequence that a start text gives.
 //! - `certify.rt`: `certify`.
+//! - `proof.rt`: how the proof that it writes is kept and written.
 //! - `check.rt`: `check`.
 //! - `report.rt`: the report of `check`.
 //! - `signs.rt`: `signs`.
@@ -35,6 +36,7 @@ mod improve;
 mod laws;
 mod neh;
 mod printed;
+mod proof;
 mod refusals;
 mod report;
 mod request;

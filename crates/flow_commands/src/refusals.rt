@@ -51,9 +51,12 @@ pub enum CommandFault {
     /// The numbers of an improvement are refused.
     #[error("refused option {0}")]
     Improve(EffortFault),
-    /// The directions of a proof are not from 1 to 1,000,000,000.
-    #[error("refused option Directions")]
+    /// The directions of a proof are not from 1 to 1,000,000,000,000,000.
+    #[error("refused option Directions: 1 to 1000000000000000")]
     Directions,
+    /// The directions of a proof that is to have signs are not from 1 to 1,000,000,000.
+    #[error("refused option Directions: 1 to 1000000000 with --proof signs")]
+    SignedDirections,
     /// The workers of `certify` are not from 1 to 64.
     #[error("refused option Workers")]
     Workers,

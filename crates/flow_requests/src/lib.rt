@@ -37,7 +37,7 @@ pub struct CertifyRequest {
     /// How the starting sequence is improved.
     pub improve: ImproveRequest,
     /// The most directions of a proof.
-    pub directions: u32,
+    pub directions: u64,
     /// The number of workers.
     pub workers: u32,
     /// How the proof is written.

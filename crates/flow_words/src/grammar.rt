@@ -138,17 +138,22 @@ static CERTIFY: [Word; 12] = [
     WORK,
     Word {
         name: "directions",
-        kind: Kind::Option {
+        kind: Kind::Long {
             value: "N",
             default: "100000000",
         },
-        help: "How many directions a proof has at most, 1 to 1000000000; fewer where the shop is large",
+        help: "How many directions a proof has at most, 1 to 1000000000000000, and to 1000000000 with --proof signs; \
+fewer where the shop is large. More may prove what fewer do not, and may take 3 to 8 minutes with one worker for each \
+1000000000; --time-limit ends a run",
     },
     Word {
         name: "proof",
         kind: Kind::Name { value: "FORM" },
-        help: "signs for a two-ended certificate, which has a sign for each direction, count for a counted one, which \
-has their number; left out, signs where there are at most 10000000",
+        help: "signs for a two-ended certificate, which has a sign for each direction: it is as long as the proof, and \
+check follows it. count for a counted one, which has their number: it is short, the run keeps no signs, and check \
+repeats the search, with check --workers on several threads, and with check --most where there are more than \
+10000000000. signs FILE INDEX CERT makes a two-ended one of it. Left out, signs where there are at most 10000000, and \
+at most 100000000 were asked for",
     },
     WORKERS,
     PROGRESS,
@@ -287,12 +292,12 @@ static SCHEDULE: [Word; 4] = [
     },
 ];
 
-/// A command: its name, what it does, the example that its help ends with, and its words.
+/// A command: its name, what it does, what its help ends with, and its words.
 #[derive(Drop)]
 struct CommandWords {
     name: &'static str,
     about: &'static str,
-    example: &'static str,
+    ending: &'static str,
     words: &'static [Word],
 }
 
@@ -303,56 +308,60 @@ fn commands() -> [CommandWords; 9] {
             name: "certify",
             about: "Writes a certificate: a sequence, and bounds of the least makespan, which are one number where that \
 is proved",
-            example: "Example: ./flowshop certify examples/three_machines.txt 1 >certificate",
+            ending: "Where the bounds differ, more --directions and --work may bring them together, or another --seed or \
+--start.\n\nExample: ./flowshop certify examples/three_machines.txt 1 >certificate",
             words: &CERTIFY,
         },
         CommandWords {
             name: "span",
             about: "Prints the makespan of jobs in the given order",
-            example: "Example: ./flowshop span examples/two_machines.txt 1 2 3 1",
+            ending: "Example: ./flowshop span examples/two_machines.txt 1 2 3 1",
             words: &SPAN,
         },
         CommandWords {
             name: "gen",
             about: "Writes the instance of a seed, with its bounds",
-            example: "Example: ./flowshop gen 20 5 873654221",
+            ending: "Example: ./flowshop gen 20 5 873654221",
             words: &GEN,
         },
         CommandWords {
             name: "neh",
             about: "Prints the starting sequence and its makespan",
-            example: "Example: ./flowshop neh examples/three_machines.txt 1",
+            ending: "Example: ./flowshop neh examples/three_machines.txt 1",
             words: &NEH,
         },
         CommandWords {
             name: "improve",
             about: "Prints a sequence that is no worse than a starting sequence, and its makespan",
-            example: "Example: ./flowshop improve examples/taillard_20_5.txt 1 --rounds 100",
+            ending: "Example: ./flowshop improve examples/taillard_20_5.txt 1 --rounds 100",
             words: &IMPROVE,
         },
         CommandWords {
             name: "solve",
             about: "Finds the least makespan, and writes a certificate of it",
-            example: "Example: ./flowshop solve examples/three_machines.txt 1 --depth 0",
+            ending: "Example: ./flowshop solve examples/three_machines.txt 1 --depth 0",
             words: &SOLVE,
         },
         CommandWords {
             name: "check",
             about: "Checks a certificate of any kind, and prints what it proves",
-            example: "Example: ./flowshop check examples/three_machines.txt 1 certificate --optimal",
+            ending: "Example: ./flowshop check examples/three_machines.txt 1 certificate --optimal",
             words: &CHECK,
         },
         CommandWords {
             name: "signs",
             about: "Writes the two-ended certificate of a counted one",
-            example: "Example: ./flowshop signs examples/three_machines.txt 1 counted",
+            ending: "It checks the counted certificate, which certify --proof count writes, and repeats its search, on \
+one thread. What it writes has a sign for each direction, 999990000 at most: it is long, and check follows the signs \
+without a search. The other way, certify with the same options and --proof count writes the counted one.\n\n\
+Example: ./flowshop signs examples/three_machines.txt 1 counted",
             words: &SIGNS,
         },
         CommandWords {
             name: "schedule",
             about: "Writes when each job of a sequence or a certificate starts and ends on each machine, as a table or \
 a picture",
-            example: "Example: ./flowshop schedule examples/three_machines.txt 1 certificate --form svg",
+            ending: "Example: ./flowshop schedule examples/three_machines.txt 1 certificate --form svg",
             words: &SCHEDULE,
         },
     ]
@@ -380,7 +389,7 @@ fn command_of<'a>(alloc: Global, command: &CommandWords) -> Result<Command<'a>, 
     }
     Command::new(alloc, command.name)
         .about(command.about)
-        .after_help(command.example)
+        .after_help(command.ending)
         .args(args)
 }
 

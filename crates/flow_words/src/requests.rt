@@ -103,7 +103,7 @@ fn certify_of(given: &ArgMatches) -> Option<Request> {
     Some(Request::Certify {
         request: CertifyRequest {
             improve: improvement_of(given)?,
-            directions: given.get_one::<u32>("directions")?,
+            directions: given.get_one::<u64>("directions")?,
             workers: given.get_one::<u32>("workers")?,
             proof: proof_of(given)?,
         },

@@ -176,13 +176,13 @@ const OF_BLOCK: [(&str, SecondFile<&str>, Request); 15] = [
         },
     ),
     (
-        "certify FILE 1 --directions 4294967295 --work 7 --width 65537 --seed 0 --rounds 4294967295 \
+        "certify FILE 1 --directions 18446744073709551615 --work 7 --width 65537 --seed 0 --rounds 4294967295 \
 --workers 65 --progress --time-limit 10 --proof count --start SEQUENCE",
         SecondFile::Start("SEQUENCE"),
         Request::Certify {
             request: CertifyRequest {
                 improve: OTHER,
-                directions: 4_294_967_295,
+                directions: u64::MAX,
                 workers: 65,
                 proof: ProofForm::Count,
             },
@@ -275,7 +275,7 @@ static REFUSED: [&str; 27] = [
     "improve FILE 1 --certificate 1",
     "certify FILE 1 --seed 4294967296",
     "certify FILE 1 --workers -1",
-    "certify FILE 1 --directions 4294967296",
+    "certify FILE 1 --directions 18446744073709551616",
     "certify FILE 1 --certificate 1",
     "certify FILE 1 --bounds",
     "solve FILE 1 --mirrored",

@@ -190,7 +190,7 @@ pub(crate) static IMPROVE: [Row; 21] = [
 
 /// The numbers and the starts of `certify`. The instance of three machines has one best sequence. Its directions were
 /// computed apart from the program, by the definitions.
-pub(crate) static CERTIFY: [Row; 21] = [
+pub(crate) static CERTIFY: [Row; 25] = [
     ("stdin 2", TWO_ENDED, ""),
     ("stdin 2 --start best_start", TWO_ENDED, ""),
     ("stdin 1", TWO_ENDED_OF_TWO, ""),
@@ -198,7 +198,14 @@ pub(crate) static CERTIFY: [Row; 21] = [
     ("text_three 1 --rounds 0", TWO_ENDED, ""),
     ("text_three 1 --start start --width 0", TWO_ENDED, ""),
     ("stdin 2 --start start --seed 2147483646", TWO_ENDED, ""),
-    ("stdin 2 --directions 1000000000", TWO_ENDED, ""),
+    ("stdin 2 --directions 100000000", TWO_ENDED, ""),
+    ("stdin 2 --directions 100000001", COUNTED, ""),
+    (
+        "stdin 2 --directions 1000000000 --proof signs",
+        TWO_ENDED,
+        "",
+    ),
+    ("stdin 2 --directions 1000000000000000", COUNTED, ""),
     ("text_three 1 --proof signs", TWO_ENDED, ""),
     ("text_three 1 --proof count", COUNTED, ""),
     ("text_three 1 --proof counted", b"", "refused command line"),
@@ -209,11 +216,20 @@ pub(crate) static CERTIFY: [Row; 21] = [
         b"",
         "refused option Seed",
     ),
-    ("stdin 2 --directions 0", b"", "refused option Directions"),
     (
-        "stdin 2 --start start --directions 1000000001",
+        "stdin 2 --directions 0",
         b"",
-        "refused option Directions",
+        "refused option Directions: 1 to 1000000000000000",
+    ),
+    (
+        "stdin 2 --start start --directions 1000000000000001",
+        b"",
+        "refused option Directions: 1 to 1000000000000000",
+    ),
+    (
+        "stdin 2 --directions 1000000001 --proof signs",
+        b"",
+        "refused option Directions: 1 to 1000000000 with --proof signs",
     ),
     ("stdin 3 --directions 0", b"", "refused index"),
     (

@@ -29,21 +29,31 @@ type Row = (
     &'static [u8],
     Option<&'static [u8]>,
     [u32; 4],
-    u32,
+    u64,
     ProofForm,
     Wanted,
 );
 
 const UNASKED: ProofForm = ProofForm::ByLength;
 
+/// The greatest numbers of an improvement.
+const GREATEST: [u32; 4] = [65_536, 100_000_000, 2_147_483_646, 1_000_000];
+
 /// The text with three machines has one best sequence. The directions were computed apart from the program, by the
 /// definitions.
-static ROWS: [Row; 10] = rows! {
+static ROWS: [Row; 17] = rows! {
     THREE_MACHINES, Some(LAST), NONE, 1_000, UNASKED, Ok(TWO_ENDED_12);
     THREE_MACHINES, Some(LAST), NONE, 1_000, ProofForm::Signs, Ok(TWO_ENDED_12);
     THREE_MACHINES, Some(LAST), NONE, 1_000, ProofForm::Count, Ok(COUNTED_12);
-    THREE_MACHINES, Some(BEST), [65_536, 100_000_000, 2_147_483_646, 1_000_000], 1_000_000_000, UNASKED,
-        Ok(TWO_ENDED_12);
+    // Of more directions signs are kept, and written, only where they are asked for, and of many more never.
+    THREE_MACHINES, Some(BEST), GREATEST, 100_000_000, UNASKED, Ok(TWO_ENDED_12);
+    THREE_MACHINES, Some(BEST), GREATEST, 100_000_001, UNASKED, Ok(COUNTED_12);
+    THREE_MACHINES, Some(LAST), NONE, 1_000_000_000, ProofForm::Signs, Ok(TWO_ENDED_12);
+    THREE_MACHINES, Some(LAST), NONE, 1_000_000_001, ProofForm::Signs, Err(CommandFault::SignedDirections);
+    THREE_MACHINES, Some(LAST), NONE, 1_000_000_001, UNASKED, Ok(COUNTED_12);
+    THREE_MACHINES, Some(BEST), GREATEST, 1_000_000_000_000_000, ProofForm::Count, Ok(COUNTED_12);
+    THREE_MACHINES, Some(LAST), NONE, 1_000_000_000_000_000, UNASKED, Ok(COUNTED_12);
+    THREE_MACHINES, Some(LAST), NONE, 1_000_000_000_000_001, ProofForm::Count, Err(CommandFault::Directions);
     ONE_JOB, None, NONE, 1, UNASKED, Ok(b"flowshop two-ended 1\n1 1\n0 0\n1\n\nend\n");
     ONE_JOB, None, NONE, 1, ProofForm::Count, Ok(b"flowshop counted 1\n1 1\n0 0\n1\n0\nend\n");
     // One round with each of two seeds, by the plain program bench/improve.rs, and the bound with no job put.
@@ -59,7 +69,7 @@ static ROWS: [Row; 10] = rows! {
 
 /// The request of `certify` with these numbers of an improvement, so many directions, so many workers, and a form of the
 /// proof.
-fn certified(numbers: [u32; 4], directions: u32, workers: u32, proof: ProofForm) -> Request {
+fn certified(numbers: [u32; 4], directions: u64, workers: u32, proof: ProofForm) -> Request {
     Request::Certify {
         request: CertifyRequest {
             improve: improvement(numbers),
@@ -92,7 +102,7 @@ fn certify_writes_a_text_or_refuses(rt: HostRuntime) {
 }
 
 /// A text, width, rounds, seed and work, and the most directions; and what `check` prints for what `certify` writes.
-type Known = (&'static [u8], [u32; 4], u32, Wanted);
+type Known = (&'static [u8], [u32; 4], u64, Wanted);
 
 /// The least makespans of nine, eight, seven, six and four jobs are those of all their sequences, tried apart from the
 /// program, where no text says them. Of the long job no number above the first bound is proved by so few directions.

@@ -1,8 +1,8 @@
-use Rattle.std.proofs.Common.{length, rules}
+use Rattle.std.proofs.Common.{rules}
 use Rattle.std.proofs.lemmas.Result.{err_from_is_err_and}
-use Rattle.flow_check.specs.declared.bounds.Bounds.{Bounds}
-use Rattle.flow_commands.specs.Certify.{AnswersCertify, has_signs, proof_text}
+use Rattle.flow_commands.specs.Certify.{AnswersCertify}
 use Rattle.flow_commands.specs.Runs.{sink_run}
+use Rattle.flow_commands.specs.internal.Found.{found_text}
 use Rattle.flow_commands.proofs.Certified.{certified-answers}
 use Rattle.flow_commands.proofs.Responses.{all-written, part-written}
 use Rattle.flow_commands.proofs.certify.certify_instance.Goals as goal
@@ -12,13 +12,10 @@ returns g c =
     let request = c.args.command.now.request in
     let shop = c.args.instance in
     let found = c.in_ok-found.found in
-    let bounds : Bounds = record { lower = found.lower; upper = found.upper } in
     let says = c.in_ok-found.ensures in
     all-written (AnswersCertify request shop c.args.given)
-    (sink_run g.K.Sink c.args.out.now c.write_found.new.out)
-    (proof_text (has_signs request.proof (length found.directions.items)) shop bounds found.sequence
-    found.directions.items)
-    (certified-answers request shop c.args.given c.in_ok-start.start found.sequence found.directions.items bounds
+    (sink_run g.K.Sink c.args.out.now c.write_found.new.out) (found_text request shop found)
+    (certified-answers request shop c.args.given c.in_ok-start.start found
     c.in_ok-effort.ensures.accepted (rw (← c.instance.view_is) c.instance.invariant.0) c.in_ok-start.ensures.start
     says.each says.attained says.no_worse says.proved says.searched says.floor
     (rw c.in_ok-effort.ensures.most at says.few)
@@ -29,17 +26,14 @@ returns-in_err-write_found g c =
     let request = c.args.command.now.request in
     let shop = c.args.instance in
     let found = c.in_ok-found.found in
-    let bounds : Bounds = record { lower = found.lower; upper = found.upper } in
     let says = c.in_ok-found.ensures in
     let p =
     err_from_is_err_and c.from_residual-in_err-write_found.result
     c.from_residual-in_err-write_found.ensures.1 in
     rw (p.1, p.2)
     (part-written (AnswersCertify request shop c.args.given)
-    (sink_run g.K.Sink c.args.out.now c.write_found.new.out) _
-    (proof_text (has_signs request.proof (length found.directions.items)) shop bounds found.sequence
-    found.directions.items)
-    (certified-answers request shop c.args.given c.in_ok-start.start found.sequence found.directions.items bounds
+    (sink_run g.K.Sink c.args.out.now c.write_found.new.out) _ (found_text request shop found)
+    (certified-answers request shop c.args.given c.in_ok-start.start found
     c.in_ok-effort.ensures.accepted (rw (← c.instance.view_is) c.instance.invariant.0) c.in_ok-start.ensures.start
     says.each says.attained says.no_worse says.proved says.searched says.floor
     (rw c.in_ok-effort.ensures.most at says.few)

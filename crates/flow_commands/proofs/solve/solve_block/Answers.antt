@@ -1,4 +1,4 @@
-use Rattle.std.proofs.Common.{rules, ◌⊎◌, ◌≡◌, inl, inr, Err}
+use Rattle.std.proofs.Common.{rules}
 use Rattle.std.proofs.lemmas.Result.{err_from_is_err_and}
 use Rattle.flow_requests.specs.SecondFile.{file_in}
 use Rattle.flow_commands.specs.Runs.{sink_run}

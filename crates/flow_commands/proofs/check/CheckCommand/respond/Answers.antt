@@ -1,4 +1,4 @@
-use Rattle.std.proofs.Common.{◌≡◌, ◌⊎◌, rules, subst, inl, inr, ℕ, List, [], Ok, Err, unwrap_or}
+use Rattle.std.proofs.Common.{◌≡◌, ◌⊎◌, rules, subst, inr, ℕ, List, [], Ok, Err, unwrap_or}
 use Rattle.std.proofs.lemmas.Result.{err_from_is_err_and}
 use Rattle.flow_requests.specs.SecondFile.{file_in}
 use Rattle.flow_commands.specs.Check.{AnswersCheck}
