@@ -91,6 +91,9 @@ Node = record("Node", ("first", [U16]), ("last", [U16]))
 ROOMS = ("sequence", [U16]), ("directions", [U8]), ("rest", [U16])
 LENGTHS = ("directions_length", SIZE), ("rest_length", SIZE)
 Part = record("Part", *ROOMS, ("found", U32), ("makespan", U64), *LENGTHS)
+# The same for a search that counts: it does not look at the room for directions, which is nowhere here.
+NOWHERE = ("directions", SIZE), ("entries", SIZE)
+Tally = record("Tally", ROOMS[0], *NOWHERE, ROOMS[2], ("found", U32), ("makespan", U64), *LENGTHS)
 
 
 def lent(kind, numbers):
