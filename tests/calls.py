@@ -763,7 +763,8 @@ def compare_shop(draw):
     compare_counted(shop, sequence, draw.choice((0, least, max(0, least - 1))))
     equal("a plain check of it", plain_check(shop, text, 1_000), (sequence, least, least))
     most = draw.randint(1, 9)
-    counted, *bounds, count = count_by_tasks(shop, start, (*effort, draw.choice((1_000, 10**9, 10**9 + 1, MOST_COUNTED))))
+    directions = draw.choice((1_000, 10**9, 10**9 + 1, MOST_COUNTED))
+    counted, *bounds, count = count_by_tasks(shop, start, (*effort, directions))
     equal("bounds that are counted", (bounds, reference.makespan(shop, counted)), ([least, least], least))
     equal("how many directions prove them", count, len(Search(shop).search(least)[0]))
     for numbers in ((*effort, 1_000), (*effort, most)):

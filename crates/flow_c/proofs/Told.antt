@@ -1,14 +1,13 @@
 -- What is told of a search.
 use Rattle.std.proofs.Common.{◌≡◌, ◌⊎◌, inl, inr, sym, ◌∙◌, subst, ap, ℕ, ◌+◌, ◌<◌, ◌≤◌, List, [], ◌++◌, length, take}
 use Rattle.std.proofs.Common.{refl, None, drop, arith, length-append}
-use Rattle.std.specs.Global.{Vec}
 use Rattle.std.proofs.lemmas.List.Elements.{All-weaker}
 use Rattle.flow_shop.specs.Shop.{Shop, IsWithinLimits}
 use Rattle.flow_shop.specs.SequenceFaults.{place_fault}
 use Rattle.flow_shop.specs.Sequences.{AreJobs}
 use Rattle.flow_shop.specs.Directions.{ProvesFrom}
 use Rattle.flow_shop.proofs.JobLists.{few-jobs}
-use Rattle.flow_directions.specs.Search.{directions_of, IsPart}
+use Rattle.flow_directions.specs.Search.{IsPart}
 use Rattle.flow_directions.specs.declared.found.Found.TheVariants as found
 use Rattle.flow_directions.specs.declared.found.Part.{Part}
 use Rattle.flow_directions.specs.declared.found.Part.TheVariants.{Node, Children}
@@ -17,7 +16,7 @@ use Rattle.flow_directions.proofs.SearchProves.{directions_prove}
 use Rattle.flow_c.specs.Faults.{numbers_fault, room_fault}
 use Rattle.flow_c.specs.Searches.{proved, below, most_rest, IsCome, IsTold, IsSearched, IsCounted, IsProvedBy, IsBelow}
 use Rattle.flow_c.specs.Searches.{IsRestTooLong, prove_fault}
-use Rattle.flow_c.specs.internal.Parts.{IsShort, LeavesShort, IsToldBy, IsComeTo, sequence_of}
+use Rattle.flow_c.specs.internal.Parts.{IsShort, LeavesShort, IsToldBy, IsComeTo}
 use Rattle.flow_c.specs.declared.shop.ShopNumbers.{ShopNumbers}
 use Rattle.flow_c.specs.declared.node.NodeLists.{NodeLists}
 use Rattle.flow_c.specs.declared.came.Came.{Came}

@@ -75,11 +75,13 @@ impl Kept for Vec<u8> {
     ) -> Result<(Came, Vec<u8>), Fault> {
         match advance(alloc, instance, node.first, node.last, threshold, budget) {
             Ok(Advanced::Proved(directions)) => Ok((Came::Proved, directions)),
-            Ok(Advanced::Below {
-                sequence,
-                makespan,
-                directions,
-            }) => Ok((Came::Below { sequence, makespan }, directions)),
+            Ok(
+                Advanced::Below {
+                    sequence,
+                    makespan,
+                    directions,
+                },
+            ) => Ok((Came::Below { sequence, makespan }, directions)),
             Ok(Advanced::Rest { directions, parts }) => Ok((Came::Rest(parts), directions)),
             // The lists are those of a node, so a fault is that memory ran out.
             Err(_) => Err(Fault::Memory),
@@ -100,11 +102,13 @@ impl Kept for u64 {
     ) -> Result<(Came, u64), Fault> {
         match tally(alloc, instance, node.first, node.last, threshold, budget) {
             Ok(Tallied::Proved(count)) => Ok((Came::Proved, count)),
-            Ok(Tallied::Below {
-                sequence,
-                makespan,
-                directions,
-            }) => Ok((Came::Below { sequence, makespan }, directions)),
+            Ok(
+                Tallied::Below {
+                    sequence,
+                    makespan,
+                    directions,
+                },
+            ) => Ok((Came::Below { sequence, makespan }, directions)),
             Ok(Tallied::Rest(parts)) => Ok((Came::Rest(parts), budget)),
             // The lists are those of a node, so a fault is that memory ran out.
             Err(_) => Err(Fault::Memory),

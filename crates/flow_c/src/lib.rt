@@ -69,5 +69,4 @@ mod span;
 mod tally;
 mod text;
 mod timetable;
-
 mod version;

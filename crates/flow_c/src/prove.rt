@@ -8,11 +8,11 @@ ghost use Rattle.flow_c.specs.Checks.{ReportsCheck};
 ghost use Rattle.flow_c.specs.Searches.{proved, below, most_rest, IsBelow, IsSearched, IsRestTooLong, prove_fault};
 ghost use Rattle.flow_c.specs.Rooms.{IsSameRoom};
 
+use crate::came::{PartLimits, search_numbers};
 use crate::node::NodeLists;
 use crate::outcome::Outcome;
 use crate::room::fill;
 use crate::shop::ShopNumbers;
-use crate::came::{PartLimits, search_numbers};
 use std::alloc::Global;
 
 /// Room for what a search comes to, and what is said of it.

@@ -8,11 +8,11 @@ ghost use Rattle.flow_c.specs.Searches.{proved, below, most_rest, IsBelow, IsCou
 ghost use Rattle.flow_c.specs.Searches.{prove_fault};
 ghost use Rattle.flow_c.specs.Rooms.{IsSameRoom};
 
+use crate::came::{PartLimits, search_numbers};
 use crate::node::NodeLists;
 use crate::outcome::Outcome;
 use crate::room::fill;
 use crate::shop::ShopNumbers;
-use crate::came::{PartLimits, search_numbers};
 use std::alloc::Global;
 
 /// Room for what a search comes to that counts its directions, and what is said of it. It lies in memory as `PartRooms`

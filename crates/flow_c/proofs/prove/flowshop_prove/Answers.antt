@@ -1,4 +1,4 @@
-use Rattle.std.proofs.Common.{length, take, ap, ◌∙◌, inl, inr, arith}
+use Rattle.std.proofs.Common.{length, take, ap, arith}
 use Rattle.flow_c.specs.Faults.{shop_of}
 use Rattle.flow_c.proofs.Told.{kept-behind, come-fits, come-whole, come-proved, come-below}
 use Rattle.flow_c.proofs.prove.flowshop_prove.Goals as goal

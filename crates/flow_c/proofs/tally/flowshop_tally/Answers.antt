@@ -1,7 +1,6 @@
-use Rattle.std.proofs.Common.{length, take, ap, ◌∙◌, inl, inr, arith}
+use Rattle.std.proofs.Common.{length, ap, arith}
 use Rattle.flow_c.specs.Faults.{shop_of}
-use Rattle.flow_c.proofs.Told.{kept-behind, come-few, come-fits, come-whole, come-counted, come-proved-by, come-below}
-use Rattle.flow_c.proofs.Told.{never-too-long}
+use Rattle.flow_c.proofs.Told.{kept-behind, come-fits, come-whole, come-proved-by, come-below}
 use Rattle.flow_c.proofs.tally.flowshop_tally.Goals as goal
 
 pub fill-requires : goal.fill-requires
