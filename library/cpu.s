@@ -105,6 +105,7 @@ is_null:
         entry flowshop_search_put, %rdi, %rsi, %r8, %r9
         entry flowshop_search_found, %rdi, %rsi, %rdx
         entry flowshop_prove, %rdi, 8(%rdi), %rsi, (%rsi), 16(%rsi), %rcx, (%rcx), 16(%rcx), 32(%rcx)
+        entry flowshop_tally, %rdi, 8(%rdi), %rsi, (%rsi), 16(%rsi), %r8, (%r8), 32(%r8)
         entry flowshop_beam, %rdi, 8(%rdi), %rsi, %rcx, %r8, (%r8)
         entry flowshop_rounds, %rdi, 8(%rdi), %rsi, %rcx, %r8, (%r8)
 

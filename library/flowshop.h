@@ -110,7 +110,7 @@ enum flowshop_status {
     FLOWSHOP_WORK = 36, /* the work is above 1000000 */
 
     /* The number of a certificate is not within its limits. */
-    FLOWSHOP_DIRECTIONS = 37, /* the directions are not 1 to 1000000000 */
+    FLOWSHOP_DIRECTIONS = 37, /* the directions are not 1 to 1000000000; of a run, not 1 to 1000000000000000 */
 
     FLOWSHOP_ANSWER = 38, /* a run is told what is no answer to a task that it may ask for; or a search would have 2^64
                            * directions */
@@ -173,6 +173,7 @@ typedef struct flowshop_limit_numbers {
     uint32_t max_certificate; /* the most bytes of a certificate that the program reads */
     uint32_t max_beside; /* the most bytes of a two-ended text beside its directions, and of a counted text */
     uint64_t max_nodes; /* the most nodes of a counted certificate that flowshop_check reads */
+    uint64_t max_counted; /* the greatest limit of the directions of a run, of which it may keep the number alone */
 } flowshop_limit_numbers;
 
 /* A shop. */
@@ -268,7 +269,7 @@ typedef struct flowshop_node {
 enum flowshop_found {
     FLOWSHOP_PROVED = 1, /* the directions prove the number */
     FLOWSHOP_BELOW = 2, /* a sequence is below the number */
-    FLOWSHOP_OVER = 3, /* there are more directions than there is room for */
+    FLOWSHOP_OVER = 3, /* there are more directions than there is room for, or than may be counted */
     FLOWSHOP_REACHED = 4 /* of the task of a run: a beam or rounds came to a sequence */
 };
 
@@ -276,13 +277,13 @@ enum flowshop_found {
 typedef struct flowshop_part {
     uint16_t *sequence; /* room for a sequence */
     size_t sequence_count;
-    uint8_t *directions; /* room for directions: as many as there may be */
+    uint8_t *directions; /* room for directions: as many as there may be; flowshop_tally does not look at it */
     size_t directions_count;
     uint16_t *rest; /* room for the parts that are left */
     size_t rest_count;
     uint32_t found; /* FLOWSHOP_PROVED, FLOWSHOP_BELOW or FLOWSHOP_OVER */
     uint64_t makespan; /* that of the sequence; 0 where there is none */
-    size_t directions_length;
+    size_t directions_length; /* how many directions there are, written or counted */
     size_t rest_length;
 } flowshop_part;
 
@@ -301,7 +302,7 @@ typedef struct flowshop_run_state {
 /* What a run asks for. */
 enum flowshop_kind {
     FLOWSHOP_TASK_END = 0, /* nothing more */
-    FLOWSHOP_TASK_SEARCH = 1, /* flowshop_prove from the root, or the same in parts */
+    FLOWSHOP_TASK_SEARCH = 1, /* flowshop_prove or flowshop_tally from the root, or the same in parts */
     FLOWSHOP_TASK_BEAM = 2, /* flowshop_beam */
     FLOWSHOP_TASK_ROUNDS = 3 /* flowshop_rounds */
 };
@@ -328,7 +329,7 @@ typedef struct flowshop_answer {
     uint32_t found; /* of a search FLOWSHOP_PROVED, FLOWSHOP_BELOW or FLOWSHOP_OVER; else FLOWSHOP_REACHED */
     uint32_t whole; /* that of flowshop_reached */
     uint64_t makespan; /* that of the sequence, where there is one */
-    uint64_t directions; /* how many a search wrote */
+    uint64_t directions; /* how many a search wrote or counted */
 } flowshop_answer;
 
 /* What is known of a place of a search that is shared. */
@@ -429,8 +430,8 @@ static inline const char *flowshop_status_name(uint32_t status) {
  * patches. It is no outcome, and every x86-64 processor gives it. */
 uint32_t flowshop_version(void) FLOWSHOP_NOEXCEPT;
 
-/* The limits, for a language that does not read this header. A library with more fields writes them too, behind a shorter
- * record: so call it only with the record of the same release. */
+/* The limits, for a language that does not read this header. A library with more fields writes them too, behind a
+ * shorter record: so call it only with the record of the same release. */
 FLOWSHOP_CALL flowshop_outcome flowshop_limits(flowshop_limit_numbers *limits) FLOWSHOP_NOEXCEPT;
 
 /* The shop of a seed, by Taillard's generator: each time is drawn from 1 to 99. The first jobs * machines entries of
@@ -550,6 +551,15 @@ FLOWSHOP_CALL flowshop_outcome flowshop_certify(const flowshop_shop *shop, const
 FLOWSHOP_CALL flowshop_outcome flowshop_prove(const flowshop_shop *shop, const flowshop_node *node, uint64_t number,
                                               flowshop_part *part) FLOWSHOP_NOEXCEPT;
 
+/* The same search, which counts its directions instead of writing them, at most `budget` of them, so that it needs no
+ * memory for signs. `directions`, which may be null, and `directions_count` are not looked at. `directions_length`
+ * becomes how many directions flowshop_prove would have written with room for so many: all of them; those before the
+ * sequence; or the budget, where there are more. All else becomes what it says there. A count has 64 bits, as size_t
+ * has on x86-64.
+ * Faults in order: those of flowshop_prove. */
+FLOWSHOP_CALL flowshop_outcome flowshop_tally(const flowshop_shop *shop, const flowshop_node *node, uint64_t number,
+                                              uint64_t budget, flowshop_part *part) FLOWSHOP_NOEXCEPT;
+
 /* Begins a search that is shared, of at most so many directions. It keeps the order of its parts, whoever searches them
  * and whenever they end; it does not know the shop. A place stands for some parts of flowshop_prove, one after the
  * other: place 0 for the node of the search. The caller keeps the parts of each place, and the directions that were
@@ -601,17 +611,21 @@ FLOWSHOP_CALL flowshop_outcome flowshop_rounds(const flowshop_shop *shop, const 
                                                const flowshop_rounds_options *options, flowshop_reached *reached)
     FLOWSHOP_NOEXCEPT;
 
-/* A run of certify from the sequence `start`, whose searches write at most so many directions each. Where `limited` is
- * not 0, the run may be stopped before its end, and raises the lower bound early. flowshop_run_next says what is to be
- * done, and flowshop_run_put is told what became of it; flowshop_certify does the same on one thread. The caller keeps
- * the start, the best sequence and the one that was the best before it, and the directions of the last search that
- * proved its number. At any time these are a certificate of the bounds of the run, which flowshop_run_text writes, or
- * flowshop_run_counted with their count alone: so a run may be stopped between two tasks, shown, kept, and gone on
- * with. Its tasks do not depend on who does them. What it begins with, which task is next, and what an answer changes
- * is proved to be what Schedule of flow_certify says (docs/proved.md).
+/* A run of certify from the sequence `start`, whose searches have at most so many directions each: `directions` is 1 to
+ * 1000000000000000. Where `limited` is not 0, the run may be stopped before its end, and raises the lower bound early.
+ * flowshop_run_next says what is to be done, and flowshop_run_put is told what became of it; flowshop_certify does the
+ * same on one thread. The caller keeps the start, the best sequence and the one that was the best before it, and the
+ * directions of the last search that proved its number, or how many they are. At any time these are a certificate of
+ * the bounds of the run, which flowshop_run_text writes, or flowshop_run_counted with the count alone: so a run may be
+ * stopped between two tasks, shown, kept, and gone on with. Its tasks do not depend on who does them. What it begins
+ * with, which task is next, and what an answer changes is proved to be what Schedule of flow_certify says
+ * (docs/proved.md).
+ * A caller who keeps the count alone needs no memory for signs, and searches by flowshop_tally. Where `directions` is at
+ * most 1000000000, no search has more than 999990000, the most signs that the program's `check` reads. Where it is
+ * greater, a search may have as many as it says, and their number alone is to be kept.
  * Faults in order: JOBS, MACHINES, COUNT, TIME; LENGTH, JOB, TWICE (of start); DIRECTIONS. */
 FLOWSHOP_CALL flowshop_outcome flowshop_run(const flowshop_shop *shop, const uint16_t *start, size_t start_count,
-                                            uint32_t directions, uint32_t limited, flowshop_run_state *run)
+                                            uint64_t directions, uint32_t limited, flowshop_run_state *run)
     FLOWSHOP_NOEXCEPT;
 
 /* What a run asks for next: a search for a number above its lower bound and at most its upper one, a beam or rounds, or
@@ -622,9 +636,9 @@ FLOWSHOP_CALL flowshop_outcome flowshop_run_next(flowshop_run_state *run, const 
 
 /* Tells a run what became of the task that it asked for last. `better` becomes 1 where the sequence of the answer is to
  * be kept as the best one, else 0. Nothing tests that the answer is true: the bounds of the run are proved where it is
- * what flowshop_prove, flowshop_beam or flowshop_rounds gave for this task. A search for a number that is not above the
- * lower bound and at most the upper one is no task; more directions than the budget of a search, or a sequence that is
- * not below its number, are no answer to it.
+ * what flowshop_prove, flowshop_tally, flowshop_beam or flowshop_rounds gave for this task. A search for a number that
+ * is not above the lower bound and at most the upper one is no task; more directions than the budget of a search, or a
+ * sequence that is not below its number, are no answer to it.
  * Fault: ANSWER. */
 FLOWSHOP_CALL flowshop_outcome flowshop_run_put(flowshop_run_state *run, const flowshop_task *task,
                                                 const flowshop_answer *answer, uint32_t *better) FLOWSHOP_NOEXCEPT;

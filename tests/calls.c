@@ -63,6 +63,11 @@ static void *many(void *from) {
         wrong += flowshop_prove(&shop, &root, least.upper, &part).status;
         wrong += part.found != FLOWSHOP_PROVED;
         const uint64_t count = part.directions_length;
+        flowshop_part counted = {found, 4, NULL, 7, rest, 40, 7, 7, 7, 7};
+        wrong += flowshop_tally(&shop, &root, least.upper, count, &counted).status;
+        wrong += counted.found != FLOWSHOP_PROVED || counted.directions_length != count;
+        if (count) wrong += flowshop_tally(&shop, &root, least.upper, count - 1, &counted).status;
+        wrong += count && (counted.found != FLOWSHOP_OVER || counted.directions_length != count - 1);
         wrong += flowshop_run_counted(&shop, best, 4, least.upper, count, &text).status;
         wrong += flowshop_check_within(&shop, bytes, text.length, count, &proved).status;
         wrong += proved.lower != least.upper || proved.upper != least.upper;

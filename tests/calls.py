@@ -23,6 +23,7 @@ from reference import Search, of_rows, rows_of
 SHOPS = int(sys.argv[1]) if len(sys.argv) > 1 else 2_000
 SHOP = of_rows(refusals.THREE)
 MANY = 100_000
+MOST_COUNTED = 10**15
 
 # --- The calls ---
 
@@ -122,27 +123,42 @@ def certify(shop, start, numbers=(0, 0, 1, 0, 1_000), room=None, text_room=4_300
     return proved("certify", shop, [*given(U16, start), Effort(*numbers[:4]), U32(numbers[4])], room, text_room)
 
 
-def prove(shop, number, first=(), last=(), budget=MANY, room=None, rest_room=None):
-    """What the call gives: that the directions prove the number; a sequence, its makespan and the directions before it;
-    or the first directions, and the parts that are left."""
+def part_of(name, shop, lists, numbers, directions, room=None, rest_room=None):
+    """What a search of a node comes to, which writes its directions to room for them, or counts them where there is
+    none: that they prove the number; a sequence, its makespan and the directions before it; or the first directions,
+    and the parts that are left."""
     jobs = shop[0]
-    sequence, directions = Room(U16, jobs if room is None else room), Room(U8, budget)
+    sequence = Room(U16, jobs if room is None else room)
     rest = Room(U16, jobs * (jobs + 4) if rest_room is None else rest_room)
-    part, node = results(Part, sequence, directions, rest), Node(*lent(U16, first), *lent(U16, last))
-    refused = call("prove", shop_of(shop), node, U64(number), part)
+    node = Node(*lent(U16, lists[0]), *lent(U16, lists[1]))
+    part = results(Part, sequence, directions, rest) if directions else results(records.Tally, sequence, rest)
+    refused = call(name, shop_of(shop), node, *map(U64, numbers), part)
+    equal("what is not looked at", bool(directions) or (part.directions, part.entries) == (7, 7), True)
     if refused:
         return refused
-    text = bytes(directions.taken(part.directions_length)).decode("ascii")
+    text = part.directions_length
+    if directions:
+        text = bytes(directions.taken(text)).decode("ascii")
     left, jobs = rest.taken(part.rest_length), sequence.taken(jobs if part.found == 2 else 0)
     equal("no makespan where there is no sequence", part.found == 2 or part.makespan == 0, True)
     equal("no parts where the search has ended", part.found == 3 or left == [], True)
     return [("PROVED", text), ("BELOW", text, jobs, part.makespan), ("OVER", text, parts_of(left))][part.found - 1]
 
 
+def prove(shop, number, first=(), last=(), budget=MANY, **rooms):
+    """A search of a node that writes its directions."""
+    return part_of("prove", shop, (first, last), [number], Room(U8, budget), **rooms)
+
+
+def tally(shop, number, first=(), last=(), budget=MANY, **rooms):
+    """The same that counts them: their number stands in their place."""
+    return part_of("tally", shop, (first, last), [number, budget], None, **rooms)
+
+
 def run_of(shop, start, directions=1_000, limited=0):
     """A run, or why there is none."""
     run = results(Run)
-    refused = call("run", shop_of(shop), *given(U16, start), U32(directions), U32(limited), run)
+    refused = call("run", shop_of(shop), *given(U16, start), U64(directions), U32(limited), run)
     return refused or Run.from_buffer_copy(run)
 
 
@@ -178,24 +194,41 @@ def counted_of(shop, sequence, lower, count, room=3_300):
     return refused or bytes(data.taken(text.length))
 
 
-def done(shop, task, start):
-    """What becomes of a task: the numbers of an answer, a sequence, and directions."""
+def done(shop, task, start, search=prove):
+    """What becomes of a task: the numbers of an answer, a sequence, and directions, or how many they are."""
     if task.kind == 1:
-        kind, text, *found = prove(shop, task.number, budget=task.budget)
+        kind, text, *found = search(shop, task.number, budget=task.budget)
         sequence, makespan_ = found if kind == "BELOW" else ([], 0)
-        return (["PROVED", "BELOW", "OVER"].index(kind) + 1, 0, makespan_, len(text)), sequence, text.encode()
+        return (["PROVED", "BELOW", "OVER"].index(kind) + 1, 0, makespan_, count_of(text)), sequence, text
     if task.kind == 2:
         sequence, value, whole = beam(shop, start, task.beam.number, task.beam.width, task.beam.steps)
     else:
         sequence, value, whole = rounds(shop, start, task.rounds.rounds, task.rounds.seed, task.rounds.steps)
-    return (4, whole, value, 0), sequence, b""
+    return (4, whole, value, 0), sequence, ""
+
+
+def count_of(directions):
+    """How many directions there are, which may be written or counted."""
+    return directions if isinstance(directions, int) else len(directions)
+
+
+def count_by_tasks(shop, start, numbers):
+    """The sequence, the bounds and the number of directions that a run comes to whose searches count."""
+    run, kept, count = run_of(shop, start, numbers[4]), [start] * 3, 0
+    while (task := next_of(run, numbers)).kind:
+        answer, sequence, text = done(shop, task, kept[task.origin], tally)
+        if put_to(run, task, *answer):
+            kept = [start, sequence, kept[1]]
+        elif answer[0] == 1:
+            count = text
+    return kept[1], run.lower, run.upper, count
 
 
 def certify_by_tasks(shop, start, numbers, limited=0, asked=None):
     """What the tasks of a run come to, each done by its own call; and that each of them leaves bounds that are proved,
     and asks for no more than these leave open. `asked` takes the step and the kind of each task, and whether it raises
     the lower bound."""
-    run, kept, directions = run_of(shop, start, numbers[4], limited), [start] * 3, b""
+    run, kept, directions = run_of(shop, start, numbers[4], limited), [start] * 3, ""
     while (task := next_of(run, numbers)).kind:
         if asked is not None:
             asked.append((run.step, task.kind, task.kind == 1 and task.number < run.upper))
@@ -206,9 +239,10 @@ def certify_by_tasks(shop, start, numbers, limited=0, asked=None):
             kept = [start, sequence, kept[1]]
         elif answer[0] == 1:
             directions = text
-        text = text_of(shop, kept[1], run.lower, directions, 3_300 + len(directions))
+        text = text_of(shop, kept[1], run.lower, directions.encode(), 3_300 + len(directions))
         equal("what is kept", check(shop, text), (kept[1], run.lower, run.upper))
-    return kept[1], run.lower, run.upper, text_of(shop, kept[1], run.lower, directions, 3_300 + len(directions))
+    text = text_of(shop, kept[1], run.lower, directions.encode(), 3_300 + len(directions))
+    return kept[1], run.lower, run.upper, text
 
 
 WAITS, GIVEN, SEARCHED, AT_SEQUENCE, DROPPED = range(5)
@@ -322,20 +356,21 @@ def nodes_of(parts):
             yield ([*first, job], last) if end == 1 else (first, [job, *last])
 
 
-def by_parts(shop, number, first, last, budget):
-    """The directions that parts have with a few directions at a time, and a sequence where one is reached."""
-    text, nodes = "", [(list(first), list(last))]
+def by_parts(shop, number, first, last, budget, search=prove):
+    """The directions that parts have with a few directions at a time, or how many they are, and a sequence where one is
+    reached."""
+    texts, nodes = [], [(list(first), list(last))]
     while nodes:
         node = nodes.pop(0)
-        kind, more, *found = prove(shop, number, *node, budget)
-        text += more
+        kind, more, *found = search(shop, number, *node, budget)
+        texts.append(more)
         if kind == "BELOW":
             equal("the makespan of a sequence", found[1], reference.makespan(shop, found[0]))
-            return text, found[0]
+            return "".join(texts) if search is prove else sum(texts), found[0]
         if kind == "OVER":
-            equal("how many directions there are", len(more), budget)
+            equal("how many directions there are", count_of(more), budget)
             nodes[:0] = nodes_of(found[0])
-    return text, None
+    return "".join(texts) if search is prove else sum(texts), None
 
 # --- Plain code ---
 
@@ -384,7 +419,7 @@ OTHER_CALLS = {
     "neh": lambda shop: neh(shop, 0), "check": lambda shop: check(shop, b"", 0),
     "check_within": lambda shop: check_within(shop, b"", 0, 0),
     "makespans": lambda shop: makespans(shop, [4], 0),
-    "prove": lambda shop: prove(shop, 12, [4], [4], room=0),
+    "prove": lambda shop: prove(shop, 12, [4], [4], room=0), "tally": lambda shop: tally(shop, 12, [4], [4], room=0),
     **{name: lambda shop, make=make: make(shop, [4]) for name, make in CALLS.items()},
 }
 # Shops that are none, with the fault and its place.
@@ -467,6 +502,8 @@ def refuse_rooms():
         ("beam", lambda room: beam(SHOP, START, room=room)[0]),
         ("rounds", lambda room: rounds(SHOP, START, room=room)[0]),
         ("prove", lambda room: prove(SHOP, 13, room=room, rest_room=0)[0]),
+        ("tally", lambda room: tally(SHOP, 13, room=room, rest_room=0)[0]),
+        ("tally, which is over", lambda room: tally(SHOP, 12, budget=0, room=room, rest_room=99)[0]),
         ("solve", lambda room: solve(SHOP, START, room=room)[0]),
         ("certify", lambda room: certify(SHOP, START, room=room)[0]),
         ("check", lambda room: check(SHOP, text, room)[0]),
@@ -480,6 +517,9 @@ def refuse_rooms():
     equal("a part of a search", (kind, len(text), len(parts) > 0), ("OVER", 1, True))
     equal("no room for it", prove(SHOP, 12, budget=1, rest_room=entries - 1), ("ROOM", entries))
     equal("just room for it", prove(SHOP, 12, budget=1, rest_room=entries), (kind, text, parts))
+    equal("no room for one that is counted", tally(SHOP, 12, budget=1, rest_room=entries - 1), ("ROOM", entries))
+    equal("just room for one", tally(SHOP, 12, budget=1, rest_room=entries), (kind, 1, parts))
+    equal("no room for a sequence and for it", tally(SHOP, 12, budget=1, room=2, rest_room=0), ("ROOM", 3))
 
 
 def refuse_answers():
@@ -487,8 +527,8 @@ def refuse_answers():
     tasks that it may not ask for."""
     for wanted, numbers in refusals.wrong_numbers(("width", "rounds", "seed", "work")):
         equal(f"the task of {numbers}", next_of(run_of(SHOP, START), [*numbers.values()]), (wanted.upper(), 0))
-    for wanted, numbers in refusals.wrong_numbers(("directions",)):
-        equal(f"a run of {numbers}", run_of(SHOP, START, *numbers.values()), (wanted.upper(), 0))
+    for most in (0, MOST_COUNTED + 1, 2**63, 2**64 - 1):
+        equal(f"a run of {most} directions", run_of(SHOP, START, most), ("DIRECTIONS", 0))
     numbers, run = (16, 9, 1, 1), run_of(SHOP, START)
     first = next_of(run, numbers)
     # All searches may write 850 of 459 parts of a thousand directions, 1851, and half of them before step 5.
@@ -519,7 +559,7 @@ def compare_limits():
     bounds = {name: most for name, (_, most) in refusals.LIMITS.items()}
     equal("those of refusals.py", {name: got[f"max_{name}"] for name in bounds}, bounds)
     others = {"number": 4_294_967_295, "job": 65_535, "text": 16_777_216, "certificate": 1_000_000_000, "beside": 3_300,
-              "nodes": refusals.MOST_NODES}
+              "nodes": refusals.MOST_NODES, "counted": MOST_COUNTED}
     equal("the others", {name: got[f"max_{name}"] for name in others}, others)
     equal("how many there are", len(got), len({*stated, *(f"max_{name}" for name in {**bounds, **others})}))
 
@@ -536,7 +576,8 @@ def refuse_null_pointers():
         lambda: next_of(run, numbers),
         lambda: put_to(run, Task(1, 0, 13, 1), 3, 0, 0, 0),
         lambda: text_of(SHOP, START, 10, b""), lambda: counted_of(SHOP, START, 10, 0),
-        lambda: check_within(SHOP, refusals.COUNTED, 2), lambda: prove(SHOP, 13), lambda: beam(SHOP, START),
+        lambda: check_within(SHOP, refusals.COUNTED, 2), lambda: prove(SHOP, 13),
+        lambda: tally(SHOP, 13), lambda: run_of(SHOP, START, MOST_COUNTED), lambda: beam(SHOP, START),
         lambda: rounds(SHOP, START), lambda: Shared(9, 3).put(Shared(9, 3).give(), 1),
     ):
         make()
@@ -658,10 +699,32 @@ def compare_calls():
         (lambda: prove(SHOP, 12, [3, 2], [2, 4], room=0), ("TWICE", 3)),
         (lambda: prove(SHOP, 12, [3, 2, 3], [2, 4], room=0), ("TWICE", 3)),
         (lambda: prove(SHOP, 12, [3, 2, 1], [1], room=0), ("TWICE", 4)),
+        *[(lambda lists=lists: tally(SHOP, 12, *lists, 0, room=0, rest_room=0), wanted) for *lists, wanted in [
+            ([4], [4], ("JOB", 1)), ([0], [], ("JOB", 1)), ([3, 2], [1, 65_535], ("JOB", 4)), ([], [4], ("JOB", 1)),
+            ([3, 2], [2, 4], ("TWICE", 3)), ([3, 2, 3], [2, 4], ("TWICE", 3)), ([3, 2, 1], [1], ("TWICE", 4)),
+        ]],
         (lambda: prove(SHOP, 12, rest_room=0)[0], "PROVED"),
         (lambda: prove(SHOP, 13, rest_room=0)[2:], ([3, 1, 2], 12)),
         (lambda: prove(SHOP, 2**64 - 1, START), ("BELOW", "", START, 13)),
         (lambda: prove(SHOP, 13, [2, 1], [3]), ("PROVED", "")), (lambda: prove(SHOP, 0), ("PROVED", "")),
+        # Two directions prove 12, as the certificate of docs/formats.md has them. The bound of the root is 10.
+        (lambda: tally(SHOP, 12, budget=2, rest_room=0), ("PROVED", 2)),
+        (lambda: tally(SHOP, 12, budget=1)[:2], ("OVER", 1)),
+        (lambda: tally(SHOP, 12, budget=2**64 - 1), ("PROVED", 2)),
+        (lambda: tally(SHOP, 12, budget=0, rest_room=4), ("OVER", 0, [([], [], 0, [])])),
+        (lambda: tally(SHOP, 12, budget=0, rest_room=3), ("ROOM", 4)),
+        (lambda: tally(SHOP, 10, budget=0, rest_room=0), ("PROVED", 0)),
+        (lambda: tally(SHOP, 0, budget=0, rest_room=0), ("PROVED", 0)),
+        (lambda: tally(SHOP, 13, rest_room=0)[2:], ([3, 1, 2], 12)),
+        (lambda: tally(SHOP, 2**64 - 1, START, budget=0), ("BELOW", 0, START, 13)),
+        (lambda: tally(SHOP, 13, [2, 1], [3], 0), ("PROVED", 0)),
+        (lambda: tally((1, 1, [0]), 1, budget=0, rest_room=0), ("BELOW", 0, [1], 0)),
+        (lambda: tally((1, 1, [999_999]), 999_999, budget=0, rest_room=0), ("PROVED", 0)),
+        # The jobs of the greatest shop are all alike, so that the bound of its root is the makespan of each sequence. A
+        # node is opened for each job of the first sequence.
+        (lambda: tally(great, 824_999_175, budget=0, rest_room=0), ("PROVED", 0)),
+        (lambda: tally(great, 824_999_176, budget=799)[:2], ("OVER", 799)),
+        (lambda: tally(great, 824_999_176, budget=800, rest_room=0)[::3], ("BELOW", 824_999_175)),
         # The states of the seed 1 are 16807, 282475249, 1622650073 and 984943658. The last seed is the modulus less 1,
         # so its state is the modulus less the multiplier.
         (lambda: generate(2, 2, 1, room=9), [1, 14, 75, 46]), (lambda: generate(1, 1, 2_147_483_646), [99]),
@@ -700,6 +763,10 @@ def compare_shop(draw):
     compare_counted(shop, sequence, draw.choice((0, least, max(0, least - 1))))
     equal("a plain check of it", plain_check(shop, text, 1_000), (sequence, least, least))
     most = draw.randint(1, 9)
+    directions = draw.choice((1_000, 10**9, 10**9 + 1, MOST_COUNTED))
+    counted, *bounds, count = count_by_tasks(shop, start, (*effort, directions))
+    equal("bounds that are counted", (bounds, reference.makespan(shop, counted)), ([least, least], least))
+    equal("how many directions prove them", count, len(Search(shop).search(least)[0]))
     for numbers in ((*effort, 1_000), (*effort, most)):
         equal("what a run comes to by its tasks", certify_by_tasks(shop, start, numbers), certify(shop, start, numbers))
     equal("one that is limited", check(shop, certify_by_tasks(shop, start, numbers, 1)[3])[1] <= least, True)
@@ -711,10 +778,14 @@ def compare_shop(draw):
 
 def compare_begun():
     """All numbers of runs that have begun. All searches may write 850 of 459 parts of the directions, of which half is
-    kept, and one as many as the caller says, but no more than four fifths of these, or than fit in a text. Each search
-    costs 3 * 3 / 3 directions more. No threshold was over, and none was missed."""
-    for directions, limited, *fund in [(1_000, 0, 1_000, 926, 925), (1, 7, 1, 1, 0), (2, 1, 2, 2, 1),
-                                       (10**9, 1, 999_990_000, 925_925_926, 925_925_925)]:
+    kept, and one as many as the caller says, but no more than four fifths of these, or than fit in a text where they
+    may be signs. Each search costs 3 * 3 / 3 directions more. No threshold was over, and none was missed."""
+    for directions, limited, *fund in [
+        (1_000, 0, 1_000, 926, 925), (1, 7, 1, 1, 0), (2, 1, 2, 2, 1),
+        (10**9, 1, 999_990_000, 925_925_926, 925_925_925), (10**9 + 1, 0, 10**9 + 1, 925_925_927, 925_925_926),
+        (999_990_000, 0, 999_990_000, 925_916_667, 925_916_666), (2**32, 0, 2**32, 3_976_821_570, 3_976_821_570),
+        (MOST_COUNTED, 1, MOST_COUNTED, 925_925_925_925_926, 925_925_925_925_925),
+    ]:
         run = run_of(SHOP, START, directions, limited)
         wanted = [10, 13, 10, 13, *fund, 3, 0, 10, 13, 1, 2**64 - 1, 0, 10**9, 1, 0, min(1, limited)]
         equal("a run that has begun", [getattr(run, name) for name, _ in Run._fields_], wanted)
@@ -758,8 +829,25 @@ def compare_parts(draw):
         for budget in (1, 2, 7, 1_000, len(text), max(0, len(text) - 1)):
             if budget or not text:
                 equal(f"parts with {budget} of {shop}", by_parts(shop, number, first, last, budget), wanted)
+                got = by_parts(shop, number, first, last, budget, tally)
+                equal(f"parts that are counted with {budget} of {shop}", got, (len(wanted[0]), wanted[1]))
         if text:
             equal("no directions at all", prove(shop, number, first, last, 0), ("OVER", "", [(first, last, 0, [])]))
+        compare_tally(shop, number, first, last, (kind, wanted[0], *found))
+
+
+def compare_tally(shop, number, first, last, wanted):
+    """What is counted at a node, of which all directions and what it comes to are known: with budgets that are enough,
+    and with others, where the parts are those of a search that writes its directions."""
+    count = len(wanted[1])
+    for budget in (count, count + 1, MANY, MOST_COUNTED, 2**63, 2**64 - 1):
+        got = tally(shop, number, first, last, budget, rest_room=0)
+        equal(f"a count within {budget} of {shop}", got, (wanted[0], count, *wanted[2:]))
+    for budget in {0, 1, 2, 7, count // 2, count - 1}:
+        if 0 <= budget < count:
+            kind, text, parts = prove(shop, number, first, last, budget)
+            equal(f"a search over {budget} of {shop}", (kind, text), ("OVER", wanted[1][:budget]))
+            equal(f"a count over {budget} of {shop}", tally(shop, number, first, last, budget), (kind, budget, parts))
 
 
 def compare_reached(draw):

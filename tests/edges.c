@@ -292,6 +292,8 @@ CALL(run_text, flowshop_run_text(ON_SHOP, 5, lent.certificate, of.certificate_co
 CALL(run_counted, flowshop_run_counted(ON_SHOP, 5, 7, lent.text))
 CALL(prove, flowshop_prove(lent.shop, lent.root, of.upper, lent.part))
 CALL(prove_node, flowshop_prove(lent.shop, lent.node, of.upper + 1, lent.part))
+CALL(tally, flowshop_tally(lent.shop, lent.root, of.upper, DIRECTIONS_MOST, lent.part))
+CALL(tally_node, flowshop_tally(lent.shop, lent.node, of.upper + 1, DIRECTIONS_MOST, lent.part))
 CALL(beam, flowshop_beam(ON_SHOP, lent.beam, lent.reached))
 CALL(rounds, flowshop_rounds(ON_SHOP, lent.rounds, lent.reached))
 
@@ -314,6 +316,8 @@ static const struct call {
     {"run_text", run_text, READ | BIT(TEXT)}, {"run_counted", run_counted, READ | BIT(TEXT)},
     {"prove", prove, BIT(SHOP_TIMES) | BIT(SEQUENCE) | BIT(REST)},
     {"prove of a node", prove_node, BIT(SHOP_TIMES) | BIT(SEQUENCE) | BIT(REST)},
+    {"tally", tally, BIT(SHOP_TIMES) | BIT(SEQUENCE) | BIT(REST)},
+    {"tally of a node", tally_node, BIT(SHOP_TIMES) | BIT(SEQUENCE) | BIT(REST)},
     {"beam", beam, READ | BIT(SEQUENCE)}, {"rounds", rounds, READ | BIT(SEQUENCE)}};
 enum { CALLS_COUNT = sizeof CALLS / sizeof *CALLS };
 

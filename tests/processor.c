@@ -90,6 +90,7 @@ int main(void) {
     MAKE(check_within, &SHOP, counted, sizeof COUNTED - 1, 2, &rooms.bounds);
     MAKE(solve, &SHOP, START, 3, &PLAN, &rooms.bounds, &rooms.text);
     MAKE(prove, &SHOP, &root, 12, &rooms.part);
+    MAKE(tally, &SHOP, &root, 12, 2, &rooms.part);
     MAKE(run, &SHOP, START, 3, 1000, 0, &rooms.run);
     run = rooms.run;
     MAKE(run_next, &rooms.run, &EFFORT, &rooms.task);

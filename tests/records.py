@@ -65,7 +65,7 @@ Outcome = record("Outcome", ("status", U32), ("place", SIZE))
 Limits = record("Limits", *[(name, U32) for name in (
     "max_jobs", "max_machines", "max_time", "max_number", "max_job", "max_seed", "max_width", "max_rounds", "max_work",
     "max_directions", "max_depth", "max_prefixes", "max_budget", "min_version", "max_version", "max_workers",
-    "max_text", "max_certificate", "max_beside")], ("max_nodes", U64))
+    "max_text", "max_certificate", "max_beside")], ("max_nodes", U64), ("max_counted", U64))
 Shop = record("Shop", ("jobs", U32), ("machines", U32), ("times", [U32]))
 Reached = record("Reached", ("sequence", [U16]), ("makespan", U64), ("whole", U32))
 STATED = ("seed", U32), ("upper", U32), ("lower", U32)
@@ -91,6 +91,9 @@ Node = record("Node", ("first", [U16]), ("last", [U16]))
 ROOMS = ("sequence", [U16]), ("directions", [U8]), ("rest", [U16])
 LENGTHS = ("directions_length", SIZE), ("rest_length", SIZE)
 Part = record("Part", *ROOMS, ("found", U32), ("makespan", U64), *LENGTHS)
+# The same for a search that counts: it does not look at the room for directions, which is nowhere here.
+NOWHERE = ("directions", SIZE), ("entries", SIZE)
+Tally = record("Tally", ROOMS[0], *NOWHERE, ROOMS[2], ("found", U32), ("makespan", U64), *LENGTHS)
 
 
 def lent(kind, numbers):

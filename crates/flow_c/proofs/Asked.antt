@@ -1,5 +1,6 @@
 -- Why no text is given, where the arguments of a search for bounds have no fault.
 use Rattle.std.proofs.Common.{◌≡◌, ◌⊎◌, refl, inl, inr, ℕ, List, Some, None}
+use Rattle.flow_limits.specs.Limits.{most_directions}
 use Rattle.flow_shop.specs.SequenceFaults.{sequence_fault}
 use Rattle.flow_c.specs.Statuses.{number, memory}
 use Rattle.flow_c.specs.Faults.{shop_of, numbers_fault, fault_of_effort, room_fault}
@@ -11,7 +12,7 @@ use Rattle.flow_c.proofs.Tested.{no-makespan-fault}
 
 module _ (numbers : ShopNumbers) (start : List ℕ) (effort : EffortNumbers) (directions entries : ℕ)
     (one : numbers_fault numbers ≡ None) (two : sequence_fault numbers.jobs start ≡ None)
-    (three : fault_of_effort effort ≡ None) (four : directions_fault directions ≡ None)
+    (three : fault_of_effort effort ≡ None) (four : directions_fault most_directions directions ≡ None)
     (five : room_fault numbers.jobs entries ≡ None) where
   -- the arguments have no fault
   no-certify-fault : certify_fault numbers start effort directions entries ≡ None

@@ -13,11 +13,12 @@ use Rattle.flow_shop.specs.declared.end.End.{End}
 use Rattle.flow_shop.specs.declared.end.End.TheVariants.{Front, Back}
 use Rattle.flow_shop.proofs.JobLists.{apart-before, few-jobs, jobs-insert}
 use Rattle.flow_shop.proofs.JobsLeft.{InRange, distinct-rest, kept-le, sum_by-ones}
-use Rattle.flow_directions.specs.Search.{IsAdvanced, IsPart}
-use Rattle.flow_directions.specs.declared.found.Advanced.TheVariants.{Rest}
+use Rattle.flow_directions.specs.Search.{IsPart}
 use Rattle.flow_directions.specs.declared.found.Part.{Part}
 use Rattle.flow_directions.specs.declared.found.Part.TheVariants.{Node, Children}
-use Rattle.flow_c.specs.Searches.{most_rest, numbers_of}
+use Rattle.flow_c.specs.Searches.{most_rest, numbers_of, IsCome}
+use Rattle.flow_c.specs.declared.node.NodeLists.{NodeLists}
+use Rattle.flow_c.specs.declared.came.Came.TheVariants.{Rest}
 
 -- distinct jobs before others, none of which is among these
 joined : (n : ℕ) (jobs list : List ℕ) → InRange n jobs → AreDistinct jobs → AreJobs n list →
@@ -82,15 +83,15 @@ parts-size shop (part ∷ parts) each =
     )
 
 -- the parts that a search leaves have no more numbers than are always enough
-pub rest-size : (shop : Shop) (threshold budget : ℕ) (first last : List ℕ) (text : Vec ℕ) (parts : Vec Part) →
-    IsAdvanced shop threshold budget first last (Rest text parts) →
+pub rest-size : (shop : Shop) (threshold budget : ℕ) (node : NodeLists) (text : List ℕ) (parts : Vec Part) →
+    IsCome shop threshold budget node text (Rest parts) →
     length (flat_map numbers_of parts.items) ≤ most_rest shop.jobs
-rest-size shop threshold budget first last text parts is =
+rest-size shop threshold budget node text parts is =
     let few : length parts.items ≤ shop.jobs = omega (
       arith,
       is.4,
-      sum_by-ones (jobs_left shop.jobs (first ++ last)),
-      kept-le (λ job. not (has (first ++ last) job)) shop.jobs,
+      sum_by-ones (jobs_left shop.jobs (node.first.now ++ node.last.now)),
+      kept-le (λ job. not (has (node.first.now ++ node.last.now) job)) shop.jobs,
     ) in
     omega (
       arith,

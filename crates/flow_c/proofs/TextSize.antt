@@ -1,9 +1,10 @@
 -- How long certificates of bounds are, and how a two-ended one is put together from one with no directions.
 use Rattle.std.proofs.Common.{◌≡◌, ◌⊎◌, inr, ◌∙◌, refl, ap, sym, ℕ, ◌+◌, ◌-◌, ◌*◌, ◌^◌, ◌<◌, ◌≤◌, List, [], ◌∷◌, ◌++◌}
-use Rattle.std.proofs.Common.{length, take, drop, arith, append_assoc, length-append, length-drop}
+use Rattle.std.proofs.Common.{length, take, drop, min, nat_le, Bool, true, false, subst, if◌then◌else◌, arith, append_assoc, length-append, length-drop}
 use Rattle.std.proofs.Math.Seq.{take-append_seam, drop-append_seam}
 use Rattle.std.proofs.lemmas.Fmt.{length-decimal-le}
 use Rattle.std.specs.Fmt.{decimal}
+use Rattle.std.specs.Global.{Vec}
 use Rattle.std.specs.List.{AllByRecursion}
 use Rattle.std.proofs.lemmas.List.Elements.{recursion_from_All}
 use Rattle.std.proofs.lemmas.List.{length-take-le}
@@ -19,6 +20,12 @@ use Rattle.flow_check.specs.FourLines.{size_lines, bounds_lines, sequence_lines}
 use Rattle.flow_check.specs.TwoEnded.{two_ended_text, two_ended_title}
 use Rattle.flow_check.specs.declared.bounds.Bounds.{Bounds}
 use Rattle.flow_cert.proofs.Lawful.{span-fits}
+use Rattle.flow_limits.specs.Limits.{most_directions}
+use Rattle.flow_directions.specs.Search.{directions_of}
+use Rattle.flow_certify.specs.Searched.{Keeps}
+use Rattle.flow_certify.specs.Signs.{most_searched, most_signs}
+use Rattle.flow_certify.specs.declared.proof.Proof.{Proof}
+use Rattle.flow_certify.specs.declared.proof.Proof.TheVariants.{Signs}
 use Rattle.flow_c.specs.Statuses.{number, memory}
 use Rattle.flow_c.specs.Certify.{IsTextFrom, IsTextTooLong}
 use Rattle.flow_c.specs.declared.fault.Fault.{Fault}
@@ -178,7 +185,7 @@ lower-low : (shop : Shop) (number : ℕ) (sequence directions : List ℕ) → Pr
 lower-low shop number sequence directions proves is = proved_is_lower_bound shop number directions proves sequence is
 
 -- the text of what was found, once the directions are put in
-pub text-found : (shop : Shop) (start : List ℕ) (most : ℕ) (bounds : Bounds) (sequence directions around : List ℕ) →
+text-found : (shop : Shop) (start : List ℕ) (most : ℕ) (bounds : Bounds) (sequence directions around : List ℕ) →
     IsWithinLimits shop → IsSequence shop.jobs sequence → span shop sequence ≡ bounds.upper →
     bounds.upper ≤ span shop start → Proves shop bounds.lower directions → end_bound shop [] [] ≤ bounds.lower →
     length directions ≤ most → around ≡ two_ended_text shop bounds sequence [] →
@@ -210,6 +217,28 @@ text-found shop start most bounds sequence directions around limits is attained 
             around-short shop bounds sequence limits lower high is,
           );
     }
+
+-- a search has no more directions than its limit says
+searched-few : (is : Bool) (limit : ℕ) → (if is then min limit most_signs else limit) ≤ limit
+searched-few true limit = omega arith
+searched-few false limit = omega arith
+
+-- the text of signs that are kept of the directions that prove the lower bound
+pub text-kept : (shop : Shop) (start : List ℕ) (most : ℕ) (bounds : Bounds) (sequence : List ℕ) (signs : Vec ℕ)
+    (around : List ℕ) (proof : Proof) → IsWithinLimits shop → IsSequence shop.jobs sequence →
+    span shop sequence ≡ bounds.upper → bounds.upper ≤ span shop start →
+    Proves shop bounds.lower (directions_of shop bounds.lower [] []) →
+    Keeps proof (directions_of shop bounds.lower [] []) → proof ≡ Signs signs → end_bound shop [] [] ≤ bounds.lower →
+    length (directions_of shop bounds.lower [] []) ≤ most_searched most →
+    around ≡ two_ended_text shop bounds sequence [] →
+    IsTextFrom shop start most (with_directions around signs.items) bounds sequence
+text-kept shop start most bounds sequence signs around proof limits is attained no_worse proves keeps kept floor few text
+    =
+    let same : signs.items ≡ directions_of shop bounds.lower [] [] =
+    subst (λ kept. Keeps kept (directions_of shop bounds.lower [] [])) kept keeps in
+    text-found shop start most bounds sequence signs.items around limits is attained no_worse
+    (subst (Proves shop bounds.lower) (sym same) proves) floor
+    (omega (arith, ap length same, few, searched-few (nat_le most most_directions) most)) text
 
 -- a text that has no room
 pub too-long : (shop : Shop) (start : List ℕ) (most entries : ℕ) (bounds : Bounds)

@@ -1,22 +1,23 @@
 -- What a search for a two-ended certificate gives, and why it gives nothing.
 use Rattle.std.specs.Prelude.{ℕ, ◌≡◌, ◌+◌, ◌<◌, ◌≤◌, List, [], ◌∷◌, length, Option}
+use Rattle.std.specs.Int.{is_in_range}
 use Rattle.std.specs.Option.{option_map}
+use Rattle.flow_limits.specs.Limits.{most_directions}
 use Rattle.flow_shop.specs.Refusals.{fault_unless, first_fault}
 use Rattle.flow_shop.specs.Shop.{Shop}
 use Rattle.flow_shop.specs.Ends.{end_bound}
 use Rattle.flow_shop.specs.Paths.{span}
 use Rattle.flow_check.specs.TwoEnded.{IsTwoEnded}
 use Rattle.flow_check.specs.declared.bounds.Bounds.{Bounds}
-use Rattle.flow_certify.specs.Signs.{may_be_most}
 use Rattle.flow_c.specs.Faults.{makespan_fault, fault_of_effort, room_fault}
 use Rattle.flow_c.specs.declared.shop.ShopNumbers.{ShopNumbers}
 use Rattle.flow_c.specs.declared.effort.EffortNumbers.{EffortNumbers}
 use Rattle.flow_c.specs.declared.fault.Fault.{Fault}
 use Rattle.flow_c.specs.declared.fault.Fault.TheVariants.{Room, Effort, Directions}
 
--- why a number of directions is refused
-abbrev pub directions_fault : ℕ → Option Fault
-directions_fault directions = fault_unless (may_be_most directions) Directions
+-- why a number of directions is refused, where it may be 1 to a greatest limit
+abbrev pub directions_fault : ℕ → ℕ → Option Fault
+directions_fault greatest directions = fault_unless (is_in_range 1 greatest directions) Directions
 
 -- why nothing is searched: the numbers are no instance, the jobs no sequence of it, the other numbers not within their
 -- limits, or a sequence has no room
@@ -24,7 +25,7 @@ abbrev pub certify_fault : ShopNumbers → List ℕ → EffortNumbers → ℕ �
 certify_fault numbers start effort directions entries = first_fault (
     makespan_fault numbers start
     ∷ option_map Effort (fault_of_effort effort)
-    ∷ directions_fault directions
+    ∷ directions_fault most_directions directions
     ∷ room_fault numbers.jobs entries
     ∷ [])
 

@@ -3,6 +3,7 @@ use Rattle.flow_limits.specs.Limits.{most_jobs, most_machines, greatest_time, gr
 use Rattle.flow_limits.specs.Limits.{greatest_depth, least_version, greatest_version, most_workers, most_prefixes}
 use Rattle.flow_limits.specs.Limits.{greatest_budget, most_text, most_certificate, most_rounds, most_width, most_work}
 use Rattle.flow_limits.specs.Limits.{most_directions}
+use Rattle.flow_certify.specs.Signs.{most_counted}
 use Rattle.flow_check.specs.Counted.{most_nodes}
 use Rattle.flow_text.specs.StartText.{greatest_job_number}
 use Rattle.flow_c.specs.Certify.{most_beside}
@@ -31,4 +32,5 @@ all_limits = record {
   max_certificate = most_certificate;
   max_beside = most_beside;
   max_nodes = most_nodes;
+  max_counted = most_counted;
 }

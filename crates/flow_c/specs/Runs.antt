@@ -4,6 +4,7 @@ use Rattle.std.specs.Prelude.{ℕ, ◌≡◌, ◌&&◌, Bool, false, cond, nat_e
 use Rattle.std.specs.Option.{option_map}
 use Rattle.flow_shop.specs.Refusals.{first_fault}
 use Rattle.flow_certify.specs.Schedule.{IsNext, run_after}
+use Rattle.flow_certify.specs.Signs.{most_counted}
 use Rattle.flow_certify.specs.Tasks.{HasSameBounds, IsAnswered, IsAsked, may_ask, may_become}
 use Rattle.flow_certify.specs.declared.run.Run.{Run}
 use Rattle.flow_certify.specs.declared.task.Task.{Task}
@@ -29,7 +30,7 @@ use Rattle.flow_c.specs.declared.shop.ShopNumbers.{ShopNumbers}
 abbrev pub run_fault : ShopNumbers → List ℕ → ℕ → Option Fault
 run_fault numbers start directions = first_fault (
     makespan_fault numbers start
-    ∷ directions_fault directions
+    ∷ directions_fault most_counted directions
     ∷ [])
 
 -- the number of the sequence from which a beam or rounds begin

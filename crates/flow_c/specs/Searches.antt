@@ -1,5 +1,5 @@
 -- What a part of a search for directions gives, and why it gives nothing. `library/flowshop.h` has the same numbers.
-use Rattle.std.specs.Prelude.{ℕ, ◌≡◌, ◌+◌, ◌*◌, ◌<◌, ◌≤◌, List, [], ◌∷◌, ◌++◌, length, take, Option}
+use Rattle.std.specs.Prelude.{ℕ, ◌≡◌, ◌+◌, ◌*◌, ◌<◌, ◌≤◌, List, [], ◌∷◌, ◌++◌, length, take, Option, None}
 use Rattle.std.specs.Global.{Vec}
 use Rattle.std.specs.List.{flat_map}
 use Rattle.std.specs.Option.{option_map}
@@ -9,14 +9,16 @@ use Rattle.flow_shop.specs.Shop.{Shop}
 use Rattle.flow_shop.specs.SequenceFaults.{place_fault}
 use Rattle.flow_shop.specs.declared.end.End.{End}
 use Rattle.flow_shop.specs.declared.end.End.TheVariants.{Front, Back}
-use Rattle.flow_directions.specs.Search.{IsAdvanced, IsOfNode}
-use Rattle.flow_directions.specs.declared.found.Advanced.{Advanced}
-use Rattle.flow_directions.specs.declared.found.Advanced.TheVariants.{Proved, Below, Rest}
+use Rattle.flow_shop.specs.Directions.{ProvesFrom}
+use Rattle.flow_directions.specs.Search.{directions_of, first_below, IsFound, IsOfNode, IsRest}
+use Rattle.flow_directions.specs.declared.found.Found.TheVariants as found
 use Rattle.flow_directions.specs.declared.found.Part.{Part}
 use Rattle.flow_directions.specs.declared.found.Part.TheVariants.{Node, Children}
 use Rattle.flow_c.specs.Faults.{numbers_fault, room_fault}
 use Rattle.flow_c.specs.declared.shop.ShopNumbers.{ShopNumbers}
 use Rattle.flow_c.specs.declared.node.NodeLists.{NodeLists}
+use Rattle.flow_c.specs.declared.came.Came.{Came}
+use Rattle.flow_c.specs.declared.came.Came.TheVariants.{Proved, Below, Rest}
 use Rattle.flow_c.specs.declared.fault.Fault.{Fault}
 use Rattle.flow_c.specs.declared.fault.Fault.TheVariants.{Room, Instance, Sequence}
 
@@ -28,7 +30,7 @@ proved = 1
 abbrev pub below : ℕ
 below = 2
 
--- there are more directions than there is room for
+-- there are more directions than there may be
 abbrev pub over : ℕ
 over = 3
 
@@ -46,22 +48,43 @@ abbrev pub numbers_of : Part → List ℕ
 numbers_of (Node first last) = listed first.items last.items [] 0
 numbers_of (Children first last end jobs) = listed first.items last.items jobs.items (number_of end)
 
--- what a search came to, as it is told: what it is, the jobs of a sequence, its makespan, the directions, and the
--- numbers of the parts that are left
-abbrev pub IsTold : Advanced → ℕ → List ℕ → ℕ → List ℕ → List ℕ → Type 0
-IsTold (Proved text) found jobs makespan directions rest =
-    (found ≡ proved) × (makespan ≡ 0) × (directions ≡ text.items) × (rest ≡ [])
-IsTold (Below sequence value text) found jobs makespan directions rest =
-    (found ≡ below) × (makespan ≡ value) × (directions ≡ text.items) × (rest ≡ [])
-    × (take (length sequence) jobs ≡ sequence)
-IsTold (Rest text parts) found jobs makespan directions rest =
-    (found ≡ over) × (makespan ≡ 0) × (directions ≡ text.items) × (rest ≡ flat_map numbers_of parts.items)
+-- what a search of a node came to, with a budget of directions, of which it took these
+abbrev pub IsCome : Shop → ℕ → ℕ → NodeLists → List ℕ → Came → Type 0
+IsCome shop threshold budget node text Proved =
+    (first_below shop threshold node.first.now node.last.now ≡ None)
+    × (text ≡ directions_of shop threshold node.first.now node.last.now) × (length text ≤ budget)
+IsCome shop threshold budget node text (Below sequence makespan) =
+    IsFound shop threshold budget node.first.now node.last.now (found.Below sequence makespan (length text))
+    × (text ≡ directions_of shop threshold node.first.now node.last.now)
+IsCome shop threshold budget node text (Rest parts) =
+    IsRest shop threshold budget node.first.now node.last.now text parts.items
 
--- a search of a node with a budget came to what is told so
+-- what a search came to, as it is told: what it is, the jobs of a sequence, its makespan, and the numbers of the parts
+-- that are left
+abbrev pub IsTold : Came → ℕ → List ℕ → ℕ → List ℕ → Type 0
+IsTold Proved found jobs makespan rest = (found ≡ proved) × (makespan ≡ 0) × (rest ≡ [])
+IsTold (Below sequence value) found jobs makespan rest =
+    (found ≡ below) × (makespan ≡ value) × (rest ≡ []) × (take (length sequence) jobs ≡ sequence)
+IsTold (Rest parts) found jobs makespan rest =
+    (found ≡ over) × (makespan ≡ 0) × (rest ≡ flat_map numbers_of parts.items)
+
+-- a search of a node with a budget came to what is told so, with these directions
 abbrev pub IsSearched : Shop → ℕ → ℕ → NodeLists → ℕ → List ℕ → ℕ → List ℕ → List ℕ → Type 0
 IsSearched shop threshold budget node found jobs makespan directions rest =
-    (advanced : Advanced) × IsAdvanced shop threshold budget node.first.now node.last.now advanced
-    × IsTold advanced found jobs makespan directions rest
+    (came : Came) × IsCome shop threshold budget node directions came × IsTold came found jobs makespan rest
+
+-- the same, with so many directions
+abbrev pub IsCounted : Shop → ℕ → ℕ → NodeLists → ℕ → List ℕ → ℕ → ℕ → List ℕ → Type 0
+IsCounted shop threshold budget node found jobs makespan count rest =
+    (directions : List ℕ) × IsSearched shop threshold budget node found jobs makespan directions rest
+    × (count ≡ length directions)
+
+-- the directions of a node prove a threshold, and there are so many
+abbrev pub IsProvedBy : Shop → ℕ → NodeLists → ℕ → Type 0
+IsProvedBy shop threshold node count =
+    ProvesFrom shop threshold node.first.now node.last.now
+    (directions_of shop threshold node.first.now node.last.now)
+    × (count ≡ length (directions_of shop threshold node.first.now node.last.now))
 
 -- a sequence of a node has this makespan, and it is below a threshold
 abbrev pub IsBelow : Shop → ℕ → NodeLists → List ℕ → ℕ → Type 0
@@ -84,7 +107,6 @@ most_rest jobs = jobs * (jobs + 4)
 -- is no more than are always enough
 abbrev pub IsRestTooLong : Shop → ℕ → ℕ → NodeLists → ℕ → Fault → Type 0
 IsRestTooLong shop threshold budget node entries fault =
-    (text : Vec ℕ) × (parts : Vec Part)
-    × IsAdvanced shop threshold budget node.first.now node.last.now (Rest text parts)
+    (text : List ℕ) × (parts : Vec Part) × IsCome shop threshold budget node text (Rest parts)
     × (fault ≡ Room (length (flat_map numbers_of parts.items))) × (entries < length (flat_map numbers_of parts.items))
     × (length (flat_map numbers_of parts.items) ≤ most_rest shop.jobs)

@@ -6,6 +6,7 @@ ghost use Rattle.flow_shop.specs.Paths.{span};
 ghost use Rattle.flow_shop.specs.Sequences.{IsSequence, IsLeastMakespan};
 ghost use Rattle.flow_check.specs.Bounds.{AreBounds};
 ghost use Rattle.flow_check.specs.TwoEnded.{two_ended_text};
+ghost use Rattle.flow_certify.specs.Signs.{most_counted};
 ghost use Rattle.flow_c.specs.Statuses.{number, done, memory};
 ghost use Rattle.flow_c.specs.Faults.{shop_of, numbers_fault};
 ghost use Rattle.flow_c.specs.Certify.{IsTextFrom, IsTextTooLong, certify_fault, directions_fault, most_beside};
@@ -21,10 +22,11 @@ use crate::room::{Entries, fill, need};
 use crate::shop::ShopNumbers;
 use crate::text::{TextRoom, empty_text};
 use flow_cert::write_two_ended;
-use flow_certify::{MostDirections, certify};
+use flow_certify::{Certified, MostDirections, Proof, ProofLimits, certify};
 use flow_check::Bounds;
 use flow_directions::Alone;
 use flow_improve::Effort;
+use flow_limits::MAX_DIRECTIONS;
 use flow_shop::{Instance, Sequence};
 use flow_text::MemorySink;
 use std::alloc::Global;
@@ -42,12 +44,16 @@ struct Written {
     directions: Vec<u8>,
 }
 
-/// The most directions, where they are within their limits.
-pub(crate) fn most_of(directions: u32) -> Result<MostDirections, Fault>
+/// The most directions, where they are 1 to a greatest limit.
+pub(crate) fn most_of(directions: u64, greatest: u64) -> Result<MostDirections, Fault>
+    requires { greatest ≤ most_counted }
     ensures same { IfOk result (λ most. most ≡ directions) }
-    ensures accepted { OnOk result (directions_fault directions ≡ None) }
-    ensures refused { IfErr result (λ fault. directions_fault directions ≡ Some fault) }
+    ensures accepted { OnOk result (directions_fault greatest directions ≡ None) }
+    ensures refused { IfErr result (λ fault. directions_fault greatest directions ≡ Some fault) }
 {
+    if directions > greatest {
+        return Err(Fault::Directions);
+    }
     MostDirections::new(directions).ok_or(Fault::Directions)
 }
 
@@ -84,18 +90,28 @@ fn certify_from(
     ensures refused { IfErr result (λ fault. (number fault ≡ memory)
         ⊎ IsTextTooLong instance.now start.now most room fault) }
 {
-    let found = certify(alloc, &Alone, instance, start, effort, most)?;
-    let bounds = Bounds {
-        lower: found.lower,
-        upper: found.upper,
+    let limits = ProofLimits {
+        most,
+        keeps_signs: true,
     };
-    let around = around(alloc, instance, bounds, &found.sequence)?;
-    need(around.bytes().len() + found.directions.len(), room)?;
+    let found = certify(alloc, &Alone, instance, start, effort, limits)?;
+    let Certified {
+        lower,
+        upper,
+        sequence,
+        proof,
+    } = found;
+    let Proof::Signs(directions) = proof else {
+        unreachable!()
+    };
+    let bounds = Bounds { lower, upper };
+    let around = around(alloc, instance, bounds, &sequence)?;
+    need(around.bytes().len() + directions.len(), room)?;
     Ok(Written {
         bounds,
-        sequence: found.sequence,
+        sequence,
         around,
-        directions: found.directions,
+        directions,
     })
 }
 
@@ -128,7 +144,7 @@ fn certify_numbers(
     let instance = shop.instance(alloc)?;
     let start = Sequence::new(alloc, &instance, start)?;
     let effort = effort.effort()?;
-    let most = most_of(directions)?;
+    let most = most_of(u64::from(directions), u64::from(MAX_DIRECTIONS))?;
     need(shop.jobs as usize, entries.sequence)?;
     certify_from(alloc, &instance, &start, &effort, most, entries.text)
 }

@@ -30,7 +30,7 @@ pub enum Fault {
     Choice(OptionFault),
     /// The numbers of an improvement are not within their limits.
     Effort(EffortFault),
-    /// The directions are not in `1..=MAX_DIRECTIONS`.
+    /// The directions are not in `1..=MAX_DIRECTIONS`, or, of a run, not in `1..=MAX_COUNTED_DIRECTIONS`.
     Directions,
     /// What is said of a task is no answer to it.
     NoAnswer,

@@ -30,7 +30,9 @@
 //! - `run.rt`: `flowshop_run`, `flowshop_run_next` and `flowshop_run_put`.
 //! - `run_text.rt`: `flowshop_run_text` and `flowshop_run_counted`.
 //! - `search.rt`: `flowshop_search`, `flowshop_search_give`, `flowshop_search_put` and `flowshop_search_found`.
+//! - `came.rt`: what a search for directions came to, as it is told.
 //! - `prove.rt`: `flowshop_prove`.
+//! - `tally.rt`: `flowshop_tally`.
 //! - `check.rt`: `flowshop_check` and `flowshop_check_within`.
 //! - `laws.rt`: laws of the definitions.
 #![tactic(auto)]
@@ -38,6 +40,7 @@
 mod beam;
 mod block;
 mod bounds;
+mod came;
 mod certify;
 mod check;
 mod effort;
@@ -63,6 +66,7 @@ mod search;
 mod shop;
 mod solve;
 mod span;
+mod tally;
 mod text;
 mod timetable;
 mod version;

@@ -5,6 +5,7 @@ ghost use Rattle.flow_c.specs.Faults.{IsDone};
 ghost use Rattle.flow_c.specs.Limits.{all_limits};
 
 use crate::outcome::Outcome;
+use flow_certify::MAX_COUNTED_DIRECTIONS;
 use flow_check::MOST_NODES;
 use flow_limits::{
     MAX_BUDGET, MAX_CERTIFICATE, MAX_DEPTH, MAX_DIRECTIONS, MAX_JOBS, MAX_MACHINES, MAX_NUMBER,
@@ -59,6 +60,8 @@ pub struct LimitNumbers {
     pub max_beside: u32,
     /// The most nodes that a counted certificate may state, where a caller names no other number.
     pub max_nodes: u64,
+    /// The greatest limit of the directions of a run, which may be counted.
+    pub max_counted: u64,
 }
 
 /// Writes all limits.
@@ -88,6 +91,7 @@ pub extern "C" fn flowshop_limits(limits: &mut LimitNumbers) -> Outcome
         max_certificate: MAX_CERTIFICATE as u32,
         max_beside: MAX_BESIDE,
         max_nodes: MOST_NODES,
+        max_counted: MAX_COUNTED_DIRECTIONS,
     };
     Outcome::done()
 }

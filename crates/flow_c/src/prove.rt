@@ -1,35 +1,19 @@
-//! A part of a search for directions.
+//! A part of a search for directions, which writes them.
 
-ghost use Rattle.std.specs.Prelude.{◌≡◌, ◌⊎◌, ◌++◌, ◌≤◌, None, Some, IfOk, OnOk, IfErr, length, take, drop};
-ghost use Rattle.flow_shop.specs.Shop.{IsWithinLimits};
-ghost use Rattle.flow_shop.specs.Sequences.{AreJobs};
+ghost use Rattle.std.specs.Prelude.{◌≡◌, ◌⊎◌, ◌≤◌, None, length, take, drop};
 ghost use Rattle.flow_shop.specs.Directions.{ProvesFrom};
-ghost use Rattle.flow_c.specs.Statuses as statuses;
 ghost use Rattle.flow_c.specs.Statuses.{done, memory};
 ghost use Rattle.flow_c.specs.Faults.{shop_of, numbers_fault};
 ghost use Rattle.flow_c.specs.Checks.{ReportsCheck};
 ghost use Rattle.flow_c.specs.Searches.{proved, below, most_rest, IsBelow, IsSearched, IsRestTooLong, prove_fault};
 ghost use Rattle.flow_c.specs.Rooms.{IsSameRoom};
-ghost use Rattle.flow_c.specs.internal.Parts.{LeavesShort, IsComeTo, IsToldBy};
 
-use crate::fault::Fault;
+use crate::came::{PartLimits, search_numbers};
 use crate::node::NodeLists;
 use crate::outcome::Outcome;
-use crate::part::numbers_of;
-use crate::room::{fill, need};
+use crate::room::fill;
 use crate::shop::ShopNumbers;
-use flow_directions::{Advanced, advance};
-use flow_shop::Instance;
-use std::alloc::{AllocError, Global};
-
-/// The directions prove the threshold.
-const PROVED: u32 = 1;
-
-/// A sequence is below the threshold.
-const BELOW: u32 = 2;
-
-/// There are more directions than there is room for.
-const OVER: u32 = 3;
+use std::alloc::Global;
 
 /// Room for what a search comes to, and what is said of it.
 #[repr(C)]
@@ -48,112 +32,6 @@ pub struct PartRooms<'a> {
     pub directions_length: usize,
     /// How many numbers the parts that are left have.
     pub rest_length: usize,
-}
-
-/// What a search came to, as it is told.
-#[derive(Debug, Drop)]
-struct Searched {
-    found: u32,
-    sequence: Vec<u16>,
-    makespan: u64,
-    directions: Vec<u8>,
-    rest: Vec<u16>,
-}
-
-/// What a search came to, as it is told.
-fn told(alloc: Global, advanced: Advanced) -> Result<Searched, AllocError>
-    requires { LeavesShort advanced }
-    ensures { IfOk result (IsToldBy advanced) }
-{
-    match advanced {
-        Advanced::Proved(directions) => Ok(Searched {
-            found: PROVED,
-            sequence: Vec::new(alloc),
-            makespan: 0,
-            directions,
-            rest: Vec::new(alloc),
-        }),
-        Advanced::Below {
-            sequence,
-            makespan,
-            directions,
-        } => Ok(Searched {
-            found: BELOW,
-            sequence: Vec::from_slice(alloc, sequence.jobs())?,
-            makespan,
-            directions,
-            rest: Vec::new(alloc),
-        }),
-        Advanced::Rest { directions, parts } => Ok(Searched {
-            found: OVER,
-            sequence: Vec::new(alloc),
-            makespan: 0,
-            directions,
-            rest: numbers_of(alloc, parts.as_slice())?,
-        }),
-    }
-}
-
-/// Searches a node, and tells what the search came to, where there is room for the parts that are left.
-fn search(
-    alloc: Global,
-    instance: &Instance,
-    node: &NodeLists,
-    threshold: u64,
-    budget: u64,
-    room: usize,
-) -> Result<Searched, Fault>
-    requires limits { IsWithinLimits instance.now }
-    requires jobs { AreJobs instance.now.jobs (node.now.first.now ++ node.now.last.now) }
-    ensures found { IfOk result (IsComeTo instance.now threshold budget node.now) }
-    ensures enough { IfOk result (λ found. length found.rest.items ≤ room) }
-    ensures refused { IfErr result (λ fault. (statuses.number fault ≡ memory)
-        ⊎ IsRestTooLong instance.now threshold budget node.now room fault) }
-{
-    let &NodeLists { first, last } = node;
-    match advance(alloc, instance, first, last, threshold, budget) {
-        Ok(advanced) => {
-            let found = told(alloc, advanced)?;
-            need(found.rest.len(), room)?;
-            Ok(found)
-        }
-        // The lists are those of a node, so a fault is that memory ran out.
-        Err(_) => Err(Fault::Memory),
-    }
-}
-
-/// Searches a node of the instance of these numbers, where there is room for what the search comes to.
-fn search_numbers(
-    alloc: Global,
-    shop: &ShopNumbers,
-    node: &NodeLists,
-    threshold: u64,
-    part: &PartRooms,
-) -> Result<Searched, Fault>
-    ensures found { IfOk result (IsComeTo (shop_of shop.now) threshold (length part.now.directions.now) node.now) }
-    ensures jobs { OnOk result (AreJobs shop.now.jobs (node.now.first.now ++ node.now.last.now)) }
-    ensures room { OnOk result (shop.now.jobs ≤ length part.now.sequence.now) }
-    ensures enough { IfOk result (λ found. length found.rest.items ≤ length part.now.rest.now) }
-    ensures accepted { OnOk result (prove_fault shop.now node.now (length part.now.sequence.now) ≡ None) }
-    ensures refused { IfErr result (λ fault. (statuses.number fault ≡ memory)
-        ⊎ (prove_fault shop.now node.now (length part.now.sequence.now) ≡ Some fault)
-        ⊎ ((prove_fault shop.now node.now (length part.now.sequence.now) ≡ None)
-        × IsRestTooLong (shop_of shop.now) threshold (length part.now.directions.now) node.now
-        (length part.now.rest.now)
-        fault)) }
-    ensures memory { IfErr result (λ fault. statuses.number fault ≡ memory → numbers_fault shop.now ≡ None) }
-{
-    let instance = shop.instance(alloc)?;
-    node.test(&instance)?;
-    need(shop.jobs as usize, part.sequence.len())?;
-    search(
-        alloc,
-        &instance,
-        node,
-        threshold,
-        part.directions.len() as u64,
-        part.rest.len(),
-    )
 }
 
 /// A part of a search for directions that prove that no sequence of a node has a makespan below a threshold: it may
@@ -197,15 +75,20 @@ pub extern "C" fn flowshop_prove(
     ensures stays { result.status ≡ done → result.place ≡ 0 }
     ensures kept { (result.status ≡ done) ⊎ (part.new ≡ part.old) }
 {
-    match search_numbers(alloc, shop, node, threshold, part) {
-        Ok(found) => {
-            fill(found.sequence.as_slice(), part.sequence);
-            fill(found.directions.as_slice(), part.directions);
-            fill(found.rest.as_slice(), part.rest);
-            part.found = found.found;
-            part.makespan = found.makespan;
-            part.directions_length = found.directions.len();
-            part.rest_length = found.rest.len();
+    let limits = PartLimits {
+        budget: part.directions.len() as u64,
+        sequence: part.sequence.len(),
+        rest: part.rest.len(),
+    };
+    match search_numbers::<Vec<u8>>(alloc, shop, node, threshold, limits) {
+        Ok((told, directions)) => {
+            fill(told.sequence.as_slice(), part.sequence);
+            fill(directions.as_slice(), part.directions);
+            fill(told.rest.as_slice(), part.rest);
+            part.found = told.found;
+            part.makespan = told.makespan;
+            part.directions_length = directions.len();
+            part.rest_length = told.rest.len();
             Outcome::done()
         }
         Err(fault) => Outcome::refused(fault),

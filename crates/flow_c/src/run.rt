@@ -1,13 +1,13 @@
 //! A run of `certify`, task by task.
 
-ghost use Rattle.std.specs.Prelude.{◌≡◌, ◌⊎◌, ◌≤◌, min, nat_eq, not, Bool, cond, None, [], true, false};
+ghost use Rattle.std.specs.Prelude.{◌≡◌, ◌⊎◌, ◌≤◌, nat_eq, not, Bool, cond, None, [], true, false};
 ghost use Rattle.std.specs.Prelude.{IfOk, OnOk, IfErr, IsSomeAnd};
 ghost use Rattle.std.specs.Option.{option_map};
 ghost use Rattle.flow_shop.specs.Paths.{span};
 ghost use Rattle.flow_shop.specs.Ends.{end_bound};
 ghost use Rattle.flow_bound.specs.Taillard.{taillard_bound};
 ghost use Rattle.flow_certify.specs.Schedule.{first_run};
-ghost use Rattle.flow_certify.specs.Signs.{most_signs};
+ghost use Rattle.flow_certify.specs.Signs.{most_searched};
 ghost use Rattle.flow_c.specs.Statuses.{number, done, memory};
 ghost use Rattle.flow_c.specs.Faults.{shop_of, numbers_fault, fault_of_effort, IsFaultOf, IsDone, HasFault, Reports};
 ghost use Rattle.flow_c.specs.Runs.{AsksFor, IsPut, answer_of, beam_of, is_taken, origin_number, origin_of};
@@ -22,7 +22,7 @@ use crate::fault::Fault;
 use crate::outcome::Outcome;
 use crate::rounds::RoundsOptions;
 use crate::shop::ShopNumbers;
-use flow_certify::{Answer, Origin, Run, Task};
+use flow_certify::{Answer, MAX_COUNTED_DIRECTIONS, Origin, Run, Task};
 use flow_improve::{BeamLimits, RunLimits};
 use flow_shop::Sequence;
 use std::alloc::Global;
@@ -56,7 +56,7 @@ pub struct AnswerNumbers {
     pub whole: u32,
     /// The makespan of the sequence, where there is one.
     pub makespan: u64,
-    /// How many directions a search wrote.
+    /// How many directions a search wrote or counted.
     pub directions: u64,
 }
 
@@ -145,13 +145,13 @@ fn run_of(
     alloc: Global,
     shop: &ShopNumbers,
     start: &[u16],
-    directions: u32,
+    directions: u64,
     limited: u32,
 ) -> Result<Run, Fault>
     ensures lower { IfOk result (λ run. run.lower ≡ end_bound (shop_of shop.now) [] []) }
     ensures upper { IfOk result (λ run. run.upper ≡ span (shop_of shop.now) start.now) }
     ensures least { IfOk result (λ run. run.least ≡ taillard_bound (shop_of shop.now)) }
-    ensures most { IfOk result (λ run. run.fund.most ≤ min directions most_signs) }
+    ensures most { IfOk result (λ run. run.fund.most ≤ most_searched directions) }
     ensures limited { IfOk result (λ run. run.limited ≡ cond (nat_eq limited 0) 0 1) }
     ensures first { IfOk result (λ run.
         run ≡ first_run (shop_of shop.now) start.now directions (not (nat_eq limited 0))) }
@@ -161,18 +161,19 @@ fn run_of(
 {
     let instance = shop.instance(alloc)?;
     let start = Sequence::new(alloc, &instance, start)?;
-    let most = most_of(directions)?;
+    let most = most_of(directions, MAX_COUNTED_DIRECTIONS)?;
     Ok(Run::new(&instance, &start, most, limited != 0))
 }
 
-/// A run from a sequence of an instance, whose searches write at most so many directions each. Its time is limited
-/// where `limited` is not 0: then it raises the lower bound early.
+/// A run from a sequence of an instance, whose searches have at most so many directions each. Where these are more than
+/// the signs of a certificate may be, they are only counted. Its time is limited where `limited` is not 0: then it
+/// raises the lower bound early.
 #[unsafe(no_mangle)]
 pub extern "C" fn flowshop_run(
     alloc: Global,
     shop: &ShopNumbers,
     start: &[u16],
-    directions: u32,
+    directions: u64,
     limited: u32,
     run: &mut Run,
 ) -> Outcome
@@ -181,7 +182,7 @@ pub extern "C" fn flowshop_run(
     ensures lower { result.status ≡ done → run.new.lower ≡ end_bound (shop_of shop.now) [] [] }
     ensures upper { result.status ≡ done → run.new.upper ≡ span (shop_of shop.now) start.now }
     ensures least { result.status ≡ done → run.new.least ≡ taillard_bound (shop_of shop.now) }
-    ensures most { result.status ≡ done → run.new.fund.most ≤ min directions most_signs }
+    ensures most { result.status ≡ done → run.new.fund.most ≤ most_searched directions }
     ensures limited { result.status ≡ done → run.new.limited ≡ cond (nat_eq limited 0) 0 1 }
     ensures first { result.status ≡ done →
         run.new ≡ first_run (shop_of shop.now) start.now directions (not (nat_eq limited 0)) }

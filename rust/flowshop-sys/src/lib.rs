@@ -44,7 +44,7 @@ pub const FLOWSHOP_STACK: u32 = 131_072;
 pub const FLOWSHOP_PROVED: u32 = 1;
 /// A sequence is below the number.
 pub const FLOWSHOP_BELOW: u32 = 2;
-/// There are more directions than there is room for.
+/// There are more directions than there is room for, or than may be counted.
 pub const FLOWSHOP_OVER: u32 = 3;
 /// Of the task of a run: a beam or rounds came to a sequence.
 pub const FLOWSHOP_REACHED: u32 = 4;
@@ -64,7 +64,7 @@ pub const FLOWSHOP_DROPPED: u32 = 4;
 // What a run asks for.
 /// Nothing more.
 pub const FLOWSHOP_TASK_END: u32 = 0;
-/// `flowshop_prove` from the root, or the same in parts.
+/// `flowshop_prove` or `flowshop_tally` from the root, or the same in parts.
 pub const FLOWSHOP_TASK_SEARCH: u32 = 1;
 /// `flowshop_beam`.
 pub const FLOWSHOP_TASK_BEAM: u32 = 2;
@@ -134,7 +134,7 @@ statuses! {
     FLOWSHOP_ROUNDS = 35;
     /// The work is above 1000000.
     FLOWSHOP_WORK = 36;
-    /// The directions are not 1 to 1000000000.
+    /// The directions are not 1 to 1000000000; of a run, not 1 to 1000000000000000.
     FLOWSHOP_DIRECTIONS = 37;
     /// A run is told what is no answer to a task that it may ask for.
     FLOWSHOP_ANSWER = 38;
@@ -216,6 +216,7 @@ pub struct flowshop_limit_numbers {
     pub max_certificate: u32,
     pub max_beside: u32,
     pub max_nodes: u64,
+    pub max_counted: u64,
 }
 
 /// A shop.
@@ -517,6 +518,14 @@ extern "C" {
         number: u64,
         part: *mut flowshop_part,
     ) -> flowshop_outcome;
+    /// The same search, which counts its directions.
+    pub fn flowshop_tally(
+        shop: *const flowshop_shop,
+        node: *const flowshop_node,
+        number: u64,
+        budget: u64,
+        part: *mut flowshop_part,
+    ) -> flowshop_outcome;
     /// Begins a search that is shared.
     pub fn flowshop_search(
         budget: u64,
@@ -567,7 +576,7 @@ extern "C" {
         shop: *const flowshop_shop,
         start: *const u16,
         start_count: usize,
-        directions: u32,
+        directions: u64,
         limited: u32,
         run: *mut flowshop_run_state,
     ) -> flowshop_outcome;

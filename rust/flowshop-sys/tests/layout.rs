@@ -10,10 +10,10 @@ use std::ptr::addr_of;
 /// Of each record its size and alignment, and of each field where it begins and its size.
 const BY_HAND: &str = "\
 flowshop_outcome 16 8: status 0 4, place 8 8
-flowshop_limit_numbers 88 8: max_jobs 0 4, max_machines 4 4, max_time 8 4, max_number 12 4, max_job 16 4, \
+flowshop_limit_numbers 96 8: max_jobs 0 4, max_machines 4 4, max_time 8 4, max_number 12 4, max_job 16 4, \
     max_seed 20 4, max_width 24 4, max_rounds 28 4, max_work 32 4, max_directions 36 4, max_depth 40 4, \
     max_prefixes 44 4, max_budget 48 4, min_version 52 4, max_version 56 4, max_workers 60 4, max_text 64 4, \
-    max_certificate 68 4, max_beside 72 4, max_nodes 80 8
+    max_certificate 68 4, max_beside 72 4, max_nodes 80 8, max_counted 88 8
 flowshop_shop 24 8: jobs 0 4, machines 4 4, times 8 8, times_count 16 8
 flowshop_benchmark 40 8: jobs 0 4, machines 4 4, times 8 8, times_count 16 8, seed 24 4, upper 28 4, lower 32 4
 flowshop_spans 32 8: starts 0 8, starts_count 8 8, ends 16 8, ends_count 24 8
@@ -69,7 +69,7 @@ fn of_rust() -> String {
         flowshop_outcome: status place;
         flowshop_limit_numbers: max_jobs max_machines max_time max_number max_job max_seed max_width
             max_rounds max_work max_directions max_depth max_prefixes max_budget min_version max_version
-            max_workers max_text max_certificate max_beside max_nodes;
+            max_workers max_text max_certificate max_beside max_nodes max_counted;
         flowshop_shop: jobs machines times times_count;
         flowshop_benchmark: jobs machines times times_count seed upper lower;
         flowshop_spans: starts starts_count ends ends_count;

@@ -58,12 +58,14 @@ pub(crate) struct Bounded {
     pub(crate) upper: u64,
 }
 
-/// What a search for directions came to. The sequence is empty where none is below the number.
+/// What a search for directions came to. The sequence is empty where none is below the number, and there are no
+/// directions where they are only counted.
 pub(crate) struct Searched {
     pub(crate) found: u32,
     pub(crate) sequence: Vec<u16>,
     pub(crate) makespan: u64,
     pub(crate) directions: Vec<u8>,
+    pub(crate) count: u64,
     pub(crate) rest: Vec<u16>,
 }
 
@@ -344,16 +346,15 @@ pub(crate) fn certify(
     })
 }
 
-/// Searches the node of two lists below a number, with room for so many directions.
-pub(crate) fn prove(
+/// Searches the node of two lists by a call that takes a part with room for directions, or with none where it counts.
+fn searched(
     shop: Numbers,
     (first, last): (&[u16], &[u16]),
-    number: u64,
-    most: usize,
+    mut directions: Option<Room<u8>>,
+    call: impl FnOnce(*const sys::flowshop_node, *mut sys::flowshop_part) -> sys::flowshop_outcome,
 ) -> Result<Searched, Refused> {
     let jobs = shop.jobs as usize;
     let mut sequence = Room::new(jobs)?;
-    let mut directions = Room::new(most)?;
     let mut rest = Room::new(jobs * (jobs + 4))?;
     let node = sys::flowshop_node {
         first: first.as_ptr(),
@@ -364,8 +365,8 @@ pub(crate) fn prove(
     let mut part = sys::flowshop_part {
         sequence: sequence.pointer(),
         sequence_count: sequence.count,
-        directions: directions.pointer(),
-        directions_count: directions.count,
+        directions: directions.as_mut().map_or(std::ptr::null_mut(), Room::pointer),
+        directions_count: directions.as_ref().map_or(0, |room| room.count),
         rest: rest.pointer(),
         rest_count: rest.count,
         found: 0,
@@ -373,17 +374,43 @@ pub(crate) fn prove(
         directions_length: 0,
         rest_length: 0,
     };
-    // SAFETY: each pointer goes with its count. A call that is done wrote as many directions and numbers as it says,
-    // and a sequence of the shop where one is below the number.
+    // SAFETY: each pointer goes with its count. A call that is done wrote as many directions, where there is room for
+    // them, and numbers as it says, and a sequence of the shop where one is below the number.
     unsafe {
-        done(|| sys::flowshop_prove(&shop.record(), &node, number, &mut part))?;
+        done(|| call(&node, &mut part))?;
         let is_below = part.found == sys::FLOWSHOP_BELOW;
         Ok(Searched {
             found: part.found,
             sequence: sequence.taken(if is_below { jobs } else { 0 }),
             makespan: part.makespan,
-            directions: directions.taken(part.directions_length),
+            directions: directions.map_or(Vec::new(), |room| room.taken(part.directions_length)),
+            count: part.directions_length as u64,
             rest: rest.taken(part.rest_length),
         })
     }
+}
+
+/// Searches the node of two lists below a number, with room for so many directions.
+pub(crate) fn prove(
+    shop: Numbers,
+    lists: (&[u16], &[u16]),
+    number: u64,
+    most: usize,
+) -> Result<Searched, Refused> {
+    // SAFETY: the node and the part are those of this search, and each pointer goes with its count.
+    let call = |node, part| unsafe { sys::flowshop_prove(&shop.record(), node, number, part) };
+    searched(shop, lists, Some(Room::new(most)?), call)
+}
+
+/// Searches the node of two lists below a number, and counts so many directions at most.
+pub(crate) fn tally(
+    shop: Numbers,
+    lists: (&[u16], &[u16]),
+    number: u64,
+    budget: u64,
+) -> Result<Searched, Refused> {
+    // SAFETY: the node and the part are those of this search, and each pointer goes with its count. No room for
+    // directions is looked at.
+    let call = |node, part| unsafe { sys::flowshop_tally(&shop.record(), node, number, budget, part) };
+    searched(shop, lists, None, call)
 }

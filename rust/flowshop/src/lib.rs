@@ -36,7 +36,7 @@ mod shop;
 pub use error::Error;
 pub use options::{Beam, Effort, Plan, Rounds};
 pub use results::{Best, Bounds, Certificate, Operation, Sequence, Timetable};
-pub use search::{Found, Node, Part};
+pub use search::{Found, Node, Part, Tally};
 pub use shop::{Block, Shop};
 
 /// The most directions of a certificate that the program's `certify` makes, where no number is given.

@@ -39,6 +39,30 @@ pub enum Found {
     },
 }
 
+/// What a search came to that counts its directions.
+#[derive(Clone, Debug, PartialEq, Eq, Hash)]
+pub enum Tally {
+    /// So many directions prove that no sequence of the node is below the number.
+    Proved {
+        /// How many directions there are.
+        count: u64,
+    },
+    /// A sequence of the node is below the number.
+    Below {
+        /// The first such sequence, in the order of the search.
+        sequence: Sequence,
+        /// How many directions come before it.
+        count: u64,
+    },
+    /// There are more directions than the budget.
+    Over {
+        /// How many were counted, which is the budget.
+        count: u64,
+        /// The parts with which the search goes on, in order.
+        parts: Vec<Part>,
+    },
+}
+
 /// A part of a search: a node, or some children of one at an end. Parts can be searched at once, and elsewhere: the
 /// directions of a search are those of its parts, joined in order, up to the first that has a sequence below the
 /// number.
@@ -116,24 +140,50 @@ fn part(rest: &mut &[u16]) -> Option<Part> {
     Some(Part { node: Node { first, last }, end, jobs: take(rest, jobs)? })
 }
 
+/// The parts of a list of numbers.
+fn parts(mut rest: &[u16]) -> Option<Vec<Part>> {
+    let mut parts = Vec::new();
+    while !rest.is_empty() {
+        parts.push(part(&mut rest)?);
+    }
+    Some(parts)
+}
+
+impl Searched {
+    /// The error of a kind, or of parts, that nobody knows.
+    fn unknown(&self) -> Error {
+        Error::Unknown { status: sys::FLOWSHOP_DONE, place: self.found as usize }
+    }
+}
+
 impl TryFrom<Searched> for Found {
     type Error = Error;
 
     fn try_from(searched: Searched) -> Result<Found, Error> {
+        let unknown = searched.unknown();
         let directions = text_of(searched.directions);
-        let unknown = Error::Unknown { status: sys::FLOWSHOP_DONE, place: searched.found as usize };
         match searched.found {
             sys::FLOWSHOP_PROVED => Ok(Found::Proved { directions }),
             sys::FLOWSHOP_BELOW => {
                 Ok(Found::Below { sequence: Sequence::new(searched.sequence, searched.makespan), directions })
             }
-            sys::FLOWSHOP_OVER => {
-                let (mut rest, mut parts) = (&searched.rest[..], Vec::new());
-                while !rest.is_empty() {
-                    parts.push(part(&mut rest).ok_or(unknown)?);
-                }
-                Ok(Found::Over { directions, parts })
+            sys::FLOWSHOP_OVER => Ok(Found::Over { directions, parts: parts(&searched.rest).ok_or(unknown)? }),
+            _ => Err(unknown),
+        }
+    }
+}
+
+impl TryFrom<Searched> for Tally {
+    type Error = Error;
+
+    fn try_from(searched: Searched) -> Result<Tally, Error> {
+        let (unknown, count) = (searched.unknown(), searched.count);
+        match searched.found {
+            sys::FLOWSHOP_PROVED => Ok(Tally::Proved { count }),
+            sys::FLOWSHOP_BELOW => {
+                Ok(Tally::Below { sequence: Sequence::new(searched.sequence, searched.makespan), count })
             }
+            sys::FLOWSHOP_OVER => Ok(Tally::Over { count, parts: parts(&searched.rest).ok_or(unknown)? }),
             _ => Err(unknown),
         }
     }

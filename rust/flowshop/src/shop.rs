@@ -2,7 +2,7 @@
 
 use crate::call::{self, Numbers, Read, Refused};
 use crate::results::text_of;
-use crate::{Beam, Best, Bounds, Certificate, Effort, Error, Found, Node, Plan, Rounds};
+use crate::{Beam, Best, Bounds, Certificate, Effort, Error, Found, Node, Plan, Rounds, Tally};
 use crate::{Sequence, Timetable};
 use flowshop_sys as sys;
 
@@ -316,5 +316,19 @@ impl Shop {
     /// ```
     pub fn prove(&self, node: &Node, number: u64, most: usize) -> Result<Found, Error> {
         call::prove(self.numbers(), (&node.first, &node.last), number, most)?.try_into()
+    }
+
+    /// Makes the search of [`prove`](Shop::prove) and counts its directions, at most as many as the budget, so that it
+    /// needs no memory for them. The faults are the same.
+    ///
+    /// ```
+    /// use flowshop::{Node, Shop, Tally};
+    /// let shop = Shop::from_jobs(&[[4, 0, 4], [0, 8, 0], [0, 2, 1]])?;
+    /// let found = shop.tally(&Node::default(), 12, 1_000_000_000_000_000)?;
+    /// assert_eq!(found, Tally::Proved { count: 2 });
+    /// # Ok::<(), flowshop::Error>(())
+    /// ```
+    pub fn tally(&self, node: &Node, number: u64, budget: u64) -> Result<Tally, Error> {
+        call::tally(self.numbers(), (&node.first, &node.last), number, budget)?.try_into()
     }
 }

@@ -20,7 +20,7 @@ returns-clause-refused c =
     IfErr-weaker c.certify_from.result _ _
     (λ fault is. is-refused a.shop.now a.start.now a.effort.now a.directions a.entries.sequence
     c.in_ok-instance.ensures.accepted (rw c.in_ok-instance.ensures.value at c.in_ok-start.ensures.accepted)
-    c.in_ok-effort.ensures.accepted c.in_ok-most.ensures.accepted c.in_ok-need.ensures.accepted
-    a.entries.text fault is)
-    (rw (c.in_ok-instance.ensures.value, c.in_ok-start.ensures.value, c.in_ok-most.ensures.same)
+    c.in_ok-effort.ensures.accepted (rw (c.from.ensures, c.from-2.ensures) at c.in_ok-most.ensures.accepted)
+    c.in_ok-need.ensures.accepted a.entries.text fault is)
+    (rw (c.in_ok-instance.ensures.value, c.in_ok-start.ensures.value, c.in_ok-most.ensures.same, c.from.ensures)
     at c.certify_from.ensures.refused)
