@@ -312,7 +312,7 @@ fn searches_go_as_worked_out(rt: HostRuntime) -> Result<(), Fail> {
             written: 9,
             next: 9,
             state: 1,
-            zero: 0,
+            skip: 0,
         };
         let mut array = [none; MOST];
         let places = &mut array[..(*room).min(MOST)];
