@@ -645,7 +645,8 @@ module _ (before : Search) (old : List Place) (order : List ℕ) (number : ℕ) 
             places = ap (λ search. search.places) fields ∙ places_is
                 ∙ sym (ap (λ b. before.places + cond b zero searched.left) reached);
             place = writes_place.value
-                ∙ ap (λ n. record (place_at old number) { written = searched.written; next = n; state = 2; skip = 0 }) start-is
+                ∙ ap (λ n. record (place_at old number) { written = searched.written; next = n; state = 2; skip = 0 })
+                start-is
                 ∙ sym (ap (λ b. record (place_at old number) {
                   written = searched.written;
                   next = link_to (cond b [] then);

@@ -20,8 +20,8 @@ enum Call {
 use Call::{Forget, Give, GoesOn, Reaches};
 use Put::{Late, NoRoom, Taken, TooMany};
 
-/// A search: its budget, how many places the array has, and the calls; then its places in order, what those of them skip
-/// that skip others, how many directions are written and settled, how many places are open, and what it came to.
+/// A search: its budget, how many places the array has, and the calls; then its places in order, the skips of those
+/// that have one, how many directions are written and settled, how many places are open, and what it came to.
 type History = (
     u64,
     usize,
