@@ -1,6 +1,6 @@
 //! Searches call by call, worked out by hand.
 
-use crate::place::place_at;
+use crate::place::{place_at, set_place};
 use crate::{Decided, Place, Put, Search, Searched};
 use std::test::Fail;
 
@@ -13,11 +13,11 @@ enum Call {
     GoesOn(u64, u64, u32, Put),
     /// At a place so many directions were written, and then a sequence was reached.
     Reaches(u64, u64, Put),
-    /// No place skips any more.
-    Forget,
+    /// The caller writes into the array what a place skips.
+    Skip(u64, u32),
 }
 
-use Call::{Forget, Give, GoesOn, Reaches};
+use Call::{Give, GoesOn, Reaches, Skip};
 use Put::{Late, NoRoom, Taken, TooMany};
 
 /// A search: its budget, how many places the array has, and the calls; then its places in order, the skips of those
@@ -35,7 +35,7 @@ type History = (
 /// The most places of an array.
 const MOST: usize = 9;
 
-static HISTORIES: [History; 22] = [
+static HISTORIES: [History; 23] = [
     // The whole search is one place.
     (
         5,
@@ -368,12 +368,36 @@ static HISTORIES: [History; 22] = [
             GoesOn(3, 1, 0, Taken { first: 7 }),
             GoesOn(4, 1, 0, Taken { first: 7 }),
             Give(Some(5)),
-            Forget,
+            Skip(2, 0),
             Give(Some(6)),
         ],
         &[0, 1, 2, 3, 4, 5, 6],
         &[(2, 5)],
         [4, 1, 3],
+        None,
+    ),
+    // In an array that the caller has changed, skips are followed too, and each call ends.
+    (
+        99,
+        5,
+        &[
+            Give(Some(0)),
+            GoesOn(0, 1, 4, Taken { first: 1 }),
+            Give(Some(1)),
+            Give(Some(2)),
+            GoesOn(2, 1, 0, Taken { first: 5 }),
+            Skip(2, 5),
+            Give(Some(4)),
+            Skip(2, 3),
+            Give(None),
+            Skip(2, u32::MAX),
+            Give(None),
+            Skip(2, 0),
+            Give(Some(3)),
+        ],
+        &[0, 1, 2, 3, 4],
+        &[],
+        [2, 1, 3],
         None,
     ),
     // Behind the last place there is none, whatever the array has there.
@@ -453,10 +477,9 @@ fn returns(search: &mut Search, places: &mut [Place], call: Call) -> bool {
             };
             search.put(places, number, &searched) == put
         }
-        Forget => {
-            for place in places.iter_mut() {
-                place.skip = 0;
-            }
+        Skip(number, skip) => {
+            let place = place_at(places, number);
+            set_place(places, number, Place { skip, ..place });
             true
         }
     }
