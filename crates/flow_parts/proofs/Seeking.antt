@@ -52,7 +52,7 @@ onward-to at at' here more states next linked skips = elim (cases_eq (at' here).
   | inr some ↦ elim skips.0 [
     | inl none ↦ absurd (some none)
     | inr skipped ↦
-        let split = skipped-split at' more (at' here).skip skipped in (
+        let split = skipped-split at' more (at' here).skip skipped.1 in (
           split.0,
           split.1 ∷ split.2,
           split.3,
@@ -187,19 +187,23 @@ module _ (at at' : ℕ → Place) (size step link run : ℕ) (order : List ℕ)
 
       -- what the first place of the run skips
       first-skips : (is : IsRun at walk.above run) → ((at'' (run - 1)).skip ≡ 0)
-          ⊎ AreSkipped at'' (is.between ++ (link - 1) ∷ first.0) (at'' (run - 1)).skip
+          ⊎ (((at'' (run - 1)).state ≡ 2)
+          × AreSkipped at'' (is.between ++ (link - 1) ∷ first.0) (at'' (run - 1)).skip)
       first-skips is = elim (run-first is) [
         | inl still ↦ skip-kept at' at'' (run - 1) (is.between ++ (link - 1) ∷ first.0)
-            (all-still (is.between ++ (link - 1) ∷ first.0))
+            (all-still ((run - 1) ∷ (is.between ++ (link - 1) ∷ first.0)))
             (ap (λ place. place.skip) still)
             (skips-rest at' is.before ((run - 1) ∷ (is.between ++ (link - 1) ∷ first.0))
             (subst (SkipsSearched at') (run-order is) walk.skips)).0
-        | inr set ↦ inr (subst (AreSkipped at'' (is.between ++ (link - 1) ∷ first.0))
-            (omega (arith, ap (λ place. place.skip) set, some))
-            (skipped-to at'' is.between (link - 1) first.0
-            (all-weaker (λ q. (at q).state ≡ 2) (λ q. (at'' q).state ≡ 2) is.between
-            (λ q is_q. kept'' q (states q ∙ is_q)) is.searched)
-            (kept'' (link - 1) searched)))
+        | inr set ↦ inr (
+          kept'' (run - 1) (states (run - 1) ∙ is.first),
+          subst (AreSkipped at'' (is.between ++ (link - 1) ∷ first.0))
+              (omega (arith, ap (λ place. place.skip) set, some))
+              (skipped-to at'' is.between (link - 1) first.0
+              (all-weaker (λ q. (at q).state ≡ 2) (λ q. (at'' q).state ≡ 2) is.between
+              (λ q is_q. kept'' q (states q ∙ is_q)) is.searched)
+              (kept'' (link - 1) searched)),
+        )
       ]
 
       skips-run : IsRun at walk.above run → SkipsSearched at'' order

@@ -64,16 +64,19 @@ module _ (at at' : ℕ → Place) where
   )
 
   -- a skip that is the same
-  pub skip-kept : (x : ℕ) (xs : List ℕ) → AreStill xs → (at' x).skip ≡ (at x).skip →
-      ((at x).skip ≡ 0) ⊎ AreSkipped at xs (at x).skip → ((at' x).skip ≡ 0) ⊎ AreSkipped at' xs (at' x).skip
+  pub skip-kept : (x : ℕ) (xs : List ℕ) → AreStill (x ∷ xs) → (at' x).skip ≡ (at x).skip →
+      ((at x).skip ≡ 0) ⊎ (((at x).state ≡ 2) × AreSkipped at xs (at x).skip) →
+      ((at' x).skip ≡ 0) ⊎ (((at' x).state ≡ 2) × AreSkipped at' xs (at' x).skip)
   skip-kept x xs still same (inl none) = inl (same ∙ none)
-  skip-kept x xs still same (inr skipped) =
-      inr (subst (AreSkipped at' xs) (sym same) (skipped-kept xs (at x).skip still skipped))
+  skip-kept x xs still same (inr skips) = inr (
+    still.0 skips.0,
+    subst (AreSkipped at' xs) (sym same) (skipped-kept xs (at x).skip still.1 skips.1),
+  )
 
   pub skips-kept : (xs : List ℕ) → AreStill xs → SkipAlike xs → SkipsSearched at xs → SkipsSearched at' xs
   skips-kept [] still same skips = tt
   skips-kept (x ∷ xs) still same skips =
-      (skip-kept x xs still.1 same.0 skips.0, skips-kept xs still.1 same.1 skips.1)
+      (skip-kept x xs still same.0 skips.0, skips-kept xs still.1 same.1 skips.1)
 
   -- places that are as they were
   pub skips-same : (xs : List ℕ) → AllByRecursion (λ q. at' q ≡ at q) xs → SkipsSearched at xs → SkipsSearched at' xs
@@ -86,11 +89,11 @@ module _ (at at' : ℕ → Place) where
 
   -- one place skips others than before
   pub skips-at : (xs : List ℕ) (p : ℕ) (ys : List ℕ) → AreStill (xs ++ p ∷ ys) → SkipAlike xs → SkipAlike ys →
-      ((at' p).skip ≡ 0) ⊎ AreSkipped at' ys (at' p).skip → SkipsSearched at (xs ++ p ∷ ys) →
+      ((at' p).skip ≡ 0) ⊎ (((at' p).state ≡ 2) × AreSkipped at' ys (at' p).skip) → SkipsSearched at (xs ++ p ∷ ys) →
       SkipsSearched at' (xs ++ p ∷ ys)
   skips-at [] p ys still same rest here skips = (here, skips-kept ys still.1 rest skips.1)
   skips-at (x ∷ xs) p ys still same rest here skips = (
-    skip-kept x (xs ++ p ∷ ys) still.1 same.0 skips.0,
+    skip-kept x (xs ++ p ∷ ys) still same.0 skips.0,
     skips-at xs p ys still.1 same.1 rest here skips.1,
   )
 
@@ -113,8 +116,11 @@ module _ (at at' : ℕ → Place) where
   skips-with (x ∷ xs) p ys zs not same rest skips = (
     elim skips.0 [
       | inl none ↦ inl (ap (λ place. place.skip) same.0 ∙ none)
-      | inr skipped ↦ inr (subst (AreSkipped at' (xs ++ p ∷ zs)) (sym (ap (λ place. place.skip) same.0))
-          (skipped-before xs p ys zs (at x).skip not same.1 skipped))
+      | inr skipped ↦ inr (
+        ap (λ place. place.state) same.0 ∙ skipped.0,
+        subst (AreSkipped at' (xs ++ p ∷ zs)) (sym (ap (λ place. place.skip) same.0))
+            (skipped-before xs p ys zs (at x).skip not same.1 skipped.1),
+      )
     ],
     skips-with xs p ys zs not same.1 rest skips.1,
   )

@@ -56,17 +56,17 @@ abbrev pub EndsWhereReached : (ℕ → Place) → List ℕ → Type 0
 EndsWhereReached at [] = Unit {0}
 EndsWhereReached at (number ∷ more) = ((at number).state ≡ 3 → more ≡ []) × EndsWhereReached at more
 
--- behind a place, all was searched up to the place of a link, and that one too
+-- these places were searched, up to the place of a link, and that one too
 abbrev pub AreSkipped : (ℕ → Place) → List ℕ → ℕ → Type 0
 AreSkipped at [] link = ⊥
 AreSkipped at (number ∷ more) link =
     ((at number).state ≡ 2) × ((link ≡ number + 1) ⊎ AreSkipped at more link)
 
--- each place skips none of those behind it, or some that were searched
+-- each place skips none of those behind it; or it was searched, and so were those that it skips
 abbrev pub SkipsSearched : (ℕ → Place) → List ℕ → Type 0
 SkipsSearched at [] = Unit {0}
 SkipsSearched at (number ∷ more) =
-    (((at number).skip ≡ 0) ⊎ AreSkipped at more (at number).skip) × SkipsSearched at more
+    (((at number).skip ≡ 0) ⊎ (((at number).state ≡ 2) × AreSkipped at more (at number).skip)) × SkipsSearched at more
 
 -- a place is as it was; or it is one of these, was searched, and only what it skips is another
 abbrev pub IsSameButSkip : List ℕ → (ℕ → Place) → (ℕ → Place) → ℕ → Type 0
