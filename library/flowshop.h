@@ -346,7 +346,7 @@ typedef struct flowshop_place {
     uint64_t written; /* how many directions were written there */
     uint64_t next; /* one more than the place behind it; 0 where it is the last one */
     uint32_t state; /* FLOWSHOP_WAITS to FLOWSHOP_DROPPED */
-    uint32_t zero; /* 0 */
+    uint32_t skip; /* 0; or one more than a place further on, where both and all between were searched */
 } flowshop_place;
 
 /* Where a search stands that is shared. With its places, which the caller keeps too, it can be copied, kept in a file,
@@ -571,7 +571,9 @@ FLOWSHOP_CALL flowshop_outcome flowshop_search(uint64_t budget, flowshop_place *
 
 /* Gives the first place in order that waits: `place` becomes one more than it; 0 where none waits. Nothing is gained by
  * more directions there than are left of the budget behind those that are settled, and one more. No place is given
- * twice; but the caller may let a second worker search it too, as where the first is lost: the first answer counts. */
+ * twice; but the caller may let a second worker search it too, as where the first is lost: the first answer counts.
+ * Else only `skip` of searched places changes: it leads the next call past them, so however many were searched behind a
+ * place that is given, they are passed over at once. */
 FLOWSHOP_CALL flowshop_outcome flowshop_search_give(const flowshop_search_state *search, flowshop_place *places,
                                                     size_t places_count, uint64_t *place) FLOWSHOP_NOEXCEPT;
 

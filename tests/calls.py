@@ -305,7 +305,10 @@ class Shared:
             order.append([number - 1, place.state, place.written])
             number = place.next
         equal("the places in order", order, self.plain)
-        equal("the last number of places", {place.zero for place in self.places[: self.count]}, {0})
+        ats = {each[0]: at for at, each in enumerate(self.plain)}
+        for at, skip in [(ats[number], self.places[number].skip) for number in ats]:
+            passed = self.plain[at : ats.get(skip - 1, -1) + 1]
+            equal("what a place skips", {each[1] for each in passed} if skip else {SEARCHED}, {SEARCHED})
         equal("entries that are not used", {*map(bytes, self.places[self.count :])} <= {bytes(UNUSED)}, True)
         at = next((at for at, each in enumerate(self.plain) if each[1] in (WAITS, GIVEN)), len(self.plain))
         settled, first = sum(each[2] for each in self.plain[:at]), [each[0] + 1 for each in self.plain[at:]] + [0]
@@ -334,6 +337,22 @@ def compare_shared():
                 given_.append(max(0, search.give()))
             place = draw.choice([*given_, draw.randint(0, 30), 2**64 - 1])
             search.put(place, draw.choice((0, 1, most)), draw.choice((0, 0, 1, 2, 5)), int(draw.random() < 0.05))
+    # Some hundred places behind one that is answered last; now and then no place skips any more, which is lawful.
+    for workers in (1, 2, 3, 5, 8, 13):
+        search, given_ = Shared(2**64 - 1, 400), []
+        search.put(search.give(), 1, draw.choice((2, 20, 150)))
+        slow = search.give()
+        while True:
+            while len(given_) < workers and (place := search.give()) >= 0:
+                given_.append(place)
+            if not given_:
+                break
+            for place in search.places[: search.count] if draw.random() < 0.02 else []:
+                place.skip = 0
+            place = given_.pop(draw.randrange(len(given_)))
+            left = draw.choice((0, 1, 3)) if search.count < 350 else 0
+            search.put(place, draw.randint(0, 9), left, int(draw.random() < 0.002))
+        search.put(slow, 1)
 
 
 def parts_of(numbers):

@@ -83,7 +83,7 @@ Run = record("Run", ("lower", U64), ("upper", U64), ("least", U64), *INNER, *[(n
 Task = record("Task", ("kind", U32), ("origin", U32), ("number", U64), ("budget", U64), ("beam", BeamOptions),
               ("rounds", RoundsOptions))
 Answer = record("Answer", ("found", U32), ("whole", U32), ("makespan", U64), ("directions", U64))
-Place = record("Place", ("written", U64), ("next", U64), ("state", U32), ("zero", U32))
+Place = record("Place", ("written", U64), ("next", U64), ("state", U32), ("skip", U32))
 Search = record("Search", *[(name, U64) for name in (
     "budget", "written", "settled", "first_open", "open", "places", "reached")])
 Searched = record("Searched", ("written", U64), ("left", U32), ("reached", U32))

@@ -172,7 +172,7 @@ class AnswerNumbers(ctypes.Structure):
 class PlaceNumbers(ctypes.Structure):
     """A place of a search: parts that workers search. `next` is one more than the place behind it."""
 
-    _fields_ = [("written", u64), ("next", u64), ("state", u32), ("zero", u32)]
+    _fields_ = [("written", u64), ("next", u64), ("state", u32), ("skip", u32)]
 
 
 _OF_SEARCH = "budget", "written", "settled", "first_open", "open", "places", "reached"

@@ -26,10 +26,10 @@ abbrev pub searched_of : SearchedNumbers → Searched
 searched_of numbers =
     record { written = numbers.written; left = numbers.left; reached = not (nat_eq numbers.reached 0) }
 
--- one more than the place that is given, the first in order that waits; 0 where none waits, and then nothing changes
+-- one more than the place that is given, the first in order that waits; 0 where none waits
 abbrev pub IsGiven : Search → List Place → List Place → List ℕ → ℕ → Type 0
 IsGiven search old new order place =
-    ((place ≡ 0) × GivesNone old new order)
+    ((place ≡ 0) × GivesNone search old new order)
     ⊎ ((number : ℕ) × (place ≡ number + 1) × GivesPlace search old new order number)
 
 -- how many places there are with those that are left

@@ -1,6 +1,6 @@
 -- Where a place is given, or waits again.
 use Rattle.std.proofs.Common.{◌≡◌, ◌≢◌, ℕ, ◌+◌, ◌-◌, ◌<◌, ◌≤◌, ◌⊎◌, inl, inr, true, false, cond, List, [], ◌∷◌, ◌++◌}
-use Rattle.std.proofs.Common.{length, refl, ap, sym, ◌∙◌, subst, arith, ltb, eqb, lit<, lit≤}
+use Rattle.std.proofs.Common.{length, length-append, refl, ap, sym, ◌∙◌, subst, arith, ltb, eqb, lit<, lit≤}
 use Rattle.std.specs.List.{AllByRecursion, IsDistinct, list_any}
 use Rattle.std.proofs.lemmas.Bool.{cases_eq, eqb-true, ltb-true, ne_eqb}
 use Rattle.std.proofs.lemmas.List.Sums.{sum_by-cons}
@@ -8,12 +8,12 @@ use Rattle.std.proofs.lemmas.Map.Steps.{length-le_from_distinct_below}
 use Rattle.flow_parts.specs.declared.place.Place.{Place}
 use Rattle.flow_parts.specs.declared.search.Search.{Search}
 use Rattle.flow_parts.specs.Orders.{place_at, is_open, open_in, counted_in, IsLinked, settled_in, first_open_in}
-use Rattle.flow_parts.specs.Orders.{reached_in, EndsWhereReached}
+use Rattle.flow_parts.specs.Orders.{reached_in, EndsWhereReached, SkipsSearched, IsSameButSkip}
 use Rattle.flow_parts.specs.Searches.{IsSearch, GivesPlace, GivesNone}
-use Rattle.flow_parts.specs.internal.Walks.{AreAdded, IsFirstWaiting}
-use Rattle.std.proofs.Common.{append_assoc}
-use Rattle.flow_parts.proofs.Numbers.{all-rest, all-append, all-each, all-both, all-weaker}
+use Rattle.flow_parts.specs.internal.Walks.{AreAdded, IsBegun, IsFirstWaiting}
+use Rattle.flow_parts.proofs.Numbers.{all-rest, all-each, all-both, all-weaker}
 use Rattle.flow_parts.proofs.Links.{linked-kept, apart-rest}
+use Rattle.flow_parts.proofs.Skips.{same-next, same-place, same-open, same-again, skips-kept}
 use Rattle.flow_parts.proofs.Counts.{sum-kept, tested}
 use Rattle.flow_parts.proofs.Writing.{IsWritten}
 
@@ -40,9 +40,9 @@ pub linked-short : (link : ℕ → ℕ) (start n : ℕ) (xs : List ℕ) → IsLi
 linked-short link start n xs linked within =
     length-le_from_distinct_below xs n (distinct link start xs linked) (below-any n xs within)
 
--- a place is as it was, or was open and is
+-- a place is as it was, but for its skip, or was open and is
 abbrev pub IsAlike : Place → Place → Type 0
-IsAlike old new = ((is_open old ≡ true) × (is_open new ≡ true)) ⊎ (new ≡ old)
+IsAlike old new = ((is_open old ≡ true) × (is_open new ≡ true)) ⊎ (new ≡ record old { skip = new.skip })
 
 not-reached : (state : ℕ) → ltb state 2 ≡ true → eqb state 3 ≡ false
 not-reached state less = ne_eqb state 3 (λ is. absurd (cc (ap (λ s. ltb s 2) is, less)))
@@ -92,34 +92,17 @@ module _ (at at' : ℕ → Place) where
     ends-alike xs alike.1 ends.1,
   )
 
-  alike-all : (here : ℕ) (place : Place) → IsWritten at at' here place → is_open (at here) ≡ true →
-      is_open place ≡ true → (q : ℕ) → IsAlike (at q) (at' q)
-  alike-all here place written was is q = elim (cases_eq q here) [
-    | inl same ↦ inl (
-      ap (λ n. is_open (at n)) same ∙ was,
-      ap (λ n. is_open (at' n)) same ∙ ap is_open written.value ∙ is,
-    )
-    | inr not ↦ inr (written.others q not)
-  ]
-
 open-kept : (state : ℕ) → ltb state 2 ≡ true → state < 4
 open-kept state less = omega (arith, ltb-true state 2 less)
 
--- a search in which an open place is written, which stays open
-pub still-search : (search : Search) (old new : List Place) (order : List ℕ) (here : ℕ) (place : Place) →
-    IsSearch search old order → IsWritten (place_at old) (place_at new) here place →
-    is_open (place_at old here) ≡ true → is_open place ≡ true → place.next ≡ (place_at old here).next →
-    length new ≡ length old → IsSearch search new order
-still-search search old new order here place is written was opened next size =
+-- a search in which no place is another one, but for its skip, or one that is open
+alike-search : (search : Search) (old new : List Place) (order : List ℕ) → IsSearch search old order →
+    ((q : ℕ) → IsAlike (place_at old q) (place_at new q)) → ((q : ℕ) → (place_at new q).next ≡ (place_at old q).next) →
+    SkipsSearched (place_at new) order → length new ≡ length old → IsSearch search new order
+alike-search search old new order is alike nexts skips size =
     let at = place_at old in
     let at' = place_at new in
-    let alike : (q : ℕ) → IsAlike (at q) (at' q) = alike-all at at' here place written was opened in
     let all = all-each (λ q. IsAlike (at q) (at' q)) order (λ q one. alike q) in
-    let nexts : (q : ℕ) → (at' q).next ≡ (at q).next = λ q. elim (cases_eq q here) [
-      | inl same ↦ ap (λ n. (at' n).next) same ∙ ap (λ p. p.next) written.value ∙ next
-          ∙ ap (λ n. (at n).next) (sym same)
-      | inr not ↦ ap (λ p. p.next) (written.others q not)
-    ] in
     record {
       room = omega (arith, is.room, size);
       linked = linked-kept (λ q. (at q).next) (λ q. (at' q).next) 1 order is.linked
@@ -129,13 +112,14 @@ still-search search old new order here place is written was opened next size =
       kept = all-both (λ q. (at q).state < 4) (λ q. IsAlike (at q) (at' q)) (λ q. (at' q).state < 4) order
           (λ q less alike_q. elim alike_q [
             | inl both ↦ open-kept (at' q).state both.1
-            | inr same ↦ subst (λ p. p.state < 4) (sym same) less
+            | inr same ↦ subst (λ n. n < 4) (sym (ap (λ p. p.state) same)) less
           ]) is.kept all;
       each = λ q used_q less. is.each q used_q (elim (alike q) [
         | inl both ↦ open-kept (at q).state both.0
-        | inr same ↦ subst (λ p. p.state < 4) same less
+        | inr same ↦ subst (λ n. n < 4) (ap (λ p. p.state) same) less
       ]);
       ends = ends-alike at at' order all is.ends;
+      skips = skips;
       reached = is.reached ∙ sym (reached-alike at at' order all);
       opened = is.opened ∙ sym (sum-kept (λ q. open_in (at q)) (λ q. open_in (at' q)) order
           (all-each (λ q. open_in (at' q) ≡ open_in (at q)) order
@@ -170,79 +154,136 @@ open-rest at link start (x ∷ xs) linked = elim (tested (is_open (at x))) [
       )
 ]
 
--- the first place that waits, from the first open one on, is the first one of the order that does
-pub first-waiting : (at : ℕ → Place) (link : ℕ → ℕ) (start : ℕ) (xs : List ℕ) (found : ℕ)
-    (linked : IsLinked link start xs) →
-    IsFirstWaiting at (open-rest at link start xs linked).1 found → IsFirstWaiting at xs found
-first-waiting at link start xs found linked (inl none) =
-    let split = open-rest at link start xs linked in
-    inl (
-      none.0,
-      subst (λ ys. AllByRecursion (λ q. (at q).state ≢ 0) ys) (sym split.2)
-          (all-append (λ q. (at q).state ≢ 0) split.0 split.1 split.4 none.1),
-    )
-first-waiting at link start xs found linked (inr some) =
-    let split = open-rest at link start xs linked in
-    inr (
-      split.0 ++ some.0,
-      some.1,
-      some.2,
-      split.2 ∙ ap (λ ys. split.0 ++ ys) some.3 ∙ sym (append_assoc split.0 some.0 (some.1 ∷ some.2)),
-      some.4,
-      some.5,
-      all-append (λ q. (at q).state ≢ 0) split.0 some.0 split.4 some.6,
-    )
-
--- the first place that waits is one of the order
-pub first-within : (at : ℕ → Place) (count : ℕ) (order : List ℕ) (link : ℕ) → IsFirstWaiting at order link → link ≢ 0 →
-    AllByRecursion (λ q. q < count) order → link - 1 < count
-first-within at count order link (inl none) some within = absurd (some none.0)
-first-within at count order link (inr found) some within =
-    omega (
-      arith,
-      found.4,
-      (all-rest (λ q. q < count) found.0 (found.1 ∷ found.2)
-          (subst (λ xs. AllByRecursion (λ q. q < count) xs) found.3 within)).0,
-    )
-
--- the first place that waits is given
-pub gives-place : (search : Search) (old new : List Place) (order : List ℕ) (link : ℕ) → IsSearch search old order →
-    IsFirstWaiting (place_at old) order link → link ≢ 0 →
-    IsWritten (place_at old) (place_at new) (link - 1) (record (place_at old (link - 1)) { state = 1 }) →
-    length new ≡ length old → GivesPlace search old new order (link - 1)
-gives-place search old new order link is (inl none) some written size = absurd (some none.0)
-gives-place search old new order link is (inr found) some written size =
-    let here : found.1 ≡ link - 1 = omega (arith, found.4) in
-    let waits : (place_at old (link - 1)).state ≡ 0 = subst (λ n. (place_at old n).state ≡ 0) here found.5 in
+-- where the walk begins
+pub begun : (search : Search) (places : List Place) (order : List ℕ) → IsSearch search places order →
+    IsBegun places search.first_open order
+begun search places order is =
+    let next : ℕ → ℕ = λ q. (place_at places q).next in
+    let split = open-rest (place_at places) next 1 order is.linked in
     record {
-      first = found.0;
-      behind = found.2;
-      was = subst (λ n. order ≡ found.0 ++ n ∷ found.2) here found.3;
-      passed = found.6;
-      waits = waits;
-      place = written.value;
-      others = written.others;
-      is = still-search search old new order (link - 1) (record (place_at old (link - 1)) { state = 1 }) is written
-          (ap (λ n. ltb n 2) waits) refl refl size;
+      above = split.0;
+      below = split.1;
+      are = split.2;
+      passed = split.4;
+      linked = is.linked;
+      then = subst (λ n. IsLinked next n split.1) (sym is.first_open) split.3;
+      short = omega (arith, is.few, is.room, ap length split.2, length-append split.0 split.1);
+      skips = is.skips;
     }
 
--- no place waits
-pub gives-none : (old : List Place) (order : List ℕ) (link : ℕ) → IsFirstWaiting (place_at old) order link →
-    link ≡ 0 → GivesNone old old order
-gives-none old order link (inr found) none = absurd (omega (arith, found.4, none))
-gives-none old order link (inl found) none = record { none = found.1; same = refl }
+module _ (search : Search) (old mid : List Place) (order : List ℕ) (link : ℕ) (is : IsSearch search old order)
+    (found : IsFirstWaiting (place_at old) (place_at mid) order link) where
+  abbrev pub at : ℕ → Place
+  at = place_at old
 
--- a search whose one place waits
+  abbrev pub at' : ℕ → Place
+  at' = place_at mid
+
+  -- the first place that waits is one of the order
+  pub first-within : link ≢ 0 → link - 1 < search.places
+  first-within some = elim found.found [
+    | inl none ↦ absurd (some none.0)
+    | inr one ↦ omega (
+      arith,
+      one.2,
+      (all-rest (λ q. q < search.places) found.passed (one.0 ∷ one.1)
+          (subst (λ xs. AllByRecursion (λ q. q < search.places) xs) one.3 is.within)).0,
+    )
+  ]
+
+  -- the search after the walk
+  walked : length mid ≡ length old → IsSearch search mid order
+  walked size = alike-search search old mid order is
+      (λ q. inr (same-place found.passed at at' q (found.same q)))
+      (λ q. same-next found.passed at at' q (found.same q)) found.skips size
+
+  -- where a place is given after it
+  module _ (new : List Place)
+      (written : IsWritten at' (place_at new) (link - 1) (record (at' (link - 1)) { state = 1 }))
+      (size : length new ≡ length old) (waits : (at (link - 1)).state ≡ 0) where
+    abbrev at'' : ℕ → Place
+    at'' = place_at new
+
+    still : at' (link - 1) ≡ at (link - 1)
+    still = same-open found.passed at at' (link - 1) (λ e. absurd (omega (arith, waits, e))) (found.same (link - 1))
+
+    value : at'' (link - 1) ≡ record (at (link - 1)) { state = 1 }
+    value = written.value ∙ ap {A = Place} {B = Place} (λ place. record place { state = 1 }) still
+
+    others : (q : ℕ) → q ≢ link - 1 → IsSameButSkip found.passed at at'' q
+    others q not = same-again found.passed at at' at'' q (written.others q not) (found.same q)
+
+    given-search : IsSearch search new order
+    given-search = alike-search search old new order is
+        (λ q. elim (cases_eq q (link - 1)) [
+          | inl same ↦ inl (
+            ap (λ n. is_open (at n)) same ∙ ap (λ n. ltb n 2) waits,
+            ap (λ n. is_open (at'' n)) same ∙ ap is_open value,
+          )
+          | inr not ↦ inr (same-place found.passed at at'' q (others q not))
+        ])
+        (λ q. elim (cases_eq q (link - 1)) [
+          | inl same ↦ ap (λ n. (at'' n).next) same ∙ ap (λ p. p.next) value ∙ ap (λ n. (at n).next) (sym same)
+          | inr not ↦ same-next found.passed at at'' q (others q not)
+        ])
+        (skips-kept at' at'' order
+        (all-each (λ q. (at' q).state ≡ 2 → (at'' q).state ≡ 2) order
+        (λ q one searched. ap (λ p. p.state) (written.others q (λ same. absurd (omega (
+          arith,
+          waits,
+          ap (λ p. p.state) still,
+          ap (λ n. (at' n).state) (sym same),
+          searched,
+        )))) ∙ searched))
+        (all-each (λ q. (at'' q).skip ≡ (at' q).skip) order (λ q one. elim (cases_eq q (link - 1)) [
+          | inl same ↦ ap (λ n. (at'' n).skip) same ∙ ap (λ p. p.skip) written.value ∙ ap (λ n. (at' n).skip) (sym same)
+          | inr not ↦ ap (λ p. p.skip) (written.others q not)
+        ])) found.skips)
+        size
+
+  -- the first place that waits is given
+  pub gives-place : (new : List Place) → link ≢ 0 →
+      IsWritten at' (place_at new) (link - 1) (record (at' (link - 1)) { state = 1 }) → length new ≡ length old →
+      GivesPlace search old new order (link - 1)
+  gives-place new some written size = elim found.found [
+    | inl none ↦ absurd (some none.0)
+    | inr one ↦
+        let here : one.0 ≡ link - 1 = omega (arith, one.2) in
+        let waits : (at (link - 1)).state ≡ 0 = subst (λ n. (at n).state ≡ 0) here one.4 in
+        record {
+          first = found.passed;
+          behind = one.1;
+          was = subst (λ n. order ≡ found.passed ++ n ∷ one.1) here one.3;
+          passed = found.none_waits;
+          waits = waits;
+          place = value new written size waits;
+          others = others new written size waits;
+          is = given-search new written size waits;
+        }
+  ]
+
+  -- no place waits
+  pub gives-none : link ≡ 0 → length mid ≡ length old → GivesNone search old mid order
+  gives-none none size = elim found.found [
+    | inr one ↦ absurd (omega (arith, one.2, none))
+    | inl all ↦ record {
+      none = subst (λ xs. AllByRecursion (λ q. (at q).state ≢ 0) xs) all.1 found.none_waits;
+      same = λ q. subst (λ xs. IsSameButSkip xs at at' q) all.1 (found.same q);
+      is = walked size;
+    }
+  ]
+
 -- the place of a search that begins
 pub first-place : (at : ℕ → Place) (new : List Place) → AreAdded at (place_at new) 0 1 0 →
-    place_at new 0 ≡ record { written = 0; next = 0; state = 0; zero = 0 }
+    place_at new 0 ≡ record { written = 0; next = 0; state = 0; skip = 0 }
 first-place at new are =
     let place : Place = place_at new 0 in
     ap (λ n. record place { written = n }) are.blank.0.0
     ∙ ap (λ n. record place { written = 0; next = n }) (are.next [] tt refl).1
     ∙ ap (λ n. record place { written = 0; next = 0; state = n }) are.waits.0
-    ∙ ap (λ n. record place { written = 0; next = 0; state = 0; zero = n }) are.blank.0.1
+    ∙ ap (λ n. record place { written = 0; next = 0; state = 0; skip = n }) are.blank.0.1
 
+-- a search whose one place waits
 pub first-search : (at : ℕ → Place) (budget : ℕ) (new : List Place) → AreAdded at (place_at new) 0 1 0 →
     1 ≤ length new →
     IsSearch (record {
@@ -266,6 +307,7 @@ first-search at budget new are room =
       kept = (subst (λ n. n < 4) (sym state) (lit< tt), tt);
       each = λ q used less. inl (omega (arith, used));
       ends = ((λ is. refl), tt);
+      skips = (inl are.blank.0.1, tt);
       reached = sym (ap (λ n. cond (eqb n 3) 1 0) state);
       opened = sym (sum_by-cons (λ q. open_in (at' q)) 0 [] ∙ ap (λ b. cond b 1 0 + 0) opened);
       written = sym (sum_by-cons (λ q. counted_in (at' q)) 0 [] ∙ ap (λ b. cond b 0 (at' 0).written + 0) opened);

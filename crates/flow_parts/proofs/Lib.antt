@@ -1,8 +1,10 @@
 pub mod Numbers
 pub mod Links
 pub mod Counts
+pub mod Skips
 pub mod Sums
 pub mod Walking
+pub mod Seeking
 pub mod Writing
 pub mod Giving
 pub mod Putting

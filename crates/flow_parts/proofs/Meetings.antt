@@ -8,6 +8,7 @@ use Rattle.flow_parts.specs.Orders.{place_at, is_open}
 use Rattle.flow_parts.specs.Meanings.{met, behind, Meaning, place_met, order_met, BeginsRight, GivesKeep}
 use Rattle.flow_parts.proofs.Behind.{behind-nil, behind-assoc, met-append}
 use Rattle.flow_parts.proofs.Numbers.{all-weaker}
+use Rattle.flow_parts.proofs.Skips.{same-place}
 
 module _ (meaning : Meaning) where
   pub order-append : (at : ℕ → Place) (xs ys : List ℕ) →
@@ -55,9 +56,10 @@ begins-right places meaning waits =
       lengths = ((λ not. absurd (cc (opened, not))), tt);
     }
 
--- a place of another state that is open as before
+-- a place of another state that is open as before, and others of another skip
 states-met : (meaning : Meaning) (at at' : ℕ → Place) (number : ℕ) → is_open (at number) ≡ true →
-    is_open (at' number) ≡ true → ((q : ℕ) → q ≢ number → at' q ≡ at q) → (xs : List ℕ) →
+    is_open (at' number) ≡ true → ((q : ℕ) → q ≢ number → at' q ≡ record (at q) { skip = (at' q).skip }) →
+    (xs : List ℕ) →
     order_met meaning at' xs ≡ order_met meaning at xs
 states-met meaning at at' number was is others [] = refl
 states-met meaning at at' number was is others (x ∷ xs) =
@@ -74,15 +76,18 @@ pub gives-keep : GivesKeep
 gives-keep search old new order number meaning all gives stands =
     let was : is_open (place_at old number) ≡ true = ap (λ n. ltb n 2) gives.waits in
     let is : is_open (place_at new number) ≡ true = ap is_open gives.place in
+    let others : (q : ℕ) → q ≢ number →
+    place_at new q ≡ record (place_at old q) { skip = (place_at new q).skip } =
+    λ q not. same-place gives.first (place_at old) (place_at new) q (gives.others q not) in
     record {
-      met_in_all = states-met meaning (place_at old) (place_at new) number was is gives.others order
+      met_in_all = states-met meaning (place_at old) (place_at new) number was is others order
           ∙ stands.met_in_all;
       lengths = all-weaker (λ q. is_open (place_at old q) ≡ false → length (meaning.text q) ≡ (place_at old q).written)
           (λ q. is_open (place_at new q) ≡ false → length (meaning.text q) ≡ (place_at new q).written) order
           (λ q known closed. elim (cases_eq q number) [
             | inl same ↦ absurd (cc (ap (λ n. is_open (place_at new n)) same, is, closed))
             | inr not ↦
-                let same = gives.others q not in
+                let same = others q not in
                 known (ap is_open (sym same) ∙ closed) ∙ ap (λ p. p.written) (sym same)
           ]) stands.lengths;
     }

@@ -10,13 +10,14 @@ use Rattle.flow_parts.specs.declared.search.Search.{Search}
 use Rattle.flow_parts.specs.declared.answer.Searched.{Searched}
 use Rattle.flow_parts.specs.declared.walks.Dropped.{Dropped}
 use Rattle.flow_parts.specs.Orders.{place_at, is_open, open_in, counted_in, IsOneOf, IsLinked, settled_in}
-use Rattle.flow_parts.specs.Orders.{first_open_in, reached_in, EndsWhereReached, link_to}
+use Rattle.flow_parts.specs.Orders.{first_open_in, reached_in, EndsWhereReached, link_to, SkipsSearched}
 use Rattle.flow_parts.specs.Searches.{IsSearch, IsPut, is_given}
 use Rattle.flow_parts.specs.internal.Walks.{AreDropped, IsCounted, AreCountable, AreAdded, start_of}
 use Rattle.flow_parts.proofs.Numbers.{all-first, all-rest, all-append, all-one, all-each, all-both, all-weaker}
 use Rattle.flow_parts.proofs.Numbers.{one-first, one-rest, one-cases, one-split, range-above}
 use Rattle.flow_parts.proofs.Links.{linked-start, linked-rest, linked-with, linked-kept, apart-first, apart-rest}
 use Rattle.flow_parts.proofs.Counts.{sum-kept, ends-with, reached-with, settled-with}
+use Rattle.flow_parts.proofs.Skips.{skips-with, skips-rest, skips-none, skips-same}
 use Rattle.flow_parts.proofs.Writing.{IsWritten}
 
 pub given-used : (search : Search) (places : List Place) (number : ℕ) → is_given search places number ≡ true →
@@ -168,6 +169,9 @@ module _ (before : Search) (old : List Place) (order : List ℕ) (number : ℕ) 
   was_given : (place_at old number).state ≡ 1
   was_given = given-state before old number given
 
+  not-searched : (place_at old number).state ≢ 2
+  not-searched searched_too = absurd (omega (arith, was_given, searched_too))
+
   was_open : is_open (place_at old number) ≡ true
   was_open = ap (λ n. ltb n 2) was_given
 
@@ -187,6 +191,9 @@ module _ (before : Search) (old : List Place) (order : List ℕ) (number : ℕ) 
 
     ends : EndsWhereReached (place_at old) (first ++ number ∷ behind)
     ends = subst (EndsWhereReached (place_at old)) was is.ends
+
+    skips : SkipsSearched (place_at old) (first ++ number ∷ behind)
+    skips = subst (SkipsSearched (place_at old)) was is.skips
 
     first-apart : AllByRecursion (λ q. q ≢ number) first
     first-apart = apart-first (λ q. (place_at old q).next) 1 first number behind linked
@@ -234,7 +241,7 @@ module _ (before : Search) (old : List Place) (order : List ℕ) (number : ℕ) 
         (drops : AreDropped (place_at old) (place_at mid) behind) (counts : IsCounted (place_at old) behind dropped)
         (size : length new ≡ length old)
         (writes_place : IsWritten (place_at mid) (place_at new) number
-        (record (place_at old number) { written = searched.written; next = 0; state = 3 }))
+        (record (place_at old number) { written = searched.written; next = 0; state = 3; skip = 0 }))
         (open_is : opened ≡ before.open - 1 - dropped.open)
         (written_is : before.written - dropped.written + searched.written < 2 ^ 64 →
         written ≡ before.written - dropped.written + searched.written)
@@ -346,6 +353,8 @@ module _ (before : Search) (old : List Place) (order : List ℕ) (number : ℕ) 
                 (omega (arith, state), tt);
             each = each;
             ends = ends_new;
+            skips = skips-with (place_at old) (place_at new) first number behind [] not-searched first-same
+                (inl (ap (λ p. p.skip) writes_place.value), tt) skips;
             reached = sym (reached-with (place_at old) (place_at new) first number behind [] ends first-same
                 ∙ ap (λ n. cond (eqb n 3) (number + 1) 0) state);
             opened = opens-new;
@@ -365,6 +374,7 @@ module _ (before : Search) (old : List Place) (order : List ℕ) (number : ℕ) 
               written = searched.written;
               next = link_to (cond b [] (range_with_len before.places searched.left ++ behind));
               state = cond b 3 2;
+              skip = 0;
             }) reached);
             first_same = first-same;
             waits = λ not. absurd (cc (reached, not));
@@ -397,6 +407,7 @@ module _ (before : Search) (old : List Place) (order : List ℕ) (number : ℕ) 
           written = searched.written;
           next = start_of before.places searched.left (place_at old number).next;
           state = 2;
+          skip = 0;
         }))
         (open_is : opened ≡ before.open - 1 + searched.left)
         (written_is : written ≡ before.written + searched.written)
@@ -537,6 +548,23 @@ module _ (before : Search) (old : List Place) (order : List ℕ) (number : ℕ) 
           (ends-kept (place_at old) (place_at new) behind behind-same
           (ends-rest (place_at old) first number behind ends))
 
+      fresh-blank : AllByRecursion (λ q. ((place_at new q).written ≡ 0) × ((place_at new q).skip ≡ 0))
+          (range_with_len before.places searched.left)
+      fresh-blank = all-both (λ q. ((place_at mid q).written ≡ 0) × ((place_at mid q).skip ≡ 0)) (λ q. q ≢ number)
+          (λ q. ((place_at new q).written ≡ 0) × ((place_at new q).skip ≡ 0))
+          (range_with_len before.places searched.left)
+          (λ q both not. (
+            ap (λ p. p.written) (writes_place.others q not) ∙ both.0,
+            ap (λ p. p.skip) (writes_place.others q not) ∙ both.1,
+          )) adds.blank fresh-apart
+
+      behind-skips : SkipsSearched (place_at new) then
+      behind-skips = skips-none (place_at new) (range_with_len before.places searched.left) behind
+          (all-weaker (λ q. ((place_at new q).written ≡ 0) × ((place_at new q).skip ≡ 0))
+          (λ q. (place_at new q).skip ≡ 0) (range_with_len before.places searched.left) (λ q both. both.1) fresh-blank)
+          (skips-same (place_at old) (place_at new) behind behind-same
+          (skips-rest (place_at old) first (number ∷ behind) skips).1)
+
       reached-new : before.reached ≡ reached_in (place_at new) (first ++ number ∷ then)
       reached-new =
           is.reached ∙ ap (reached_in (place_at old)) was
@@ -599,6 +627,8 @@ module _ (before : Search) (old : List Place) (order : List ℕ) (number : ℕ) 
                 );
             each = each2;
             ends = ends_new;
+            skips = skips-with (place_at old) (place_at new) first number behind then not-searched first-same2
+                (inl (ap (λ p. p.skip) writes_place.value), behind-skips) skips;
             reached = reached-new;
             opened = opens-new2;
             written = written-new2;
@@ -615,21 +645,17 @@ module _ (before : Search) (old : List Place) (order : List ℕ) (number : ℕ) 
             places = ap (λ search. search.places) fields ∙ places_is
                 ∙ sym (ap (λ b. before.places + cond b zero searched.left) reached);
             place = writes_place.value
-                ∙ ap (λ n. record (place_at old number) { written = searched.written; next = n; state = 2 }) start-is
+                ∙ ap (λ n. record (place_at old number) { written = searched.written; next = n; state = 2; skip = 0 })
+                start-is
                 ∙ sym (ap (λ b. record (place_at old number) {
                   written = searched.written;
                   next = link_to (cond b [] then);
                   state = cond b 3 2;
+                  skip = 0;
                 }) reached);
             first_same = first-same2;
             waits = λ _. fresh-waits;
-            blank = λ _. all-both (λ q. ((place_at mid q).written ≡ 0) × ((place_at mid q).zero ≡ 0)) (λ q. q ≢ number)
-                (λ q. ((place_at new q).written ≡ 0) × ((place_at new q).zero ≡ 0))
-                (range_with_len before.places searched.left)
-                (λ q both not. (
-                  ap (λ p. p.written) (writes_place.others q not) ∙ both.0,
-                  ap (λ p. p.zero) (writes_place.others q not) ∙ both.1,
-                )) adds.blank fresh-apart;
+            blank = λ _. fresh-blank;
             unused = λ q from.
                 let above : before.places + searched.left ≤ q =
                 omega (arith, from, ap (λ search. search.places) fields, places_is) in

@@ -1,13 +1,10 @@
 -- Steps of the walks.
-use Rattle.std.proofs.Common.{◌≡◌, ◌≢◌, ℕ, ◌+◌, ◌-◌, ◌<◌, ◌≤◌, ◌^◌, inl, inr, true, false, cond, List, [], ◌∷◌, ◌++◌}
+use Rattle.std.proofs.Common.{◌≡◌, ◌≢◌, ℕ, ◌+◌, ◌-◌, ◌<◌, ◌≤◌, ◌^◌, true, false, cond, List, [], ◌∷◌}
 use Rattle.std.proofs.Common.{length, refl, ap, sym, ◌∙◌, subst, arith}
-use Rattle.std.proofs.Common.{append_assoc, append-nil}
-use Rattle.std.specs.List.{AllByRecursion}
 use Rattle.flow_parts.specs.declared.place.Place.{Place}
 use Rattle.flow_parts.specs.declared.walks.Settled.{Settled}
 use Rattle.flow_parts.specs.Orders.{is_open, IsLinked, settled_in, first_open_in}
-use Rattle.flow_parts.specs.internal.Walks.{IsFirstWaiting, IsPassed}
-use Rattle.flow_parts.proofs.Numbers.{all-append}
+use Rattle.flow_parts.specs.internal.Walks.{IsPassed}
 
 -- from 0 on there is no place
 pub linked-none : (link : ℕ → ℕ) (start : ℕ) (xs : List ℕ) → IsLinked link start xs → start ≡ 0 → xs ≡ []
@@ -84,54 +81,5 @@ module _ (at : ℕ → Place) (size step : ℕ) (begun now : Settled) (rest : Li
         linked = subst (λ n. IsLinked (λ number. (at number).next) n first.0) (sym is) first.2;
         written = omega (arith, walk.written, settled, sum);
         first_open = sym first_open ∙ walk.first_open;
-        short = omega (arith, walk.short, ap length first.1);
-      }
-
--- a walk over places that do not wait, after so many steps of those that an array has
-pub record Seeking (at : ℕ → Place) (size step link : ℕ) (rest : List ℕ) : Type 0 where
-  pub above : List ℕ
-  pub below : List ℕ
-  pub are : rest ≡ above ++ below
-  pub passed : AllByRecursion (λ number. (at number).state ≢ 0) above
-  pub linked : IsLinked (λ number. (at number).next) link below
-  pub short : length below + step ≤ size
-
-module _ (at : ℕ → Place) (size step link : ℕ) (rest : List ℕ) (walk : Seeking at size step link rest) where
-  seek-nil : walk.below ≡ [] → IsFirstWaiting at rest 0
-  seek-nil is = inl (
-    refl,
-    subst (λ xs. AllByRecursion (λ number. (at number).state ≢ 0) xs)
-        (sym (walk.are ∙ ap (λ xs. walk.above ++ xs) is ∙ append-nil walk.above)) walk.passed,
-  )
-
-  pub seeking-none : link ≡ 0 → IsFirstWaiting at rest 0
-  seeking-none none = seek-nil (linked-none (λ number. (at number).next) link walk.below walk.linked none)
-
-  pub seeking-end : size ≤ step → IsFirstWaiting at rest 0
-  seeking-end all = seek-nil (none-long walk.below (omega (arith, walk.short, all)))
-
-  pub seeking-waits : link ≢ 0 → (at (link - 1)).state ≡ 0 → IsFirstWaiting at rest link
-  seeking-waits some waits =
-      let first = linked-some (λ number. (at number).next) link walk.below walk.linked some in
-      inr (
-        walk.above,
-        link - 1,
-        first.0,
-        walk.are ∙ ap (λ xs. walk.above ++ xs) first.1,
-        omega (arith, some),
-        waits,
-        walk.passed,
-      )
-
-  pub seeking-more : (next : ℕ) → link ≢ 0 → (at (link - 1)).state ≢ 0 → next ≡ (at (link - 1)).next →
-      Seeking at size (step + 1) next rest
-  seeking-more next some not is =
-      let first = linked-some (λ number. (at number).next) link walk.below walk.linked some in
-      record {
-        above = walk.above ++ (link - 1) ∷ [];
-        below = first.0;
-        are = walk.are ∙ ap (λ xs. walk.above ++ xs) first.1 ∙ sym (append_assoc walk.above ((link - 1) ∷ []) first.0);
-        passed = all-append (λ number. (at number).state ≢ 0) walk.above ((link - 1) ∷ []) walk.passed (not, tt);
-        linked = subst (λ n. IsLinked (λ number. (at number).next) n first.0) (sym is) first.2;
         short = omega (arith, walk.short, ap length first.1);
       }

@@ -162,19 +162,19 @@ module _ (at at' at'' : ℕ → Place) (here m k next_link : ℕ) (place : Place
             (sym (ap (λ p. p.next) written.value ∙ starts)) kept,
       )
 
-  pub added-more : place.state ≡ 0 → place.next ≡ start_of m k next_link → place.written ≡ 0 → place.zero ≡ 0 →
+  pub added-more : place.state ≡ 0 → place.next ≡ start_of m k next_link → place.written ≡ 0 → place.skip ≡ 0 →
       AreAdded at at'' here (suc k) next_link
   added-more waits nexts none zeros = record {
     beyond = λ q from.
         written.others q (λ same. omega (arith, same, from)) ∙ are.beyond q (omega (arith, from, is));
-    blank = subst (λ xs. AllByRecursion (λ number. ((at'' number).written ≡ 0) × ((at'' number).zero ≡ 0)) xs)
+    blank = subst (λ xs. AllByRecursion (λ number. ((at'' number).written ≡ 0) × ((at'' number).skip ≡ 0)) xs)
         (sym range-is) (
-          (ap (λ p. p.written) written.value ∙ none, ap (λ p. p.zero) written.value ∙ zeros),
-          all-both (λ q. ((at' q).written ≡ 0) × ((at' q).zero ≡ 0)) (λ q. q ≢ here)
-              (λ q. ((at'' q).written ≡ 0) × ((at'' q).zero ≡ 0)) (range_with_len m k)
+          (ap (λ p. p.written) written.value ∙ none, ap (λ p. p.skip) written.value ∙ zeros),
+          all-both (λ q. ((at' q).written ≡ 0) × ((at' q).skip ≡ 0)) (λ q. q ≢ here)
+              (λ q. ((at'' q).written ≡ 0) × ((at'' q).skip ≡ 0)) (range_with_len m k)
               (λ q both not. (
                 ap (λ p. p.written) (written.others q not) ∙ both.0,
-                ap (λ p. p.zero) (written.others q not) ∙ both.1,
+                ap (λ p. p.skip) (written.others q not) ∙ both.1,
               )) are.blank above,
         );
     others = λ q less. written.others q (λ same. omega (arith, less, same)) ∙ are.others q (omega (arith, less, is));
@@ -217,7 +217,7 @@ adding-none at first count next_link = record {
 
 pub adding-more : (at at' at'' : ℕ → Place) (first count index from here next_link next after : ℕ) (place : Place) →
     Adding at at' first count from next_link next → from ≡ index + 1 → here ≡ first + index → after ≡ here + 1 →
-    IsWritten at' at'' here place → place.state ≡ 0 → place.next ≡ next → place.written ≡ 0 → place.zero ≡ 0 →
+    IsWritten at' at'' here place → place.state ≡ 0 → place.next ≡ next → place.written ≡ 0 → place.skip ≡ 0 →
     Adding at at'' first count index next_link after
 adding-more at at' at'' first count index from here next_link next after place walk more is then written waits nexts
     none zeros =

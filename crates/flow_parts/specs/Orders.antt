@@ -6,7 +6,7 @@ use Rattle.flow_parts.specs.declared.place.Place.{Place}
 -- what is at a place of the array; behind its end, a place that was dropped
 abbrev pub place_at : List Place → ℕ → Place
 place_at places number =
-    slice_index_or places number (record { written = 0; next = 0; state = 4; zero = 0 })
+    slice_index_or places number (record { written = 0; next = 0; state = 4; skip = 0 })
 
 -- whether a place waits or is given: it is still to be searched
 abbrev pub is_open : Place → Bool
@@ -55,3 +55,22 @@ reached_in at (number ∷ more) = cond ((at number).state == 3) (number + 1) (re
 abbrev pub EndsWhereReached : (ℕ → Place) → List ℕ → Type 0
 EndsWhereReached at [] = Unit {0}
 EndsWhereReached at (number ∷ more) = ((at number).state ≡ 3 → more ≡ []) × EndsWhereReached at more
+
+-- these places were searched, up to the place of a link, and that one too
+abbrev pub AreSkipped : (ℕ → Place) → List ℕ → ℕ → Type 0
+AreSkipped at [] link = ⊥
+AreSkipped at (number ∷ more) link =
+    ((at number).state ≡ 2) × ((link ≡ number + 1) ⊎ AreSkipped at more link)
+
+-- each place skips none of those behind it; or it was searched, and so were those that it skips
+abbrev pub SkipsSearched : (ℕ → Place) → List ℕ → Type 0
+SkipsSearched at [] = Unit {0}
+SkipsSearched at (number ∷ more) =
+    (((at number).skip ≡ 0) ⊎ (((at number).state ≡ 2) × AreSkipped at more (at number).skip)) × SkipsSearched at more
+
+-- a place is as it was; or it is one of these, was searched, and only what it skips is another
+abbrev pub IsSameButSkip : List ℕ → (ℕ → Place) → (ℕ → Place) → ℕ → Type 0
+IsSameButSkip passed at at' number =
+    (at' number ≡ at number)
+    ⊎ (IsOneOf number passed × ((at number).state ≡ 2)
+    × (at' number ≡ record (at number) { skip = (at' number).skip }))

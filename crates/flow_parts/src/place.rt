@@ -2,6 +2,7 @@
 
 ghost use Rattle.std.specs.Prelude.{◌≡◌, length, slice_set};
 ghost use Rattle.flow_parts.specs.Orders.{counted_in, is_open, open_in, place_at};
+ghost use Rattle.flow_parts.specs.internal.Walks.{onward_of};
 
 /// The state of a place that waits to be given to a worker.
 pub(crate) const WAITS: u32 = 0;
@@ -29,8 +30,8 @@ pub struct Place {
     pub next: u64,
     /// 0 where it waits, 1 given to a worker, 2 searched, 3 searched up to a sequence below the threshold, 4 dropped.
     pub state: u32,
-    /// Nothing.
-    pub zero: u32,
+    /// One more than a place further on such that this one, that one and all between were searched; 0: none.
+    pub skip: u32,
 }
 
 /// Behind the end of an array.
@@ -38,7 +39,7 @@ const NOWHERE: Place = Place {
     written: 0,
     next: 0,
     state: DROPPED,
-    zero: 0,
+    skip: 0,
 };
 
 impl Place {
@@ -61,6 +62,17 @@ impl Place {
         ensures { result ≡ counted_in self.now }
     {
         if self.is_open() { 0 } else { self.written }
+    }
+
+    /// One more than a place further on, where those between were searched: by its skip, or else the place behind it.
+    pub(crate) fn onward(&self) -> u64
+        ensures { result ≡ onward_of self.now }
+    {
+        if self.skip == 0 {
+            self.next
+        } else {
+            u64::from(self.skip)
+        }
     }
 }
 

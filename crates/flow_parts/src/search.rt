@@ -36,7 +36,7 @@ impl Search {
         ensures none { IsNone result ↔ (length places.old ≡ 0) }
         ensures begun { IfSome result (λ search. IsSearch search places.new (0 ∷ [])) }
         ensures waits { IfSome result (λ search. place_at places.new 0
-            ≡ record { written = 0; next = 0; state = 0; zero = 0 }) }
+            ≡ record { written = 0; next = 0; state = 0; skip = 0 }) }
         ensures budget { IfSome result (λ search. search.budget ≡ budget) }
         ensures places { IfSome result (λ search. search.places ≡ 1) }
         ensures unused { (number : ℕ) → 1 ≤ number → place_at places.new number ≡ place_at places.old number }
@@ -56,13 +56,13 @@ impl Search {
         })
     }
 
-    /// Gives the first place in order that waits. None where none waits. It passes over the places from the first open
-    /// one on that are given or were searched.
+    /// Gives the first place in order that waits. None where none waits. Of the places before it only what searched ones
+    /// skip changes, so that the next call passes over them at once.
     pub fn give(&self, places: &mut [Place]) -> Option<u64>
         ensures given { (order : List ℕ) → IsSearch self.now places.old order → IfSome result
             (λ number. GivesPlace self.now places.old places.new order number) }
         ensures none { (order : List ℕ) → IsSearch self.now places.old order → IfNone result
-            (GivesNone places.old places.new order) }
+            (GivesNone self.now places.old places.new order) }
     {
         let link = waiting_from(places, self.first_open);
         if link == 0 {
@@ -153,7 +153,7 @@ impl Search {
                 written: searched.written,
                 next: 0,
                 state: REACHED,
-                ..place
+                skip: 0,
             },
         );
         self.reached = number.saturating_add(1);
@@ -184,7 +184,7 @@ impl Search {
                 written: searched.written,
                 next: start_of(first, left, place.next),
                 state: SEARCHED,
-                ..place
+                skip: 0,
             },
         );
         self.places = first.saturating_add(left);

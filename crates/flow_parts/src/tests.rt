@@ -1,6 +1,6 @@
 //! Searches call by call, worked out by hand.
 
-use crate::place::place_at;
+use crate::place::{place_at, set_place};
 use crate::{Decided, Place, Put, Search, Searched};
 use std::test::Fail;
 
@@ -13,26 +13,29 @@ enum Call {
     GoesOn(u64, u64, u32, Put),
     /// At a place so many directions were written, and then a sequence was reached.
     Reaches(u64, u64, Put),
+    /// The caller writes into the array what a place skips.
+    Skip(u64, u32),
 }
 
-use Call::{Give, GoesOn, Reaches};
+use Call::{Give, GoesOn, Reaches, Skip};
 use Put::{Late, NoRoom, Taken, TooMany};
 
-/// A search: its budget, how many places the array has, and the calls; then its places in order, how many directions
-/// are written and settled, how many places are open, and what it came to.
+/// A search: its budget, how many places the array has, and the calls; then its places in order, the skips of those
+/// that have one, how many directions are written and settled, how many places are open, and what it came to.
 type History = (
     u64,
     usize,
     &'static [Call],
     &'static [u64],
+    &'static [(u64, u32)],
     [u64; 3],
     Option<Decided>,
 );
 
 /// The most places of an array.
-const MOST: usize = 8;
+const MOST: usize = 9;
 
-static HISTORIES: [History; 16] = [
+static HISTORIES: [History; 23] = [
     // The whole search is one place.
     (
         5,
@@ -44,6 +47,7 @@ static HISTORIES: [History; 16] = [
             Give(None),
         ],
         &[0],
+        &[],
         [5, 5, 0],
         Some(Decided::Proved { directions: 5 }),
     ),
@@ -52,6 +56,7 @@ static HISTORIES: [History; 16] = [
         1,
         &[Give(Some(0)), GoesOn(0, 5, 0, Taken { first: 1 })],
         &[0],
+        &[],
         [5, 5, 0],
         Some(Decided::Over),
     ),
@@ -60,6 +65,7 @@ static HISTORIES: [History; 16] = [
         1,
         &[Give(Some(0)), Reaches(0, 5, Taken { first: 1 })],
         &[0],
+        &[],
         [5, 5, 0],
         Some(Decided::Below {
             place: 0,
@@ -71,6 +77,7 @@ static HISTORIES: [History; 16] = [
         1,
         &[Give(Some(0)), Reaches(0, 1, Taken { first: 1 })],
         &[0],
+        &[],
         [1, 1, 0],
         Some(Decided::Over),
     ),
@@ -87,6 +94,7 @@ static HISTORIES: [History; 16] = [
             Give(Some(4)),
         ],
         &[0, 1, 2, 4, 5, 3],
+        &[],
         [17, 10, 4],
         None,
     ),
@@ -106,6 +114,7 @@ static HISTORIES: [History; 16] = [
             Reaches(2, 4, Late),
         ],
         &[0, 1, 2],
+        &[],
         [5, 1, 1],
         None,
     ),
@@ -122,6 +131,7 @@ static HISTORIES: [History; 16] = [
             GoesOn(1, 2, 0, Taken { first: 4 }),
         ],
         &[0, 1, 2],
+        &[],
         [7, 7, 0],
         Some(Decided::Below {
             place: 2,
@@ -141,6 +151,7 @@ static HISTORIES: [History; 16] = [
             Reaches(1, 2, Taken { first: 4 }),
         ],
         &[0, 1],
+        &[],
         [3, 3, 0],
         Some(Decided::Below {
             place: 1,
@@ -159,6 +170,7 @@ static HISTORIES: [History; 16] = [
             GoesOn(2, 100, 0, Taken { first: 3 }),
         ],
         &[0, 1, 2],
+        &[],
         [100, 0, 1],
         None,
     ),
@@ -174,6 +186,7 @@ static HISTORIES: [History; 16] = [
             GoesOn(1, 0, 0, Taken { first: 3 }),
         ],
         &[0, 1, 2],
+        &[],
         [100, 100, 0],
         Some(Decided::Over),
     ),
@@ -194,6 +207,7 @@ static HISTORIES: [History; 16] = [
             Give(None),
         ],
         &[0, 1, 4, 2, 5, 3],
+        &[],
         [8, 5, 3],
         None,
     ),
@@ -214,7 +228,176 @@ static HISTORIES: [History; 16] = [
             Give(None),
         ],
         &[0, 1, 4, 5],
+        &[],
         [1, 0, 1],
+        None,
+    ),
+    // The first place of a run that was searched skips to the last one, once a walk has come through.
+    (
+        99,
+        6,
+        &[
+            Give(Some(0)),
+            GoesOn(0, 1, 5, Taken { first: 1 }),
+            Give(Some(1)),
+            Give(Some(2)),
+            Give(Some(3)),
+            Give(Some(4)),
+            GoesOn(3, 1, 0, Taken { first: 6 }),
+            GoesOn(2, 1, 0, Taken { first: 6 }),
+            Give(Some(5)),
+        ],
+        &[0, 1, 2, 3, 4, 5],
+        &[(2, 4)],
+        [3, 1, 3],
+        None,
+    ),
+    // A run goes on: it skips what it did, and more; also where it is the end of the order.
+    (
+        99,
+        6,
+        &[
+            Give(Some(0)),
+            GoesOn(0, 1, 5, Taken { first: 1 }),
+            Give(Some(1)),
+            Give(Some(2)),
+            Give(Some(3)),
+            GoesOn(3, 1, 0, Taken { first: 6 }),
+            GoesOn(2, 1, 0, Taken { first: 6 }),
+            Give(Some(4)),
+            Give(Some(5)),
+            GoesOn(5, 1, 0, Taken { first: 6 }),
+            GoesOn(4, 1, 0, Taken { first: 6 }),
+            Give(None),
+            Give(None),
+        ],
+        &[0, 1, 2, 3, 4, 5],
+        &[(2, 6)],
+        [5, 1, 1],
+        None,
+    ),
+    // New places behind a run, and between two runs, are not passed over; then both are one run.
+    (
+        99,
+        9,
+        &[
+            Give(Some(0)),
+            GoesOn(0, 1, 6, Taken { first: 1 }),
+            Give(Some(1)),
+            Give(Some(2)),
+            Give(Some(3)),
+            Give(Some(4)),
+            Give(Some(5)),
+            GoesOn(2, 1, 0, Taken { first: 7 }),
+            GoesOn(4, 1, 0, Taken { first: 7 }),
+            GoesOn(5, 1, 0, Taken { first: 7 }),
+            Give(Some(6)),
+            GoesOn(3, 1, 2, Taken { first: 7 }),
+            Give(Some(7)),
+            Give(Some(8)),
+            GoesOn(8, 1, 0, Taken { first: 9 }),
+            GoesOn(7, 1, 0, Taken { first: 9 }),
+            Give(None),
+        ],
+        &[0, 1, 2, 3, 7, 8, 4, 5, 6],
+        &[(2, 6), (4, 6)],
+        [7, 1, 2],
+        None,
+    ),
+    // A sequence between two runs drops the second one; new places before the first one are given.
+    (
+        99,
+        9,
+        &[
+            Give(Some(0)),
+            GoesOn(0, 1, 6, Taken { first: 1 }),
+            Give(Some(1)),
+            Give(Some(2)),
+            Give(Some(3)),
+            Give(Some(4)),
+            Give(Some(5)),
+            Give(Some(6)),
+            GoesOn(2, 1, 0, Taken { first: 7 }),
+            GoesOn(3, 1, 0, Taken { first: 7 }),
+            GoesOn(5, 1, 0, Taken { first: 7 }),
+            GoesOn(6, 1, 0, Taken { first: 7 }),
+            Give(None),
+            Reaches(4, 1, Taken { first: 7 }),
+            Give(None),
+            GoesOn(1, 1, 2, Taken { first: 7 }),
+            Give(Some(7)),
+            Give(Some(8)),
+            Give(None),
+        ],
+        &[0, 1, 7, 8, 2, 3, 4],
+        &[(2, 4)],
+        [5, 2, 2],
+        None,
+    ),
+    // A sequence at the place behind a run ends the order there.
+    (
+        99,
+        4,
+        &[
+            Give(Some(0)),
+            GoesOn(0, 1, 3, Taken { first: 1 }),
+            Give(Some(1)),
+            Give(Some(2)),
+            Give(Some(3)),
+            GoesOn(2, 1, 0, Taken { first: 4 }),
+            Reaches(3, 1, Taken { first: 4 }),
+            Give(None),
+        ],
+        &[0, 1, 2, 3],
+        &[],
+        [3, 1, 1],
+        None,
+    ),
+    // Where no place skips, which is always lawful, runs are passed place by place, and skipped from then on.
+    (
+        99,
+        7,
+        &[
+            Give(Some(0)),
+            GoesOn(0, 1, 6, Taken { first: 1 }),
+            Give(Some(1)),
+            Give(Some(2)),
+            Give(Some(3)),
+            Give(Some(4)),
+            GoesOn(2, 1, 0, Taken { first: 7 }),
+            GoesOn(3, 1, 0, Taken { first: 7 }),
+            GoesOn(4, 1, 0, Taken { first: 7 }),
+            Give(Some(5)),
+            Skip(2, 0),
+            Give(Some(6)),
+        ],
+        &[0, 1, 2, 3, 4, 5, 6],
+        &[(2, 5)],
+        [4, 1, 3],
+        None,
+    ),
+    // In an array that the caller has changed, skips are followed too, and each call ends.
+    (
+        99,
+        5,
+        &[
+            Give(Some(0)),
+            GoesOn(0, 1, 4, Taken { first: 1 }),
+            Give(Some(1)),
+            Give(Some(2)),
+            GoesOn(2, 1, 0, Taken { first: 5 }),
+            Skip(2, 5),
+            Give(Some(4)),
+            Skip(2, 3),
+            Give(None),
+            Skip(2, u32::MAX),
+            Give(None),
+            Skip(2, 0),
+            Give(Some(3)),
+        ],
+        &[0, 1, 2, 3, 4],
+        &[],
+        [2, 1, 3],
         None,
     ),
     // Behind the last place there is none, whatever the array has there.
@@ -223,6 +406,7 @@ static HISTORIES: [History; 16] = [
         2,
         &[Give(Some(0)), GoesOn(1, 0, 0, Late)],
         &[0],
+        &[],
         [0, 0, 1],
         None,
     ),
@@ -239,6 +423,7 @@ static HISTORIES: [History; 16] = [
             GoesOn(1, 1, 1, Late),
         ],
         &[0, 1, 2],
+        &[],
         [1, 1, 2],
         None,
     ),
@@ -255,6 +440,7 @@ static HISTORIES: [History; 16] = [
             GoesOn(1, 0, 0, Taken { first: 2 }),
         ],
         &[0, 1],
+        &[],
         [u64::MAX, u64::MAX, 0],
         Some(Decided::Proved {
             directions: u64::MAX,
@@ -265,6 +451,7 @@ static HISTORIES: [History; 16] = [
         2,
         &[Give(Some(0)), GoesOn(0, u64::MAX, 1, Taken { first: 1 })],
         &[0, 1],
+        &[],
         [u64::MAX, u64::MAX, 1],
         Some(Decided::Over),
     ),
@@ -290,6 +477,11 @@ fn returns(search: &mut Search, places: &mut [Place], call: Call) -> bool {
             };
             search.put(places, number, &searched) == put
         }
+        Skip(number, skip) => {
+            let place = place_at(places, number);
+            set_place(places, number, Place { skip, ..place });
+            true
+        }
     }
 }
 
@@ -305,14 +497,30 @@ fn stand_in_order(places: &[Place], order: &[u64]) -> bool {
     link == 0
 }
 
+/// Whether of these places those skip others that are to, and no more.
+fn skip_others(places: &[Place], order: &[u64], skips: &[(u64, u32)]) -> bool {
+    for number in order {
+        let mut wanted = 0;
+        for (place, skip) in skips {
+            if place == number {
+                wanted = *skip;
+            }
+        }
+        if place_at(places, *number).skip != wanted {
+            return false;
+        }
+    }
+    true
+}
+
 #[test]
 fn searches_go_as_worked_out(rt: HostRuntime) -> Result<(), Fail> {
-    for (row, (budget, room, calls, order, counts, found)) in HISTORIES.iter().enumerate() {
+    for (row, (budget, room, calls, order, skips, counts, found)) in HISTORIES.iter().enumerate() {
         let none = Place {
             written: 9,
             next: 9,
             state: 1,
-            zero: 0,
+            skip: 0,
         };
         let mut array = [none; MOST];
         let places = &mut array[..(*room).min(MOST)];
@@ -328,6 +536,7 @@ fn searches_go_as_worked_out(rt: HostRuntime) -> Result<(), Fail> {
             );
         }
         assert!(rt; stand_in_order(places, order), "row {row}");
+        assert!(rt; skip_others(places, order, skips), "row {row}");
         assert_eq!(rt;
             [search.written, search.settled, search.open],
             *counts,

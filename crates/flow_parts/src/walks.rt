@@ -2,10 +2,10 @@
 
 ghost use Rattle.std.specs.Prelude.{◌≡◌, ℕ, ◌+◌, ◌<◌, ◌≤◌, ◌^◌, List, length};
 ghost use Rattle.flow_parts.specs.Orders.{IsLinked, place_at, settled_in};
-ghost use Rattle.flow_parts.specs.internal.Walks.{AreAdded, AreCountable, AreDropped, IsCounted, IsFirstWaiting};
-ghost use Rattle.flow_parts.specs.internal.Walks.{IsPassed, start_of};
+ghost use Rattle.flow_parts.specs.internal.Walks.{AreAdded, AreCountable, AreDropped, IsBegun, IsCounted};
+ghost use Rattle.flow_parts.specs.internal.Walks.{IsFirstWaiting, IsPassed, IsRunTo, start_of};
 
-use crate::place::{DROPPED, Place, WAITS, place_at, set_place};
+use crate::place::{DROPPED, Place, SEARCHED, WAITS, place_at, set_place};
 
 /// What is counted at places that are dropped.
 #[derive(Clone, Copy)]
@@ -64,7 +64,7 @@ pub(crate) fn add_places(places: &mut [Place], first: u64, count: u64, next: u64
                 written: 0,
                 next,
                 state: WAITS,
-                zero: 0,
+                skip: 0,
             },
         );
         next = number.saturating_add(1);
@@ -112,12 +112,14 @@ pub(crate) fn settle_from(places: &[Place], settled: Settled) -> Settled
     settled
 }
 
-/// The link of the first place that waits, from the place of a link on; 0 where none waits.
-pub(crate) fn waiting_from(places: &[Place], start: u64) -> u64
-    ensures { (rest : List ℕ) → IsLinked (λ number. (place_at places.now number).next) start rest →
-        length rest ≤ length places.now → IsFirstWaiting (place_at places.now) rest result }
+/// The link of the first place that waits, from the place of a link on; 0 where none waits. The first place of each run
+/// that was searched skips to the last one from now on, so that no later walk goes through the run.
+pub(crate) fn waiting_from(places: &mut [Place], start: u64) -> u64
+    ensures { (order : List ℕ) → IsBegun places.old start order →
+        IsFirstWaiting (place_at places.old) (place_at places.new) order result }
 {
     let mut link = start;
+    let mut run = 0;
     'places: for _step in 0..places.len() {
         if link == 0 {
             break;
@@ -126,7 +128,28 @@ pub(crate) fn waiting_from(places: &[Place], start: u64) -> u64
         if place.state == WAITS {
             return link;
         }
-        link = place.next;
+        if place.state == SEARCHED {
+            run = run_to(places, run, link);
+            link = place.onward();
+        } else {
+            run = 0;
+            link = place.next;
+        }
     }
     0
+}
+
+/// The link of the first place of a run of searched places, once it goes on with the place of a link: this one, where
+/// there was none; else the first one skips to it, where its skip has room for the link.
+fn run_to(places: &mut [Place], run: u64, link: u64) -> u64
+    ensures { IsRunTo (place_at places.old) (place_at places.new) run link result }
+{
+    if run == 0 {
+        return link;
+    }
+    if let Ok(skip) = u32::try_from(link) {
+        let place = place_at(places, run - 1);
+        set_place(places, run - 1, Place { skip, ..place });
+    }
+    run
 }

@@ -360,7 +360,7 @@ pub struct flowshop_place {
     pub written: u64,
     pub next: u64,
     pub state: u32,
-    pub zero: u32,
+    pub skip: u32,
 }
 
 /// Where a search stands that is shared.

@@ -27,7 +27,7 @@ flowshop_rounds_options 16 8: rounds 0 4, seed 4 4, steps 8 8
 flowshop_run_state 128 8: lower 0 8, upper 8 8, least 16 8, inner 24 88, tasks 112 4, step 116 4, inner_place 120 8
 flowshop_task 64 8: kind 0 4, origin 4 4, number 8 8, budget 16 8, beam 24 24, rounds 48 16
 flowshop_answer 24 8: found 0 4, whole 4 4, makespan 8 8, directions 16 8
-flowshop_place 24 8: written 0 8, next 8 8, state 16 4, zero 20 4
+flowshop_place 24 8: written 0 8, next 8 8, state 16 4, skip 20 4
 flowshop_search_state 56 8: budget 0 8, written 8 8, settled 16 8, first_open 24 8, open 32 8, places 40 8, reached 48 8
 flowshop_searched 16 8: written 0 8, left 8 4, reached 12 4
 flowshop_node 32 8: first 0 8, first_count 8 8, last 16 8, last_count 24 8
@@ -83,7 +83,7 @@ fn of_rust() -> String {
         flowshop_run_state: lower upper least inner tasks step inner_place;
         flowshop_task: kind origin number budget beam rounds;
         flowshop_answer: found whole makespan directions;
-        flowshop_place: written next state zero;
+        flowshop_place: written next state skip;
         flowshop_search_state: budget written settled first_open open places reached;
         flowshop_searched: written left reached;
         flowshop_node: first first_count last last_count;

@@ -8,7 +8,7 @@ pub places-preserved : goal.places-preserved
 places-preserved c room fits =
     let places = c.places.places in
     let here = c.saturating_add-number.result in
-    let place : Place = record { written = 0; next = c.places.next; state = 0; zero = 0 } in
+    let place : Place = record { written = 0; next = c.places.next; state = 0; skip = 0 } in
     let is : here ≡ c.args.first + (c.places.index - 1) =
     omega (arith, c.saturating_add-number.ensures, fits, c.places.auto.index, c.places-test.true) in
     let within : here < length places =

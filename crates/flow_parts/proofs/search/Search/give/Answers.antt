@@ -1,36 +1,29 @@
-use Rattle.std.proofs.Common.{◌<◌, ◌-◌, length, ap, sym, subst, arith}
-use Rattle.std.proofs.Common.{length-append}
-use Rattle.flow_parts.specs.Orders.{place_at, IsLinked}
+use Rattle.std.proofs.Common.{◌<◌, ◌-◌, ◌∙◌, length, arith}
 use Rattle.flow_parts.proofs.Writing.{written-read}
-use Rattle.flow_parts.proofs.Giving.{open-rest, first-waiting, first-within, gives-place, gives-none}
+use Rattle.flow_parts.proofs.Giving.{begun, first-within, gives-place, gives-none}
 use Rattle.flow_parts.proofs.search.Search.give.Goals as goal
 
 pub returns-then-link-eq0-clause-none : goal.returns-then-link-eq0-clause-none
 returns-then-link-eq0-clause-none c order is =
-    let at = place_at c.args.places.now in
-    let split = open-rest at (λ number. (at number).next) 1 order is.linked in
-    let found = c.waiting_from-link.ensures split.1
-    (subst (λ n. IsLinked (λ number. (at number).next) n split.1) (sym is.first_open) split.3)
-    (omega (arith, is.few, is.room, ap length split.2, length-append split.0 split.1)) in
-    gives-none c.args.places.now order c.waiting_from-link.result
-    (first-waiting at (λ number. (at number).next) 1 order c.waiting_from-link.result is.linked found)
-    c.if-link-eq0.true
+    let old = c.args.places.now in
+    gives-none c.args.self.now old c.waiting_from-link.new.places order c.waiting_from-link.result is
+    (c.waiting_from-link.ensures order (begun c.args.self.now old order is)) c.if-link-eq0.true
+    c.waiting_from-link.auto.places
 
 pub returns-clause-given : goal.returns-clause-given
 returns-clause-given c order is =
-    let at = place_at c.args.places.now in
-    let split = open-rest at (λ number. (at number).next) 1 order is.linked in
-    let found = first-waiting at (λ number. (at number).next) 1 order c.waiting_from-link.result is.linked
-    (c.waiting_from-link.ensures split.1
-    (subst (λ n. IsLinked (λ number. (at number).next) n split.1) (sym is.first_open) split.3)
-    (omega (arith, is.few, is.room, ap length split.2, length-append split.0 split.1))) in
-    let within : c.waiting_from-link.result - 1 < length c.args.places.now = omega (
+    let search = c.args.self.now in
+    let old = c.args.places.now in
+    let mid = c.waiting_from-link.new.places in
+    let link = c.waiting_from-link.result in
+    let found = c.waiting_from-link.ensures order (begun search old order is) in
+    let within : link - 1 < length mid = omega (
       arith,
-      first-within at c.args.self.now.places order c.waiting_from-link.result found c.if-link-eq0.false is.within,
+      first-within search old mid order link is found c.if-link-eq0.false,
       is.room,
+      c.waiting_from-link.auto.places,
     ) in
-    gives-place c.args.self.now c.args.places.now c.set_place.new.places order c.waiting_from-link.result is found
-    c.if-link-eq0.false
-    (written-read c.args.places.now c.set_place.new.places (c.waiting_from-link.result - 1) c.place_at-place.result
+    gives-place search old mid order link is found c.set_place.new.places c.if-link-eq0.false
+    (written-read mid c.set_place.new.places (link - 1) c.place_at-place.result
     (λ place. record place { state = 1 }) c.place_at-place.ensures c.set_place.ensures within)
-    c.set_place.auto.places
+    (c.set_place.auto.places ∙ c.waiting_from-link.auto.places)

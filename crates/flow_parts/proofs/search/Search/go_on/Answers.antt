@@ -30,12 +30,12 @@ returns c order is given fits reached room small =
     c.saturating_add-self-2.result c.saturating_add-self-3.result c.saturating_add-self.result
     reached fits room adds (omega (arith, c.set_place.auto.places, c.add_places.auto.places))
     (subst (λ n. IsWritten (place_at mid) (place_at new) number
-    (record (place_at old number) { written = searched.written; next = n; state = 2 })) start
+    (record (place_at old number) { written = searched.written; next = n; state = 2; skip = 0 })) start
     (subst (λ place. IsWritten (place_at mid) (place_at new) number
-    (record place { written = searched.written; next = c.start_of.result; state = 2 })) c.place_at-place.ensures
+    (record place { written = searched.written; next = c.start_of.result; state = 2; skip = 0 })) c.place_at-place.ensures
     (subst (λ places. IsWritten (place_at mid) (place_at places) number
-    (record read { written = searched.written; next = c.start_of.result; state = 2 })) (sym c.set_place.ensures)
-    (written-at mid number (record read { written = searched.written; next = c.start_of.result; state = 2 }) within))))
+    (record read { written = searched.written; next = c.start_of.result; state = 2; skip = 0 })) (sym c.set_place.ensures)
+    (written-at mid number (record read { written = searched.written; next = c.start_of.result; state = 2; skip = 0 }) within))))
     (omega (
       arith,
       c.saturating_sub.ensures,

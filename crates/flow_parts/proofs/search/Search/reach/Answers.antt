@@ -27,10 +27,10 @@ returns c order is given fits reached =
     (c.drop_from-dropped.ensures.dropped at.1 ok_read) (c.drop_from-dropped.ensures.counted at.1 ok_read)
     (omega (arith, c.set_place.auto.places, c.drop_from-dropped.auto.places))
     (subst (λ place. IsWritten (place_at mid) (place_at new) number
-    (record place { written = w; next = 0; state = 3 })) c.place_at-place.ensures
+    (record place { written = w; next = 0; state = 3; skip = 0 })) c.place_at-place.ensures
     (subst (λ places. IsWritten (place_at mid) (place_at places) number
-    (record c.place_at-place.result { written = w; next = 0; state = 3 })) (sym c.set_place.ensures)
-    (written-at mid number (record c.place_at-place.result { written = w; next = 0; state = 3 }) within)))
+    (record c.place_at-place.result { written = w; next = 0; state = 3; skip = 0 })) (sym c.set_place.ensures)
+    (written-at mid number (record c.place_at-place.result { written = w; next = 0; state = 3; skip = 0 }) within)))
     (omega (arith, c.saturating_sub.ensures, c.saturating_sub-self.ensures))
     (λ less. omega (arith, c.saturating_sub-2.ensures, c.saturating_add-self-2.ensures, less))
     (subst (λ n. IsMade before c.settle.new.self new c.saturating_sub-self.result c.saturating_add-self-2.result
