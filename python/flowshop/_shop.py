@@ -24,10 +24,10 @@ from ._headings import length_of
 from ._labels import Unit, label_lines, unit_of
 from ._library import LIMITS, BoundsRoom, EffortNumbers, Plan, ReachedRoom, Refused, RunNumbers, ShopNumbers, SpansRoom
 from ._library import TextRoom, byref, call, size, u16, u32, u64
-from ._options import OF_PARTS, STATED, Proof, function_of, has_signs, option, proof_of, scale_of, time_limit_of
-from ._options import token_of, workers_of
+from ._options import MOST_KEPT, OF_PARTS, STATED, Proof, directions_of, function_of, has_signs, keeps_signs, option
+from ._options import proof_of, scale_of, time_limit_of, token_of, workers_of
 from ._page import MOST_BARS, Facts, page
-from ._parts import OVER, PROVED, Instance, PackedPart, Pieces, Rooms, parts_of
+from ._parts import OVER, PROVED, Instance, PackedPart, Pieces, Rooms, Searched, parts_of
 from ._results import Certificate, Names, Path, Picture, Report, Start, Timetable, listed, with_names
 from ._resume import State, refused, state_of
 from ._saving import save
@@ -590,7 +590,7 @@ class Shop(metaclass=Brief):
         except Refused as refused:
             raise _over_budget(refused, trees, plan.budget) from None
         if text is None:
-            return self.check(self._certificate(Known(self.bound(), self._makespan(begun), begun, b"")))
+            return self.check(self._certificate(Known(self.bound(), self._makespan(begun), begun, 0, b"")))
         sequence = tuple(jobs)
         return Certificate(bounds.lower, bounds.upper, sequence, text, self._named(sequence), self)
 
@@ -634,11 +634,12 @@ class Shop(metaclass=Brief):
             if limit is not None:
                 return self._proved_in(limit, number, Pieces(instance, [PackedPart(*lists, 0, b"")], number, room))
             rooms = Rooms(instance, room)
-            found = waited(lambda: rooms.search(*lists, number))
+            kind = waited(lambda: rooms.search(*lists, number))
         except Refused as refused:
             raise not_a_node(refused, *lists, self.jobs) from None
-        rest = parts_of(rooms.rest()) if found == OVER else []
-        return self._proved(number, found, rooms.directions(), rest, rooms.reached(), rooms.makespan)
+        rest = parts_of(rooms.rest()) if kind == OVER else []
+        found = Searched(kind, rooms.written, rest, rooms.reached(), rooms.makespan, rooms.directions())
+        return self._proved(number, found)
 
     def _proved_in(self, limit: float, number: int, pieces: Pieces) -> Union[Proved, Below, Over]:
         """What a search in pieces below a number comes to within so many seconds."""
@@ -646,19 +647,17 @@ class Shop(metaclass=Brief):
         try:
             watch.run(lambda: pieces.search(watch.pause), lambda seconds: Progress(1, 0, 0, 0, seconds))
         except KeyboardInterrupt:
-            raise Interrupted(self._proved(number, *pieces.found())) from None
-        return self._proved(number, *pieces.found())
+            raise Interrupted(self._proved(number, pieces.found())) from None
+        return self._proved(number, pieces.found())
 
-    def _proved(
-        self, number: int, kind: int, directions: bytes, parts: List[PackedPart], sequence: bytes, makespan: int
-    ) -> Union[Proved, Below, Over]:
+    def _proved(self, number: int, found: Searched) -> Union[Proved, Below, Over]:
         """What a search for directions that prove a number came to."""
-        if kind == PROVED:
-            return Proved(directions, number)
-        if kind == OVER:
-            return Over(directions, tuple(map(part_of, parts)), self.bound())
-        jobs = numbers_of(sequence)
-        return Below(jobs, makespan, self._named(jobs), self.bound(), self, directions)
+        if found.kind == PROVED:
+            return Proved(found.directions, number)
+        if found.kind == OVER:
+            return Over(found.directions, tuple(map(part_of, found.parts)), self.bound())
+        jobs = numbers_of(found.sequence)
+        return Below(jobs, found.makespan, self._named(jobs), self.bound(), self, found.directions)
 
     def certify(
         self,
@@ -668,7 +667,7 @@ class Shop(metaclass=Brief):
         rounds: int = 10_000,
         seed: int = 1,
         work: int = 8500,
-        directions: int = 100_000_000,
+        directions: int = MOST_KEPT,
         proof: Proof = None,
         workers: Union[int, Executor, None] = 1,
         time_limit: Optional[float] = None,
@@ -709,40 +708,56 @@ class Shop(metaclass=Brief):
         (12, 12)
         """
         effort = effort_of(width=width, rounds=rounds, seed=seed, work=work)
-        most, form, limit = option("directions", directions), proof_of(proof), time_limit_of(time_limit)
+        form = proof_of(proof)
+        most, limit = directions_of(directions, form), time_limit_of(time_limit)
         executor, count = workers_of(workers)
         if not isinstance(progress, bool):
             function_of("progress", progress, "True, or a function that takes a Progress, or None")
         token_of(token)
         if resume is None:
-            state = self._begin(self._begun(start, by), effort, most, limit is not None)
+            state = self._begin(self._begun(start, by), effort, most, limit is not None, form)
         else:
-            state = self._resumed(resume, start, by)
+            state = self._resumed(resume, start, by, form)
         at_once = min(4, count) if executor is None else 4
         found, known = self._certify(state, Workers(executor, count, at_once), Watch(limit, progress, token), form)
-        is_read = executor is None and limit is None and found.state is None
+        is_read = executor is None and limit is None and found.state is None and known.directions is not None
         return self._read(found, known) if is_read else found
 
-    def _begin(self, start: Optional[bytes], effort: Effort, directions: int, is_limited: bool) -> State:
+    def _begin(
+        self, start: Optional[bytes], effort: Effort, directions: int, is_limited: bool, proof: Proof
+    ) -> State:
         """The state of a run at its beginning, from a sequence or that of `neh`. NotASequence where it is none."""
         first, run = self._begun(None) if start is None else start, RunNumbers()
         self._call("run", first, directions, int(is_limited), run)
-        return State(effort, directions, begun(run, first))
+        return State(effort, directions, begun(run, first, keeps_signs(proof, directions)))
 
-    def _resumed(self, resume: Union[bytes, os.PathLike[str], Certificate], start: Optional[Jobs], by: By) -> State:
-        """A state whose bounds the checker has read. OptionError where it is none, or comes with a start."""
+    def _resumed(
+        self, resume: Union[bytes, os.PathLike[str], Certificate], start: Optional[Jobs], by: By, proof: Proof
+    ) -> State:
+        """A state whose bounds the checker has read; where directions are only counted, the upper one alone is tested.
+        OptionError where it is none, comes with a start, or lacks the signs that are asked for."""
         if start is not None or by is not None:
             raise refused("resume has a start of its own: leave out start and by")
         given = resume.state if isinstance(resume, Certificate) else resume
         state = state_of(self._parts[:3], b"" if given is None else text_of(given))
         known = state.kept.known()
+        if known.directions is None and proof == "signs":
+            raise refused("resume is the state of a run that only counts directions: leave out proof, or give 'count'")
+        if not (self._has_read(known) if known.directions is not None else self._is_reached(known)):
+            raise refused()
+        return state if proof != "count" else state._replace(kept=state.kept._replace(directions=None))
+
+    def _is_reached(self, known: Known) -> bool:
+        """Whether what is known has the makespan of its sequence as upper bound, and no lower bound above it."""
+        return known.lower <= known.upper == self._makespan(known.sequence)
+
+    def _has_read(self, known: Known) -> bool:
+        """Whether the checker finds that the directions prove what is known."""
         try:
             found = waited(lambda: self.check(self._certificate(known, "signs")))
         except NotLawful:
-            raise refused() from None
-        if (found.lower, found.upper) != (known.lower, known.upper):
-            raise refused()
-        return state
+            return False
+        return (found.lower, found.upper) == (known.lower, known.upper)
 
     def _read(self, found: Certificate, known: Known) -> Certificate:
         """A certificate that the checker has read, or in its place that of the same directions with signs, where a
@@ -773,13 +788,13 @@ class Shop(metaclass=Brief):
         return found(), run.kept.known()
 
     def _certificate(self, known: Known, proof: Proof = None) -> Certificate:
-        """The certificate of what is known, with signs or with their number."""
-        jobs, directions = numbers_of(known.sequence), known.directions
-        signs = directions if has_signs(proof, len(directions)) else None
+        """The certificate of what is known, with signs, where they are kept, or with their number."""
+        jobs = numbers_of(known.sequence)
+        signs = known.directions if has_signs(proof, known.written) else None
 
         def write(room: TextRoom) -> None:
             if signs is None:
-                self._call("run_counted", known.sequence, known.lower, len(directions), room)
+                self._call("run_counted", known.sequence, known.lower, known.written, room)
             else:
                 self._call("run_text", known.sequence, known.lower, signs, len(signs), room)
 
