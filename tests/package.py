@@ -100,6 +100,8 @@ def compare_header():
     code = (TOP / "crates" / "flow_commands" / "src" / "certify.rt").read_text().replace("_", "")
     unasked = int(re.search(r"const MOSTUNASKED: usize = (\d+);", code)[1])
     equal("signs that nobody asked for", [_options.has_signs(None, unasked + more) for more in (0, 1)], [True, False])
+    words = (TOP / "crates" / "flow_words" / "src" / "grammar.rt").read_text().partition('name: "directions"')[2]
+    equal("how many directions are kept", _options.MOST_KEPT, int(re.search(r'default: "(\d+)"', words)[1]))
 
 
 def make_shops():
@@ -363,6 +365,13 @@ def use_counts():
     equal("where there are more than are written unasked", unasked, asked["count"])
     for more in ({"time_limit": 9}, {"workers": 3}, {"token": threading.Event()}):
         equal(f"a count with {[*more]}", SHOP.certify(proof="count", **FEW, **more).text, wanted)
+    # Of more directions than 100,000,000 signs are kept only where they are asked for.
+    for proof, directions, kind in [
+        (None, 10**8, "two-ended"), (None, 10**8 + 1, "counted"), ("signs", 10**9, "two-ended"), ("count", 1, "counted"),
+        (None, 10**15, "counted"), ("count", 10**15, "counted"),
+    ]:
+        found = SHOP.certify(**{**FEW, "directions": directions}, proof=proof)
+        equal(f"a run of {directions:,} directions with {proof}", (found.kind, found.count), (kind, 2))
     for value in ("sign", "Count", 1, True, b"count"):
         sentence = f"proof is {value!r}, and has to be 'signs' or 'count', or None"
         got = refused(SHOP.certify, proof=value, **FEW)
@@ -381,11 +390,19 @@ def use_counts():
     check_once(asked["count"])
     hard, token = Shop.generate(20, 20, 1), threading.Event()
     token.set()
-    goes_on = hard.certify(proof="count", token=token)
-    equal("a run that was stopped", (goes_on.kind, goes_on.state is None), ("counted", False))
-    equal("its check", hard.check(goes_on), goes_on)
-    for proof, kind in ((None, "two-ended"), ("count", "counted")):
-        equal("one that goes on", hard.certify(resume=goes_on, proof=proof, token=token).kind, kind)
+    stopped = {proof: hard.certify(proof=proof, token=token) for proof in (None, "signs", "count")}
+    got = [(found.kind, found.state is None) for found in stopped.values()]
+    equal("runs that were stopped", got, [("two-ended", False), ("two-ended", False), ("counted", False)])
+    equal("the check of one", hard.check(stopped["count"]), stopped["count"])
+    for begun, proof, kind in [
+        (None, None, "two-ended"), ("signs", None, "two-ended"), ("signs", "count", "counted"),
+        ("count", None, "counted"), ("count", "count", "counted"),
+    ]:
+        found = hard.certify(resume=stopped[begun], proof=proof, token=token)
+        equal(f"one that goes on with {proof}", (found.kind, found.state.endswith(b"\n0")), (kind, kind == "counted"))
+    sentence = "resume is the state of a run that only counts directions: leave out proof, or give 'count'"
+    got = refused(hard.certify, resume=stopped["count"], proof="signs")
+    equal("signs that are not kept", got, ("OptionError", "RESUME", 0, sentence))
     got = [refused(SHOP.certify, resume=given)[:2] for given in (asked["count"], COUNTED)]
     equal("a text in the place of a state", got, [("OptionError", "RESUME")] * 2)
 
@@ -749,6 +766,8 @@ def refuse_options():
     """Numbers that the calls do not take, each with its limits."""
     for call, options in OPTIONS:
         for name in options:
+            if name == "directions":
+                continue
             least, most = _options.RANGES[name]
             for value, shown in [(least - 1, f"{least - 1}"), (most + 1, f"{most + 1:,}"), (2**32, "4,294,967,296"),
                                  (1.5, "1.5"), (None, "None"), ("3", "'3'")]:
@@ -756,6 +775,14 @@ def refuse_options():
                 sentence = f"{name} is {shown}, and has to be a whole number from {least:,} to {most:,}"
                 wanted = "OptionError", name.upper(), 0, sentence
                 equal(f"{name} as {value!r}", refused(call, **{**sizes, name: value}), wanted)
+    more = " with signs, and to 1,000,000,000,000,000 with a count"
+    for proof, most, more in [(None, 10**15, ""), ("count", 10**15, ""), ("signs", 10**9, more)]:
+        for value, shown in [(0, "0"), (most + 1, f"{most + 1:,}"), (2**64 + 1, "18,446,744,073,709,551,617"),
+                             (1.5, "1.5"), (None, "None"), ("3", "'3'")]:
+            sentence = f"directions is {shown}, and has to be a whole number from 1 to {most:,}{more}"
+            got = refused(SHOP.certify, directions=value, proof=proof)
+            equal(f"directions as {value!r} with {proof}", got, ("OptionError", "DIRECTIONS", 0, sentence))
+        equal(f"the most directions with {proof}", SHOP.certify(**{**FEW, "directions": most}, proof=proof).value, 12)
     equal("a search that tells nothing", SHOP.certify(progress=False), SHOP.certify())
     workers = "a whole number from 1 to 10,000, or -1 for one of each processor, or an executor, as a "
     workers += "ProcessPoolExecutor"
