@@ -1288,11 +1288,15 @@ def compare_executor(name, executor):
     """The text by an executor is that of one call."""
     great = Shop.from_jobs([[9000, 20_000, 7], [1, 60_000, 5], [8, 8, 8], [4, 70_000, 0]])
     for shop in (Shop.generate(12, 8, 5), great):
-        with small_tasks(0.002):
-            equal(f"a text by {name}", shop.certify(**FEW, workers=executor).text, shop.certify(**FEW).text)
-    begun = time.monotonic()
-    found = HARD.certify(**LONG, workers=executor, time_limit=1)
-    equal(f"a limit of time with {name}", (lawful(HARD, found), time.monotonic() - begun < 2), (True, True))
+        wanted = one_call(shop, **FEW).text
+        for proof, text in (("signs", wanted), ("count", with_count(wanted))):
+            with small_tasks(0.002):
+                equal(f"the {proof} by {name}", shop.certify(**FEW, workers=executor, proof=proof).text, text)
+    for words in (LONG, COUNTS):
+        begun = time.monotonic()
+        found = HARD.certify(**words, workers=executor, time_limit=1)
+        seconds = time.monotonic() - begun
+        equal(f"a limit of time with {name}", (seconds < 2, lawful(HARD, found)), (True, True))
 
 
 def compare_command(executor, *run):

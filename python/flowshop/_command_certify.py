@@ -126,7 +126,7 @@ def _workers(executor: str, count: Optional[int]) -> Iterator[Workers]:
 def _certified(work: Work, search: _Search) -> Row:
     """The row of a block, whose certificate is written where no lawful one is there."""
     try:
-        kept = work.shop.check(work.path)
+        kept = work.shop._checked(work.path, LIMITS.max_counted, search.workers)
         if not kept.optimal:
             search.lines.keep(f"{work.path}: its bounds differ; remove this file, and the block is searched anew")
         return row_of(work, kept)

@@ -118,7 +118,7 @@ class Rooms:
         jobs = instance.jobs
         self._rest = (u16 * (jobs * (jobs + 4)))()
         self._sequence = (u16 * jobs)()
-        self._directions = (u8 * (budget if has_signs else 1))()
+        self._directions = (u8 * (budget if has_signs else 0))()
         self._begun = ctypes.addressof(self._directions)
         self._rooms = PartRooms(self._sequence, jobs, self._directions, 0, self._rest, len(self._rest))
         self._node = NodeLists()

@@ -15,6 +15,7 @@ from typing import (
 from . import _json
 from ._brief import Brief, BriefABC
 from ._certify import Better, Effort, Known, Run, begun, effort_of
+from ._checking import check_shared
 from ._clock import Plain, Times, times_of
 from ._drawing import with_times
 from ._errors import Interrupted, NotASequence, NotAShop, NotLawful, OptionError, OverBudget, TextError
@@ -801,36 +802,49 @@ class Shop(metaclass=Brief):
         text = with_stack(lambda: written(LIMITS.max_beside + len(signs or b""), write))
         return Certificate(known.lower, known.upper, jobs, text, self._named(jobs), self)
 
-    def check(self, text: Text, *, most: int = 10_000_000_000) -> Certificate:
+    def check(
+        self, text: Text, *, most: int = 10_000_000_000, workers: Union[int, Executor, None] = 1
+    ) -> Certificate:
         """What a text proves, with the sequence that it states: a certificate of version 1 or 2, a two-ended one, or a
         counted one; line 1 tells which it is. It is given as bytes or str, as the path of a file (pathlib.Path), or as
         a Certificate, of which the text alone is read. The least makespan is proved where `optimal` is true. NotLawful
         with the first fault of the text where it is not lawful, or where a file of it has more than 1,000,000,000
         bytes, OSError where a file is not read.
 
-        Of a counted certificate the search is made again, on one thread: that takes seconds for ten million nodes, and
-        up to hours for billions. One that states more than `most` nodes, 0 to 18,446,744,073,709,551,615, is refused
-        before; of other texts that says nothing. An interrupt ends the call, and leaves the search to end by itself. A
-        shop keeps the last counted certificate that was checked, and does not search for the same one again.
+        Of a counted certificate the search is made again, which takes as long as it took: seconds for ten million nodes,
+        and up to hours for billions. One that states more than `most` nodes, 0 to 18,446,744,073,709,551,615, is
+        refused before. Workers, which are given as to `certify`, share that search; then the package adds up what they
+        count, as it does in `certify`, while by one worker all of the check is one proved call. Of other texts both
+        numbers say nothing. An interrupt ends the call, and leaves a search by one worker to end by itself. A shop
+        keeps the last counted certificate that was checked, and does not search for the same one again.
 
         >>> shop.check("flowshop two-ended 1\\n3 3\\n11 13\\n2 1 3\\n-\\nend\\n")
         Certificate(bounds 11 to 13, 1 direction)
-        >>> shop.check("flowshop counted 1\\n3 3\\n12 12\\n3 1 2\\n2\\nend\\n", most=1_000_000)
+        >>> shop.check("flowshop counted 1\\n3 3\\n12 12\\n3 1 2\\n2\\nend\\n", most=1_000_000, workers=4)
         Certificate(optimal 12, 2 nodes)
         """
-        read, allowed, last = text_of(text), option("most", most, OF_PARTS), self._counted
-        if last is not None and last.text == read and (last.count or 0) <= allowed:
+        return self._checked(text, option("most", most, OF_PARTS), Workers(*workers_of(workers)))
+
+    def _checked(self, text: Text, most: int, workers: Workers) -> Certificate:
+        """What a text proves, by workers that share the search of a counted one of at most so many nodes."""
+        read, last = text_of(text), self._counted
+        if last is not None and last.text == read and (last.count or 0) <= most:
             return last
         jobs = (u16 * self.jobs)()
         bounds, is_search = BoundsRoom(jobs, self.jobs), is_counted(read)
 
         def check() -> None:
-            call("check_within", self._lent, read, len(read), allowed, bounds)
+            call("check_within", self._lent, read, len(read), most, bounds)
 
         try:
-            waited(check) if is_search else check()
+            if not is_search:
+                check()
+            elif workers.are_several:
+                check_shared(self._parts[:3], self._lent, read, most, bounds, workers)
+            else:
+                waited(check)
         except Refused as refused:
-            raise not_lawful(refused, text, read, self.jobs, self.machines, allowed) from None
+            raise not_lawful(refused, text, read, self.jobs, self.machines, most) from None
         sequence = tuple(jobs)
         found = Certificate(bounds.lower, bounds.upper, sequence, read, self._named(sequence), self)
         if is_search:

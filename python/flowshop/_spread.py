@@ -47,6 +47,11 @@ class Workers(NamedTuple):
     at_once: int = 1
     meter: Optional[Meter] = None
 
+    @property
+    def are_several(self) -> bool:
+        """Whether they may be more than one."""
+        return self.executor is not None or self.size > 1
+
     def measured(self, call: Callable[[], _T]) -> Callable[[], _T]:
         """A call for a thread of its own, in which it is measured."""
         if self.meter is None:
