@@ -117,6 +117,32 @@ def with_count(text):
     return b"\n".join([b"flowshop counted 1", *lines, str(len(directions)).encode(), last, b""])
 
 
+def counted_text(shop, start, lower, count):
+    """A counted text with a sequence, a lower bound and a count, whether they are right or not."""
+    lines = "flowshop counted 1", f"{shop.jobs} {shop.machines}", f"{lower} {start.value}", start.sequence, count, "end"
+    return "".join(f"{' '.join(map(str, line)) if type(line) is tuple else line}\n" for line in lines)
+
+
+def compare_checks(executor):
+    """A check whose search is shared says what one call says."""
+    start = SOME.neh()
+    lower = start.value - 1
+    with small_tasks(0.002):
+        while type(SOME.prove(lower)) is not flowshop.Proved:
+            lower -= 1
+        above = start.value + 1
+        count, before = (len(SOME.prove(number).directions) for number in (lower, above))
+        for number, stated, wanted in [
+            (lower, count, (lower, start.value)), (lower, count - 1, "TREE"), (lower, count + 1, "TREE"),
+            (above, before, "LOW"), (above, before - 1, "TREE"),
+        ]:
+            text = counted_text(SOME, start, number, stated)
+            for workers in (1, executor):
+                got = refused(Shop.generate(20, 10, 1).check, text, workers=workers)
+                got = got[1] if isinstance(got, tuple) else (got.lower, got.upper)
+                equal(f"a check of {stated} nodes below {number} by {workers}", got, wanted)
+
+
 def compare_texts(pool):
     """The text of a run, whoever makes its searches, is that of one call of the library; with a count it proves the
     same."""
@@ -287,8 +313,8 @@ def lawful(shop, found):
 def keep_time(pool):
     """A run ends soon after its time limit, with lawful bounds, and its pool is as before."""
     for limit in (0, 0.1, 2):
-        for name, words in [("one", LONG), ("threads", {**LONG, "workers": 3}), ("processes", {**LONG, "workers": pool}),
-                            ("who count", {**COUNTS, "workers": pool})]:
+        for name, words in [("one", LONG), ("threads", {**LONG, "workers": 3}),
+                            ("processes", {**LONG, "workers": pool}), ("who count", {**COUNTS, "workers": pool})]:
             begun = time.monotonic()
             reports = []
             found = HARD.certify(**words, time_limit=limit, progress=reports.append)
@@ -536,6 +562,10 @@ def interrupt_runs(pool):
     equal("an interrupt of solve", (type(error), seconds < 1), (KeyboardInterrupt, True))
     error, seconds = interrupt(0.2, lambda: HARD.prove(HARD.neh().value - 60, budget=1_000_000_000))
     equal("an interrupt of prove", (type(error), seconds < 1), (KeyboardInterrupt, True))
+    text = counted_text(HARD, HARD.neh(), HARD.neh().value - 120, 10**10)  # it takes seconds
+    for workers in (1, 2, pool):
+        error, seconds = interrupt(0.2, lambda: HARD.check(text, workers=workers))
+        equal("an interrupt of check", (type(error), seconds < 1), (KeyboardInterrupt, True))
     equal("a pool after that", list(pool.map(first, range(9))), list(range(9)))
 
     for call, wanted in [
@@ -772,6 +802,16 @@ def use_command():
         equal("bounds that are kept", [run.stderr.count(kept) for run in runs], [0, 1])
         printed = [run.stdout.splitlines()[1].split()[-1] for run in runs]
         equal("what is printed of them", printed[0], printed[1])
+        # Counts, whose searches a run that goes on and a check make again.
+        out = pathlib.Path(folder, "counts")
+        words = BLOCKS, "--out", out, "--workers", 2, "--json", out / "table"
+        for verb, more, is_searched in [("certify", ["--proof", "count", "--directions", 10**12], True),
+                                        ("certify", [], False), ("check", [], False)]:
+            run = command(verb, *words, *more)
+            equal(f"the status of {verb} with counts", run.returncode, 0)
+            rows = json.loads((out / "table").read_text())
+            got = [(row["kind"], row["directions"], row["seconds"] is not None) for row in rows]
+            equal("what counts prove", got, [("counted 1", found.count, is_searched) for found in wanted])
 
 
 def use_odd_names():
@@ -889,8 +929,8 @@ def refuse_words():
             ([BLOCKS, "--time-limit", "nan"], 2, "--time-limit is nan, and has to be a number of seconds from 0 on\n"),
             ([pathlib.Path(folder, "nothing")], 3, "[Errno 2] No such file or directory"),
             ([TOP / "VERSION"], 1, "line 1 of "),
-            ([BLOCKS, "--directions", "1000000001"], 2, "--directions is 1,000,000,001, and has to be a whole number from "
-             "1 to 1,000,000,000 with signs, and to 1,000,000,000,000,000 with a count\n"),
+            ([BLOCKS, "--directions", "1000000001"], 2, "--directions is 1,000,000,001, and has to be a whole number "
+             "from 1 to 1,000,000,000 with signs, and to 1,000,000,000,000,000 with a count\n"),
             ([BLOCKS, "--proof", "count", "--directions", 10**15 + 1], 2, "--directions is 1,000,000,000,000,001, and "
              "has to be a whole number from 1 to 1,000,000,000,000,000\n"),
             (["t.txt", "--csv", "-"], 2, "--csv is -, and has to be a file; the table is printed anyway"),
@@ -1292,6 +1332,7 @@ def compare_executor(name, executor):
         for proof, text in (("signs", wanted), ("count", with_count(wanted))):
             with small_tasks(0.002):
                 equal(f"the {proof} by {name}", shop.certify(**FEW, workers=executor, proof=proof).text, text)
+    compare_checks(executor)
     for words in (LONG, COUNTS):
         begun = time.monotonic()
         found = HARD.certify(**words, workers=executor, time_limit=1)
@@ -1333,6 +1374,7 @@ def use_local():
         compare_searches()
         follow_manual()
         compare_texts(pool)
+        compare_checks(pool)
         keep_time(pool)
         resume_runs()
         stop_by_token()

@@ -367,8 +367,8 @@ def use_counts():
         equal(f"a count with {[*more]}", SHOP.certify(proof="count", **FEW, **more).text, wanted)
     # Of more directions than 100,000,000 signs are kept only where they are asked for.
     for proof, directions, kind in [
-        (None, 10**8, "two-ended"), (None, 10**8 + 1, "counted"), ("signs", 10**9, "two-ended"), ("count", 1, "counted"),
-        (None, 10**15, "counted"), ("count", 10**15, "counted"),
+        (None, 10**8, "two-ended"), (None, 10**8 + 1, "counted"), ("signs", 10**9, "two-ended"),
+        ("count", 1000, "counted"), (None, 10**15, "counted"), ("count", 10**15, "counted"),
     ]:
         found = SHOP.certify(**{**FEW, "directions": directions}, proof=proof)
         equal(f"a run of {directions:,} directions with {proof}", (found.kind, found.count), (kind, 2))
@@ -721,11 +721,15 @@ def check_bounds():
 
 
 def refuse_texts():
-    """Texts that are no lawful certificate, with the line at fault; and lawful ones of other shops."""
+    """Texts that are no lawful certificate, with the line at fault; and lawful ones of other shops. Of counted ones the
+    search is made by one worker, and by two."""
     lines = {"HEADER": 1, "SIZE": 2, "SEQUENCE": 4, "NOT_ATTAINED": 4, "MOST": 5}
-    counted = [(rows, text, line, "", most) for rows, text, most, line in refusals.counted_checks()]
-    for rows, text, line, sentence, most in [*[(*each, None) for each in refusals.checks()], *counted]:
-        got = refused(Shop.from_jobs(rows).check, text, **({} if most is None else {"most": most}))
+    cases = [(rows, text, line, sentence, {}) for rows, text, line, sentence in refusals.checks()]
+    for rows, text, most, line in refusals.counted_checks():
+        more = {} if most is None else {"most": most}
+        cases += [(rows, text, line, "", more), (rows, text, line, "", {**more, "workers": 2})]
+    for rows, text, line, sentence, more in cases:
+        got = refused(Shop.from_jobs(rows).check, text, **more)
         if isinstance(got, tuple):
             name, place = refusals.name_of(line)
             at = {3, 5} & {got[2]} if name == "VALUE" else {lines.get(name, place)}
@@ -734,7 +738,7 @@ def refuse_texts():
         else:
             _, lower, *upper = line.split()
             got, wanted = (got.lower, got.upper), (int(lower), int(*upper or [lower]))
-        equal(f"a check of {text[:99]}", got, wanted)
+        equal(f"a check of {text[:99]} with {more}", got, wanted)
     advice = "; a str is the text itself, and a file is named by pathlib.Path"
     equal("the name of a file", refused(SHOP.check, "shop.certificate")[3].endswith(advice), True)
     equal("a text with other signs", refused(SHOP.check, "\ud800é")[:2], ("NotLawful", "HEADER"))

@@ -10,9 +10,9 @@ from ._threads import Executor
 
 # What the text of a certificate has: a sign for each direction, or their number; None: that which is not too long.
 Proof = Optional[Literal["signs", "count"]]
-# Two numbers of the program (flow_commands), where nothing is said of the proof: of a run that may write more directions
-# than the first only their number is kept, and of more than the second only their number is written. The first one is
-# also how many a run may write where nothing is said.
+# Two numbers of the program, where nothing is said of the proof. A run of at most so many directions keeps their signs,
+# a longer one only their number; a run has so many where nothing is said of them (flow_words). Of at most so many signs
+# are written, of more their number (MOST_UNASKED of flow_commands).
 MOST_KEPT = 100_000_000
 _MOST_UNASKED = 10_000_000
 # The least and the greatest number of each option.

@@ -679,12 +679,14 @@ class Shop(metaclass=Brief):
     ) -> Certificate:
         """Bounds of the least makespan with a certificate of them, by searches from a sequence, or from that of `neh`,
         and from better ones. The least makespan is proved where `optimal` is true; the upper bound is at most the
-        makespan of the start. At most `directions` directions prove the lower one, 1 to 1,000,000,000: the more there
-        may be, the longer the searches take where they do not find the least makespan. The other numbers are those of
-        `improve`. With the numbers left out a call may take a minute and a half.
+        makespan of the start. At most `directions` directions prove the lower one: the more there may be, the longer
+        the searches take where they do not find the least makespan. The other numbers are those of `improve`. With the
+        numbers left out a call may take a minute and a half.
 
-        With `proof` as "signs" the text has a sign for each direction, with "count" their number alone: then it is
-        short, and a check makes the search again. Left out, it has signs where there are at most 10,000,000.
+        With `proof` as "signs" the text has a sign for each direction, and `directions` is 1 to 1,000,000,000; all of
+        them are kept in memory. With "count" it has their number alone, and `directions` is 1 to 1,000,000,000,000,000.
+        None is kept, so the text is short, and a check makes the search again. Left out, the run counts where
+        `directions` is above 100,000,000, and else has signs where at most 10,000,000 prove the bound.
 
         Searches are shared by `workers`: so many threads, 1 to 10,000, or one of each processor for -1 or None; or
         those of an executor, such as ProcessPoolExecutor, a client of dask, or MPIPoolExecutor: what has `submit`. The
@@ -694,15 +696,16 @@ class Shop(metaclass=Brief):
         few times a second; where it is True, a line on standard error tells the same. An interrupt ends the call within
         a second, as Interrupted, whose `result` is a certificate of the best bounds so far; an error of `progress` or
         of the executor has such a `result` too. Without an executor and a time limit `check` has read the certificate
-        of a run that has ended; in the place of a counted one that with the signs. `by` is that of `makespan`. Errors
+        of a run that has ended and keeps signs, also where their number is written. `by` is that of `makespan`. Errors
         are those of `improve` and of the executor.
 
         A `token`, such as a threading.Event, ends the call from another thread as a time limit does, once it is set.
         A certificate of a run that was stopped has a `state`: with `resume` as such a state, a file of it
         (pathlib.Path), or that certificate a run goes on behind the last task that it had done, and comes to what it
-        would have come to. Start, width, rounds, seed, work and directions are those of the state. OptionError where
-        `start` or `by` is given too, or where it is no state of a run of this shop by this version, as no text of a
-        certificate is.
+        would have come to. Start, width, rounds, seed, work and directions are those of the state. A state with signs
+        is checked; one of a run that counts has their number alone, which is taken as it stands there. OptionError
+        where `start` or `by` is given too, or "signs" with such a number, or where it is no state of a run of this shop
+        by this version, as no text of a certificate is.
 
         >>> certificate = shop.certify(workers=4, time_limit=60)
         >>> certificate.lower, certificate.upper
@@ -811,12 +814,12 @@ class Shop(metaclass=Brief):
         with the first fault of the text where it is not lawful, or where a file of it has more than 1,000,000,000
         bytes, OSError where a file is not read.
 
-        Of a counted certificate the search is made again, which takes as long as it took: seconds for ten million nodes,
+        Of a counted certificate the search is made again, which takes as long as before: seconds for ten million nodes,
         and up to hours for billions. One that states more than `most` nodes, 0 to 18,446,744,073,709,551,615, is
-        refused before. Workers, which are given as to `certify`, share that search; then the package adds up what they
-        count, as it does in `certify`, while by one worker all of the check is one proved call. Of other texts both
-        numbers say nothing. An interrupt ends the call, and leaves a search by one worker to end by itself. A shop
-        keeps the last counted certificate that was checked, and does not search for the same one again.
+        refused before. `workers`, which are those of `certify`, share that search. Then the package adds up what they
+        count, as `certify` does; by one worker the whole check is a proved call. Of other texts both say nothing. An
+        interrupt ends the call, and leaves a search by one worker to end by itself. A shop keeps the last counted
+        certificate that was checked, and does not search for the same one again.
 
         >>> shop.check("flowshop two-ended 1\\n3 3\\n11 13\\n2 1 3\\n-\\nend\\n")
         Certificate(bounds 11 to 13, 1 direction)
