@@ -31,7 +31,7 @@ from refusals import BOUNDS, COUNTED, LEAST, THREE as ROWS, TREE
 
 import flowshop
 from flowshop import Certificate, FlowshopError, Operation, Shop, Start
-from flowshop import __main__ as command, _library, _options, _parts, _stack, _texts
+from flowshop import __main__ as command, _library, _options, _parts, _stack, _tasks, _texts
 
 numpy, pandas = optional("numpy"), optional("pandas")
 
@@ -878,6 +878,17 @@ def search_parts():
     equal("a plan", (plan.value, plan.lower, plan.upper, plan.gap), (11, 11, 11, 0.0))
     few = flowshop.Plan(SHOP, SHOP.check(BOUNDS), None, "")
     equal("one with a gap", (few.value, few.lower, few.upper, round(few.gap, 3)), (13, 11, 13, 0.154))
+    # A worker that counts sends as many bytes whatever the search comes to, but for the parts that are left.
+    root = _parts.packed_parts([_parts.PackedPart(b"", b"", 0, b"")])
+    hard, sent = Shop.generate(9, 6, 7), []
+    value = hard.certify().value
+    for has_signs in (True, False):
+        task = _tasks.Task(3, 0, _tasks.packed_shop(hard._parts[:3]), value, 10**15, has_signs, 60.0, root)
+        sent.append(_tasks.work(task))
+    directions = hard.prove(value).directions
+    equal("what is sent with signs", _tasks.signs_of(sent[0].bits, sent[0].written), directions)
+    wanted = sent[0]._replace(bits=b"", seconds=sent[1].seconds)
+    equal("what is sent by who counts", (sent[1], len(directions) > 100), (wanted, True))
     node = SHOP.prove(14, front=[2, 1], back=[3], budget=0)
     equal("a node of three jobs", (node.sequence, node.value, node.directions), ((2, 1, 3), 13, b""))
     shop = _parts.Instance(*SHOP._parts[:3])
