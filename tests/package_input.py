@@ -552,18 +552,19 @@ def test_pieces():
     # One that is stopped after some pieces has the first directions of the whole one, and the rest in its parts.
     shop, lists = Shop.generate(9, 6, 7), (b"", b"")
     whole = in_one_call(shop, lists, shop.certify().value, 10_000)
-    for most in range(1, 12):
+    for most, has_signs in [(most, has_signs) for most in range(1, 12) for has_signs in (True, False)]:
         ends = iter([False] * (most - 1) + [True])
         parts = [_parts.PackedPart(*lists, 0, b"")]
-        pieces = _parts.Pieces(_parts.Instance(*shop._parts[:3]), parts, shop.certify().value, 10_000)
+        pieces = _parts.Pieces(_parts.Instance(*shop._parts[:3]), parts, shop.certify().value, 10_000, has_signs)
         pieces._piece = 3
         pieces.search(lambda: next(ends))
-        kind, _, parts, _, _, directions = pieces.found()
+        kind, written, parts, _, _, directions = pieces.found()
         nodes = [node for part in parts for node in part.nodes()]
-        rest = [in_one_call(shop, node, shop.certify().value, 10_000) for node in nodes]
+        rest = b"".join(in_one_call(shop, node, shop.certify().value, 10_000)[1] for node in nodes)
         equal(f"a search that is stopped after {most} pieces", kind, _parts.OVER)
-        equal("that it has begun", 0 < len(directions) <= 3 * most, True)
-        equal("its directions and those of its parts", directions + b"".join(each[1] for each in rest), whole[1])
+        equal("that it has begun", 0 < written <= 3 * most, True)
+        wanted = whole[1][:written] if has_signs else b""
+        equal("its directions and those of its parts", (directions, whole[1][written:]), (wanted, rest))
     wanted = {(kind, has_signs) for kind in (_parts.PROVED, _parts.BELOW, _parts.OVER) for has_signs in (True, False)}
     equal("the kinds of results", kinds, wanted)
 
