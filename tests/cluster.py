@@ -450,6 +450,8 @@ def wrong_states(state, other, above):
         lines[place] = line
         return b"\n".join(lines)
 
+    great = b" ".join([*called.split()[:-1], b"2000000000"])
+    yield "signs of a run that counts", b"\n".join([head, named, great, numbers, *lists, b""])
     for name, more in (("lower", above), ("upper", 1)):
         run = _library.RunNumbers.from_buffer_copy(bytes.fromhex(numbers.decode()))
         setattr(run, name, getattr(run, name) + more)
