@@ -38,7 +38,8 @@ from flowshop.__main__ import main
 HARD = Shop.generate(30, 15, 7)
 SOME = Shop.generate(20, 10, 1)
 FEW = {"width": 20, "rounds": 20, "seed": 3, "work": 7, "directions": 30_000}
-LONG = {"width": 16, "rounds": 10, "work": 1, "directions": 1_000_000_000}
+LONG = {"width": 16, "rounds": 10, "work": 1, "directions": 1_000_000_000, "proof": "signs"}
+COUNTS = {**LONG, "directions": 10**15, "proof": "count"}
 # A table of an earlier run.
 OLD = (
     "file,block,seed,jobs,machines,lower,upper,gap,optimal,kind,directions,sequence,cpu_seconds,seconds,sha256\n"
@@ -110,8 +111,41 @@ def one_call(shop, width, rounds, seed, work, directions):
     return shop.check(_texts.written(3300 + directions, write))
 
 
+def with_count(text):
+    """The counted certificate that proves what a two-ended one proves, by plain code."""
+    _, *lines, directions, last, _ = text.split(b"\n")
+    return b"\n".join([b"flowshop counted 1", *lines, str(len(directions)).encode(), last, b""])
+
+
+def counted_text(shop, start, lower, count):
+    """A counted text with a sequence, a lower bound and a count, whether they are right or not."""
+    lines = "flowshop counted 1", f"{shop.jobs} {shop.machines}", f"{lower} {start.value}", start.sequence, count, "end"
+    return "".join(f"{' '.join(map(str, line)) if type(line) is tuple else line}\n" for line in lines)
+
+
+def compare_checks(executor):
+    """A check whose search is shared says what one call says."""
+    start = SOME.neh()
+    lower = start.value - 1
+    with small_tasks(0.002):
+        while type(SOME.prove(lower)) is not flowshop.Proved:
+            lower -= 1
+        above = start.value + 1
+        count, before = (len(SOME.prove(number).directions) for number in (lower, above))
+        for number, stated, wanted in [
+            (lower, count, (lower, start.value)), (lower, count - 1, "TREE"), (lower, count + 1, "TREE"),
+            (above, before, "LOW"), (above, before - 1, "TREE"),
+        ]:
+            text = counted_text(SOME, start, number, stated)
+            for workers in (1, executor):
+                got = refused(Shop.generate(20, 10, 1).check, text, workers=workers)
+                got = got[1] if isinstance(got, tuple) else (got.lower, got.upper)
+                equal(f"a check of {stated} nodes below {number} by {workers}", got, wanted)
+
+
 def compare_texts(pool):
-    """The text of a run, whoever makes its searches, is that of one call of the library."""
+    """The text of a run, whoever makes its searches, is that of one call of the library; with a count it proves the
+    same."""
     steps = set()
     ways = [
         ("one worker", {}), ("three threads", {"workers": 3}), ("another order", {"workers": Shuffled(7)}),
@@ -127,6 +161,11 @@ def compare_texts(pool):
                 equal(f"the text of {shop!r} by {name} with {choice}", got.text == wanted.text, True)
                 equal(f"what {name} say of it", (got, reports[-1].lower), (wanted, wanted.lower))
                 steps.add(reports[-1].step)
+                counts = []
+                got = shop.certify(**choice, **words, proof="count", progress=counts.append)
+                equal(f"a count of {shop!r} by {name} with {choice}", got.text == with_count(wanted.text), True)
+                told = [(each.step, each.lower, each.upper, each.directions) for each in (counts[-1], reports[-1])]
+                equal(f"what {name} say of the count", told[0], told[1])
     equal("that runs end in many steps", steps, {1, 2, 3, 5, 8})
 
 
@@ -149,8 +188,9 @@ class Traced:
     def drop_ahead(self):
         """Drops nothing."""
 
-    def prove(self, number, budget):
+    def prove(self, number, budget, has_signs):
         """A search."""
+        equal("that signs are kept", has_signs, True)
         self.asked.append((number, budget))
         return self.given.get((number, budget), _spread.Found(_parts.OVER, budget))
 
@@ -176,109 +216,6 @@ def halves(lesser, greater):
     while greater - lesser > 1:
         lesser += (greater - lesser) // 2
         yield "beam", lesser, 25, 6_000_000
-
-
-def proved(directions):
-    """A search that proves its number."""
-    return _spread.Found(_parts.PROVED, directions, b"+" * directions)
-
-
-def below(directions, makespan):
-    """A search that finds a sequence."""
-    return _spread.Found(_parts.BELOW, directions, b"", SOME._in_order(), makespan)
-
-
-def follow(name, shop, given, wanted, bounds, value=SOME.neh().value):
-    """Compares a run of a shop that finds what is given with the tasks and the bounds of docs/manual.md."""
-    with mock.patch.multiple(Traced, given=given, value=value), mock.patch.object(_certify, "Spread", Traced):
-        found = shop.certify(**FOLLOWED)
-    equal(f"the tasks of a run with {name}", Traced.asked, wanted)
-    equal(f"the bounds of a run with {name}", (found.lower, found.upper), bounds)
-
-
-def follow_starts():
-    """Runs in which no better sequence is looked for in the steps 2 to 4."""
-    # The first job alone takes 27, which is Taillard's bound, and so does the order 2, 1 of neh; the bound of the two
-    # ends is 10, of each machine. All searches have 850 of 456 parts of 10,000,000 directions, of which four fifths are
-    # more than 10,000,000. So this is the whole budget, and 333,333 its thirtieth. It does not suffice below 27, so
-    # no search is made there again.
-    shop = Shop.from_jobs([[9, 9, 9], [0, 0, 1]])
-    wanted = [(27, 10_000_000), (11, 10_000), (11, 333_333), ("beam", 11, 800, 48_000_000)]
-    wanted += [("beam", middle, 25, 6_000_000) for middle in (19, 23, 25, 26)]
-    follow("a start that has Taillard's bound", shop, {}, [*wanted, (11, 1_000_000)], (10, 27), 27)
-    # The first beam drops nothing, and comes to a better sequence. Of 13,076,923 directions the first two searches use
-    # up 110,266, so that 10,000,000 are left, and behind the search with these 2,966,524. The thirtieth and the tenth
-    # of the whole budget are less. Below the best makespan 10,000,000 did not suffice.
-    lower, upper = SOME.bound(), SOME.neh().value
-    beam = "beam", 0, 16, 12_000_000
-    wanted = [
-        *[(upper, 10_000), (upper, 100_000), beam, (upper - 1, 10_000_000)],
-        *[(lower + 1, 10_000), (lower + 1, 333_333), ("beam", lower + 1, 800, 48_000_000)],
-        *[*halves(lower + 1, upper - 1), (lower + 1, 1_000_000)],
-    ]
-    given = {beam: _parts.Reached(SOME._in_order(), upper - 1, True)}
-    follow("a beam that drops nothing", SOME, given, wanted, (lower, upper - 1))
-
-
-def follow_better():
-    """Runs that find better sequences."""
-    # The next search of step 3 has the same budget. Both runs of rounds follow, as in improve, since the best sequence
-    # is not the start. Of the half of 13,076,923 directions that the steps 1 to 4 have, 5,267,491 are left behind
-    # step 3, and of all 11,462,353 behind step 5.
-    lower, upper = SOME.bound(), SOME.neh().value
-    beams = [("beam", 0, 16, 12_000_000), ("beam", 0, 100, 12_000_000)]
-    given = {
-        beams[1]: _parts.Reached(SOME._in_order(), upper - 10, False), (upper - 10, 10_000): below(40, upper - 12),
-        (upper - 12, 100_000): below(50_000, upper - 15),
-    }
-    wanted = [
-        *[(upper, 10_000), (upper, 100_000), *beams, (upper - 10, 10_000), (upper - 12, 10_000)],
-        *[(upper - 12, 100_000), (upper - 15, 100_000), (upper - 15, 1_000_000)],
-        *[("rounds", 30, 3, 1_000_000), ("rounds", 30, 3, 4_000_000)],
-        *[(lower + 1, 10_000), (lower + 1, 333_333), ("beam", lower + 1, 800, 48_000_000)],
-        *[*halves(lower + 1, upper - 15), (upper - 15, 10_000_000), (lower + 1, 1_000_000)],
-    ]
-    follow("better sequences in step 3", SOME, given, wanted, (lower, upper - 15))
-    # The first beam of step 7 finds a sequence, whose makespan replaces the greater number.
-    middle = (lower + 1 + upper) // 2
-    beam, given = ("beam", middle, 25, 6_000_000), _parts.Reached(SOME._in_order(), middle - 9, False)
-    wanted = [
-        *[(upper, 10_000), (upper, 100_000), *beams, (upper, 1_000_000), ("rounds", 30, 3, 4_000_000)],
-        *[(lower + 1, 10_000), (lower + 1, 333_333), ("beam", lower + 1, 800, 48_000_000), beam],
-        *[*halves(lower + 1, middle - 9), (middle - 9, 10_000_000), (lower + 1, 1_000_000)],
-    ]
-    follow("a better sequence in step 7", SOME, {beam: given}, wanted, (lower, middle - 9))
-
-
-def follow_raises():
-    """Raises of the lower bound in step 5, and in step 8 with what follows there."""
-    lower, upper = SOME.bound(), SOME.neh().value
-    first = [(upper, 10_000), (upper, 100_000), ("beam", 0, 16, 12_000_000), ("beam", 0, 100, 12_000_000)]
-    first += [(upper, 1_000_000), ("rounds", 30, 3, 4_000_000)]
-    # The distances are 1, 2, 4 and 8. The search at 15 is over its budget, so the next distance is half of 15 - 7, and
-    # then half of 11 - 7. From 9 it is at most half of 11 - 9, and between 9 and 10 no number is left. Step 5 has
-    # 11,966,524 directions, and uses up 364,797. The search below the best makespan uses up 10,000,133, so that
-    # 1,601,594 are left for step 8.
-    given = {(lower + more, 10_000): proved(100) for more in (1, 3, 7, 9)}
-    wanted = [
-        *[*first, *[(lower + more, 10_000) for more in (1, 3, 7, 15, 11, 9, 10)], (lower + 10, 333_333)],
-        *[("beam", lower + 10, 800, 48_000_000), *halves(lower + 10, upper)],
-        *[(upper, 10_000_000), (lower + 10, 1_000_000)],
-    ]
-    follow("raises in step 5", SOME, given, wanted, (lower + 9, upper))
-    # Behind step 7 there are 1,622,792 directions. At 1 and 3 the number is proved, and below 7 there is a sequence
-    # with 6. The distance is then half of 7 - 3, which is less than 8. The search at 5 is over its budget, so the next
-    # distance is half of 5 - 3, and 620,560 directions are left. Step 6 is made once more. Below the new makespan no
-    # search was made, so one has the directions that are left, 433 fewer.
-    given = {(lower + 1, 1_000_000): proved(500), (lower + 3, 1_000_000): proved(500)}
-    given.update({(lower + 7, 1_000_000): below(700, lower + 6), (lower + 4, 620_560): proved(300)})
-    wanted = [
-        *[*first, (lower + 1, 10_000), (lower + 1, 333_333), ("beam", lower + 1, 800, 48_000_000)],
-        *[*halves(lower + 1, upper), (upper, 10_000_000)],
-        *[(lower + more, 1_000_000) for more in (1, 3, 7, 5)], (lower + 4, 620_560),
-        *[("beam", lower + 5, 800, 48_000_000), (lower + 6, 620_127)],
-    ]
-    follow("raises in step 8", SOME, given, wanted, (lower + 4, lower + 6))
 
 
 def follow_manual():
@@ -331,17 +268,20 @@ def compare_searches():
             for budget in sorted({1, 2, 7, max(1, len(text) - 1), len(text), len(text) + 1, 1000}):
                 wanted = (_parts.PROVED, len(text), text, ())
                 if len(text) > budget:
-                    wanted = _parts.OVER, budget, b"", ()
+                    wanted = _parts.OVER, budget, None, ()
                 elif reached:
-                    wanted = _parts.BELOW, len(text), b"", reached
+                    wanted = _parts.BELOW, len(text), None, reached
                 workers = _spread.Workers(draw.choice([None, Shuffled(budget)]), draw.randint(1, 5))
                 with small_tasks(draw.choice([1e-6, 1e-4])), _spread.Spread(shop._parts[:3], workers, int) as spread:
-                    found = spread.prove(number, budget)
-                got = *found[:3], tuple(memoryview(found.sequence).cast("H"))
-                equal(f"a search of {rows} below {number} with {budget}", got, wanted)
+                    for has_signs in (True, False):
+                        found = spread.prove(number, budget, has_signs)
+                        got = *found[:3], tuple(memoryview(found.sequence).cast("H"))
+                        kept = wanted[2] if has_signs else None
+                        equal(f"a search of {rows} below {number} with {budget}", got, (*wanted[:2], kept, wanted[3]))
+                        kinds.add((found.kind, has_signs))
                 compare_parts(shop, number, budget, text, reached)
-                kinds.add(found.kind)
-    equal("that all comes out", kinds, {_parts.PROVED, _parts.BELOW, _parts.OVER})
+    wanted = {(kind, has_signs) for kind in (_parts.PROVED, _parts.BELOW, _parts.OVER) for has_signs in (True, False)}
+    equal("that all comes out", kinds, wanted)
 
 
 def compare_parts(shop, number, budget, text, reached):
@@ -373,10 +313,11 @@ def lawful(shop, found):
 def keep_time(pool):
     """A run ends soon after its time limit, with lawful bounds, and its pool is as before."""
     for limit in (0, 0.1, 2):
-        for name, words in [("one", {}), ("threads", {"workers": 3}), ("processes", {"workers": pool})]:
+        for name, words in [("one", LONG), ("threads", {**LONG, "workers": 3}),
+                            ("processes", {**LONG, "workers": pool}), ("who count", {**COUNTS, "workers": pool})]:
             begun = time.monotonic()
             reports = []
-            found = HARD.certify(**LONG, **words, time_limit=limit, progress=reports.append)
+            found = HARD.certify(**words, time_limit=limit, progress=reports.append)
             seconds = time.monotonic() - begun
             equal(f"{name}: {seconds:.2f} s for {limit} s", limit <= seconds + 0.01 < limit + 1, True)
             equal(f"what {name} give after {limit} s", lawful(HARD, found), True)
@@ -432,24 +373,29 @@ def stopped_after(tasks, call):
 def resume_runs():
     """Runs that are stopped at drawn moments and gone on with, by a certificate, a state and a file of it: what is kept
     is lawful at each, and the text is that of a run that was not stopped."""
-    draw, ended, stops = random.Random(11), 0, 0
+    draw, ended, stops = random.Random(11), 0, {"signs": 0, "count": 0}
     for shop, choice in drawn_runs():
         if choice["directions"] > 200_000:
             continue
-        wanted = shop.certify(**choice)
-        equal("the state of a run that has ended", wanted.state, None)
-        found = stopped_after(draw.randint(0, 9), lambda: shop.certify(**choice, workers=draw.randint(1, 2)))
-        while found.state is not None:
-            equal("what a run keeps that is stopped", lawful(shop, found), True)
-            stops += 1
-            with tempfile.TemporaryDirectory() as folder:
-                path = pathlib.Path(folder, "state")
-                path.write_bytes(found.state)
-                kept = draw.choice([found, found.state, path])
-                found = stopped_after(draw.randint(1, 9), lambda: shop.certify(resume=kept, workers=draw.randint(1, 2)))
-        ended += 1
-        equal(f"the text of {shop!r} with {choice}, gone on with", found.text == wanted.text, True)
-    equal("that there are such runs", (ended >= 20, stops >= 20), (True, True))
+        wanted = one_call(shop, **choice).text
+        equal("the state of a run that has ended", shop.certify(**choice).state, None)
+        for proof, text in (("signs", wanted), ("count", with_count(wanted))):
+            words = {**choice, "proof": proof}
+            found = stopped_after(draw.randint(0, 9), lambda: shop.certify(**words, workers=draw.randint(1, 2)))
+            while found.state is not None:
+                equal("what a run keeps that is stopped", lawful(shop, found), True)
+                last = found.state.rpartition(b"\n")[2]
+                kept = len(last) if proof == "signs" else int(last)
+                equal("the directions that it keeps", (kept, last.isdigit()), (found.count, proof == "count"))
+                stops[proof] += 1
+                with tempfile.TemporaryDirectory() as folder:
+                    path = pathlib.Path(folder, "state")
+                    path.write_bytes(found.state)
+                    words = {"resume": draw.choice([found, found.state, path]), "workers": draw.randint(1, 2)}
+                    found = stopped_after(draw.randint(1, 9), lambda: shop.certify(**words))
+            ended += 1
+            equal(f"the {proof} of {shop!r} with {choice}, gone on with", found.text == text, True)
+    equal("that there are such runs", (ended >= 40, min(stops.values()) >= 20), (True, True))
 
 
 def set_token():
@@ -493,9 +439,9 @@ def stop_by_token():
     equal("a search that ends at the stop", (lawful(HARD, found), found.state is None), (True, False))
 
 
-def wrong_states(state, other):
+def wrong_states(state, other, above):
     """States that are none, each with what it is. Most differ in one thing from a state that is taken; the other one is
-    of another shop of its size."""
+    of another shop of its size. A lower bound is wrong that is so much above the one that is proved."""
     head, named, called, numbers, *lists, directions = state.split(b"\n")
 
     def but(place, line):
@@ -504,9 +450,11 @@ def wrong_states(state, other):
         lines[place] = line
         return b"\n".join(lines)
 
-    for name in ("lower", "upper"):
+    great = b" ".join([*called.split()[:-1], b"2000000000"])
+    yield "signs of a run that counts", b"\n".join([head, named, great, numbers, *lists, b""])
+    for name, more in (("lower", above), ("upper", 1)):
         run = _library.RunNumbers.from_buffer_copy(bytes.fromhex(numbers.decode()))
-        setattr(run, name, getattr(run, name) + 1)
+        setattr(run, name, getattr(run, name) + more)
         yield f"a bound that is not proved, {name}", but(3, bytes(run).hex().encode())
     for place, line in enumerate(lists):
         yield f"a sequence {place} with a job twice", but(4 + place, b" ".join([line.split()[1], *line.split()[1:]]))
@@ -515,25 +463,29 @@ def wrong_states(state, other):
         ("another version", but(0, b"flowshop run 1.9.9")), ("other times", but(1, other.split(b"\n")[1])),
         ("other numbers", but(2, called + b"0" * 9)), ("another shop of its size", other),
         ("another shop", SOME.certify(**LONG, time_limit=0).state), ("no bytes", b""),
-        ("one that is cut off", state[: len(state) // 2]),
+        ("one that is cut off", state[: len(state) // 2]), ("no directions", but(7, directions + b"x")),
+        ("more directions than a run writes", but(7, b"1%b" % called.split()[-1])),
         ("a run that has ended", HARD.certify(**{**LONG, "directions": 10, "work": 0})),
     ]
 
 
 def refuse_states():
-    """A state that is taken, those that are none, and what is not given with one."""
+    """A state that is taken, those that are none, and what is not given with one. The checker reads signs, in a thread
+    that an interrupt leaves. Of a count it does not make the search again: the lower bound is refused where it is above
+    the upper one."""
     token = set_token()
-    state, other = (shop.certify(**LONG, token=token).state for shop in (HARD, Shop.generate(30, 15, 8)))
-    check, readers = Shop.check, []
-    with mock.patch.object(Shop, "check", lambda *words: readers.append(threading.get_ident()) or check(*words)):
-        found = HARD.certify(resume=state, token=token)
-    equal("a state that is taken", lawful(HARD, found), True)
-    # The checker reads the state alone, and in a thread that an interrupt leaves.
-    equal("who reads it", [reader == threading.get_ident() for reader in readers], [False])
-    wanted = "OptionError", "RESUME", 0, f"resume is no state of a run of this shop by flowshop {flowshop.__version__}"
-    for name, wrong in wrong_states(state, other):
-        got = refused(HARD.certify, resume=wrong, token=token)
-        equal(f"a state that is none: {name}", (*got[:3], got[3].split(";")[0]) if type(got) is tuple else got, wanted)
+    for words, read, above in ((LONG, [False], 1), (COUNTS, [], HARD.neh().value)):
+        state, other = (shop.certify(**words, token=token).state for shop in (HARD, Shop.generate(30, 15, 8)))
+        check, readers = Shop.check, []
+        with mock.patch.object(Shop, "check", lambda *words: readers.append(threading.get_ident()) or check(*words)):
+            found = HARD.certify(resume=state, token=token)
+        equal("a state that is taken", lawful(HARD, found), True)
+        equal("who reads it", [reader == threading.get_ident() for reader in readers], read)
+        said = f"resume is no state of a run of this shop by flowshop {flowshop.__version__}"
+        for name, wrong in wrong_states(state, other, above):
+            got = refused(HARD.certify, resume=wrong, token=token)
+            got = (*got[:3], got[3].split(";")[0]) if type(got) is tuple else got
+            equal(f"a state that is none: {name}", got, ("OptionError", "RESUME", 0, said))
     equal("what is no text", refused(HARD.certify, resume=HARD.neh, token=token), TypeError)
     for words in ({"start": HARD.neh()}, {"by": "number"}):
         got = refused(HARD.certify, **words, resume=state, token=token)
@@ -592,7 +544,7 @@ def interrupt_runs(pool):
     draw = random.Random(8)
     ways = [
         ("one call", lambda: HARD.certify(**{**LONG, "width": 64})),
-        ("one", lambda: HARD.certify(**LONG, time_limit=100)), ("threads", lambda: HARD.certify(**LONG, workers=3)),
+        ("one", lambda: HARD.certify(**COUNTS, time_limit=100)), ("threads", lambda: HARD.certify(**LONG, workers=3)),
         ("processes", lambda: HARD.certify(**LONG, workers=pool)), ("improve", HARD.improve),
     ]
     for number in range(20):
@@ -612,6 +564,10 @@ def interrupt_runs(pool):
     equal("an interrupt of solve", (type(error), seconds < 1), (KeyboardInterrupt, True))
     error, seconds = interrupt(0.2, lambda: HARD.prove(HARD.neh().value - 60, budget=1_000_000_000))
     equal("an interrupt of prove", (type(error), seconds < 1), (KeyboardInterrupt, True))
+    text = counted_text(HARD, HARD.neh(), HARD.neh().value - 120, 10**10)  # it takes seconds
+    for workers in (1, 2, pool):
+        error, seconds = interrupt(0.2, lambda: HARD.check(text, workers=workers))
+        equal("an interrupt of check", (type(error), seconds < 1), (KeyboardInterrupt, True))
     equal("a pool after that", list(pool.map(first, range(9))), list(range(9)))
 
     for call, wanted in [
@@ -848,6 +804,16 @@ def use_command():
         equal("bounds that are kept", [run.stderr.count(kept) for run in runs], [0, 1])
         printed = [run.stdout.splitlines()[1].split()[-1] for run in runs]
         equal("what is printed of them", printed[0], printed[1])
+        # Counts, whose searches a run that goes on and a check make again.
+        out = pathlib.Path(folder, "counts")
+        words = BLOCKS, "--out", out, "--workers", 2, "--json", out / "table"
+        for verb, more, is_searched in [("certify", ["--proof", "count", "--directions", 10**12], True),
+                                        ("certify", [], False), ("check", [], False)]:
+            run = command(verb, *words, *more)
+            equal(f"the status of {verb} with counts", run.returncode, 0)
+            rows = json.loads((out / "table").read_text())
+            got = [(row["kind"], row["directions"], row["seconds"] is not None) for row in rows]
+            equal("what counts prove", got, [("counted 1", found.count, is_searched) for found in wanted])
 
 
 def use_odd_names():
@@ -965,6 +931,10 @@ def refuse_words():
             ([BLOCKS, "--time-limit", "nan"], 2, "--time-limit is nan, and has to be a number of seconds from 0 on\n"),
             ([pathlib.Path(folder, "nothing")], 3, "[Errno 2] No such file or directory"),
             ([TOP / "VERSION"], 1, "line 1 of "),
+            ([BLOCKS, "--directions", "1000000001"], 2, "--directions is 1,000,000,001, and has to be a whole number "
+             "from 1 to 1,000,000,000 with signs, and to 1,000,000,000,000,000 with a count\n"),
+            ([BLOCKS, "--proof", "count", "--directions", 10**15 + 1], 2, "--directions is 1,000,000,000,000,001, and "
+             "has to be a whole number from 1 to 1,000,000,000,000,000\n"),
             (["t.txt", "--csv", "-"], 2, "--csv is -, and has to be a file; the table is printed anyway"),
             (["t.txt", "--csv", "t.txt"], 2, "--csv is t.txt, a file that is read; the table has to have a file of"),
             (["a", "t.txt", "--json", "./link"], 2, "--json is ./link, a file that is read; the table has to have"),
@@ -1360,11 +1330,16 @@ def compare_executor(name, executor):
     """The text by an executor is that of one call."""
     great = Shop.from_jobs([[9000, 20_000, 7], [1, 60_000, 5], [8, 8, 8], [4, 70_000, 0]])
     for shop in (Shop.generate(12, 8, 5), great):
-        with small_tasks(0.002):
-            equal(f"a text by {name}", shop.certify(**FEW, workers=executor).text, shop.certify(**FEW).text)
-    begun = time.monotonic()
-    found = HARD.certify(**LONG, workers=executor, time_limit=1)
-    equal(f"a limit of time with {name}", (lawful(HARD, found), time.monotonic() - begun < 2), (True, True))
+        wanted = one_call(shop, **FEW).text
+        for proof, text in (("signs", wanted), ("count", with_count(wanted))):
+            with small_tasks(0.002):
+                equal(f"the {proof} by {name}", shop.certify(**FEW, workers=executor, proof=proof).text, text)
+    compare_checks(executor)
+    for words in (LONG, COUNTS):
+        begun = time.monotonic()
+        found = HARD.certify(**words, workers=executor, time_limit=1)
+        seconds = time.monotonic() - begun
+        equal(f"a limit of time with {name}", (seconds < 2, lawful(HARD, found)), (True, True))
 
 
 def compare_command(executor, *run):
@@ -1399,9 +1374,9 @@ def use_local():
     with concurrent.futures.ProcessPoolExecutor(2, **deaf) as pool:
         list(pool.map(first, range(4)))
         compare_searches()
-        for part in (follow_manual, follow_starts, follow_better, follow_raises):
-            part()
+        follow_manual()
         compare_texts(pool)
+        compare_checks(pool)
         keep_time(pool)
         resume_runs()
         stop_by_token()

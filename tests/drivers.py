@@ -1,8 +1,9 @@
 """tests/drivers.py THREADS CHECKER: one run of certify by all who make it: the program by one thread and by three, the
 example THREADS in C by one and by four, the package by one, by three threads, by two processes and by two workers of
-dask, where it is there. They write one text for 40 shops of all sizes, whose searches end within their budgets or not.
-Then 50 runs that are stopped at drawn moments: what each leaves is read by the package, by the program, by the second
-checker CHECKER, and by the one in plain Python. A name that is none is passed over."""
+dask, where it is there. They write one text for 40 shops of all sizes, whose searches end within their budgets or not,
+and the package the program's counted one. Then 50 runs that are stopped at drawn moments: what each leaves is read by
+the package, by the program, by the second checker CHECKER, and, where it has signs, by the one in plain Python. A name
+that is none is passed over."""
 
 import concurrent.futures
 import contextlib
@@ -36,9 +37,10 @@ def drawn():
         yield shop, numbers
 
 
-def run(*words):
-    """What a program prints."""
-    return subprocess.run([*map(str, words)], stdout=subprocess.PIPE, check=False, timeout=120).stdout
+def run(*words, **numbers):
+    """What a program prints, with these words and numbers that have names."""
+    named = [word for name, number in numbers.items() for word in (f"--{name}", number)]
+    return subprocess.run([*map(str, [*words, *named])], stdout=subprocess.PIPE, check=False, timeout=120).stdout
 
 
 @contextlib.contextmanager
@@ -59,14 +61,21 @@ def compare_drivers(workers, folder):
     over, proved = 0, 0
     for shop, numbers in drawn():
         shop.write(folder / "shop")
-        words = [word for name, number in numbers.items() for word in (f"--{name}", number)]
-        wanted = run(PROGRAM, "certify", folder / "shop", 1, *words)
-        texts = {"the program by three threads": run(PROGRAM, "certify", folder / "shop", 1, *words, "--workers", 3)}
+        words = PROGRAM, "certify", folder / "shop", 1
+        wanted, count = run(*words, **numbers), run(*words, **numbers, proof="count")
+        texts = {"the program by three threads": run(*words, **numbers, workers=3)}
         if THREADS:
             for count in (1, 4):
                 texts[f"C by {count}"] = run(THREADS, folder / "shop", 1, count, *numbers.values())
         for name, each in {"one": 1, "three threads": 3, **workers}.items():
             texts[f"the package by {name}"] = shop.certify(**numbers, workers=each).text
+            counted = shop.certify(**numbers, workers=each, proof="count").text
+            equal(f"the count of {shop!r} with {numbers} by {name}", counted, count)
+        # Where nothing is said of the proof, runs of so many directions only count them.
+        for most in (10**8, 10**8 + 1, 10**15) if shop.jobs < 9 else ():
+            great = {**numbers, "directions": most}
+            got = shop.certify(**great, workers=3).text
+            equal(f"the text of {shop!r} with {great}", got, run(*words, **great))
         for name, text in texts.items():
             equal(f"the text of {shop!r} with {numbers} by {name}", text == wanted, True)
         found = shop.check(wanted)
@@ -82,12 +91,14 @@ def read_stopped(folder):
     for _ in range(50):
         token = threading.Event()
         threading.Timer(draw.uniform(0, 0.3), token.set).start()
-        found = shop.certify(token=token, workers=draw.choice([1, 1, 3]), directions=10**9)
+        proof = draw.choice(["signs", "count"])
+        found = shop.certify(token=token, workers=draw.choice([1, 1, 3]), directions=10**9, proof=proof)
         text.write_bytes(found.text)
         wanted = f"bounds {found.lower} {found.upper}"
         words = [(PROGRAM, "check", folder / "shop", 1, text)]
         words += [(CHECKER, "check", folder / "shop", 1, text)] if CHECKER else []
-        words += [(sys.executable, TOP / "examples/python/check_two_ended.py", folder / "shop", 1, text)]
+        plain = sys.executable, TOP / "examples/python/check_two_ended.py", folder / "shop", 1, text
+        words += [plain] if proof == "signs" else []
         equal("what the package says", shop.check(found.text), found)
         equal("what checkers say", {run(*each).decode().split("\n")[0] for each in words}, {wanted})
 

@@ -31,7 +31,7 @@ from refusals import BOUNDS, COUNTED, LEAST, THREE as ROWS, TREE
 
 import flowshop
 from flowshop import Certificate, FlowshopError, Operation, Shop, Start
-from flowshop import __main__ as command, _library, _options, _parts, _stack, _texts
+from flowshop import __main__ as command, _library, _options, _parts, _stack, _tasks, _texts
 
 numpy, pandas = optional("numpy"), optional("pandas")
 
@@ -100,6 +100,8 @@ def compare_header():
     code = (TOP / "crates" / "flow_commands" / "src" / "certify.rt").read_text().replace("_", "")
     unasked = int(re.search(r"const MOSTUNASKED: usize = (\d+);", code)[1])
     equal("signs that nobody asked for", [_options.has_signs(None, unasked + more) for more in (0, 1)], [True, False])
+    words = (TOP / "crates" / "flow_words" / "src" / "grammar.rt").read_text().partition('name: "directions"')[2]
+    equal("how many directions are kept", _options.MOST_KEPT, int(re.search(r'default: "(\d+)"', words)[1]))
 
 
 def make_shops():
@@ -363,6 +365,13 @@ def use_counts():
     equal("where there are more than are written unasked", unasked, asked["count"])
     for more in ({"time_limit": 9}, {"workers": 3}, {"token": threading.Event()}):
         equal(f"a count with {[*more]}", SHOP.certify(proof="count", **FEW, **more).text, wanted)
+    # Of more directions than 100,000,000 signs are kept only where they are asked for.
+    for proof, directions, kind in [
+        (None, 10**8, "two-ended"), (None, 10**8 + 1, "counted"), ("signs", 10**9, "two-ended"),
+        ("count", 1000, "counted"), (None, 10**15, "counted"), ("count", 10**15, "counted"),
+    ]:
+        found = SHOP.certify(**{**FEW, "directions": directions}, proof=proof)
+        equal(f"a run of {directions:,} directions with {proof}", (found.kind, found.count), (kind, 2))
     for value in ("sign", "Count", 1, True, b"count"):
         sentence = f"proof is {value!r}, and has to be 'signs' or 'count', or None"
         got = refused(SHOP.certify, proof=value, **FEW)
@@ -381,11 +390,19 @@ def use_counts():
     check_once(asked["count"])
     hard, token = Shop.generate(20, 20, 1), threading.Event()
     token.set()
-    goes_on = hard.certify(proof="count", token=token)
-    equal("a run that was stopped", (goes_on.kind, goes_on.state is None), ("counted", False))
-    equal("its check", hard.check(goes_on), goes_on)
-    for proof, kind in ((None, "two-ended"), ("count", "counted")):
-        equal("one that goes on", hard.certify(resume=goes_on, proof=proof, token=token).kind, kind)
+    stopped = {proof: hard.certify(proof=proof, token=token) for proof in (None, "signs", "count")}
+    got = [(found.kind, found.state is None) for found in stopped.values()]
+    equal("runs that were stopped", got, [("two-ended", False), ("two-ended", False), ("counted", False)])
+    equal("the check of one", hard.check(stopped["count"]), stopped["count"])
+    for begun, proof, kind in [
+        (None, None, "two-ended"), ("signs", None, "two-ended"), ("signs", "count", "counted"),
+        ("count", None, "counted"), ("count", "count", "counted"),
+    ]:
+        found = hard.certify(resume=stopped[begun], proof=proof, token=token)
+        equal(f"one that goes on with {proof}", (found.kind, found.state.endswith(b"\n0")), (kind, kind == "counted"))
+    sentence = "resume is the state of a run that only counts directions: leave out proof, or give 'count'"
+    got = refused(hard.certify, resume=stopped["count"], proof="signs")
+    equal("signs that are not kept", got, ("OptionError", "RESUME", 0, sentence))
     got = [refused(SHOP.certify, resume=given)[:2] for given in (asked["count"], COUNTED)]
     equal("a text in the place of a state", got, [("OptionError", "RESUME")] * 2)
 
@@ -704,11 +721,15 @@ def check_bounds():
 
 
 def refuse_texts():
-    """Texts that are no lawful certificate, with the line at fault; and lawful ones of other shops."""
+    """Texts that are no lawful certificate, with the line at fault; and lawful ones of other shops. Of counted ones the
+    search is made by one worker, and by two."""
     lines = {"HEADER": 1, "SIZE": 2, "SEQUENCE": 4, "NOT_ATTAINED": 4, "MOST": 5}
-    counted = [(rows, text, line, "", most) for rows, text, most, line in refusals.counted_checks()]
-    for rows, text, line, sentence, most in [*[(*each, None) for each in refusals.checks()], *counted]:
-        got = refused(Shop.from_jobs(rows).check, text, **({} if most is None else {"most": most}))
+    cases = [(rows, text, line, sentence, {}) for rows, text, line, sentence in refusals.checks()]
+    for rows, text, most, line in refusals.counted_checks():
+        more = {} if most is None else {"most": most}
+        cases += [(rows, text, line, "", more), (rows, text, line, "", {**more, "workers": 2})]
+    for rows, text, line, sentence, more in cases:
+        got = refused(Shop.from_jobs(rows).check, text, **more)
         if isinstance(got, tuple):
             name, place = refusals.name_of(line)
             at = {3, 5} & {got[2]} if name == "VALUE" else {lines.get(name, place)}
@@ -717,7 +738,7 @@ def refuse_texts():
         else:
             _, lower, *upper = line.split()
             got, wanted = (got.lower, got.upper), (int(lower), int(*upper or [lower]))
-        equal(f"a check of {text[:99]}", got, wanted)
+        equal(f"a check of {text[:99]} with {more}", got, wanted)
     advice = "; a str is the text itself, and a file is named by pathlib.Path"
     equal("the name of a file", refused(SHOP.check, "shop.certificate")[3].endswith(advice), True)
     equal("a text with other signs", refused(SHOP.check, "\ud800é")[:2], ("NotLawful", "HEADER"))
@@ -749,6 +770,8 @@ def refuse_options():
     """Numbers that the calls do not take, each with its limits."""
     for call, options in OPTIONS:
         for name in options:
+            if name == "directions":
+                continue
             least, most = _options.RANGES[name]
             for value, shown in [(least - 1, f"{least - 1}"), (most + 1, f"{most + 1:,}"), (2**32, "4,294,967,296"),
                                  (1.5, "1.5"), (None, "None"), ("3", "'3'")]:
@@ -756,6 +779,14 @@ def refuse_options():
                 sentence = f"{name} is {shown}, and has to be a whole number from {least:,} to {most:,}"
                 wanted = "OptionError", name.upper(), 0, sentence
                 equal(f"{name} as {value!r}", refused(call, **{**sizes, name: value}), wanted)
+    more = " with signs, and to 1,000,000,000,000,000 with a count"
+    for proof, most, more in [(None, 10**15, ""), ("count", 10**15, ""), ("signs", 10**9, more)]:
+        for value, shown in [(0, "0"), (most + 1, f"{most + 1:,}"), (2**64 + 1, "18,446,744,073,709,551,617"),
+                             (1.5, "1.5"), (None, "None"), ("3", "'3'")]:
+            sentence = f"directions is {shown}, and has to be a whole number from 1 to {most:,}{more}"
+            got = refused(SHOP.certify, directions=value, proof=proof)
+            equal(f"directions as {value!r} with {proof}", got, ("OptionError", "DIRECTIONS", 0, sentence))
+        equal(f"the most directions with {proof}", SHOP.certify(**{**FEW, "directions": most}, proof=proof).value, 12)
     equal("a search that tells nothing", SHOP.certify(progress=False), SHOP.certify())
     workers = "a whole number from 1 to 10,000, or -1 for one of each processor, or an executor, as a "
     workers += "ProcessPoolExecutor"
@@ -847,6 +878,17 @@ def search_parts():
     equal("a plan", (plan.value, plan.lower, plan.upper, plan.gap), (11, 11, 11, 0.0))
     few = flowshop.Plan(SHOP, SHOP.check(BOUNDS), None, "")
     equal("one with a gap", (few.value, few.lower, few.upper, round(few.gap, 3)), (13, 11, 13, 0.154))
+    # A worker that counts sends as many bytes whatever the search comes to, but for the parts that are left.
+    root = _parts.packed_parts([_parts.PackedPart(b"", b"", 0, b"")])
+    hard, sent = Shop.generate(9, 6, 7), []
+    value = hard.certify().value
+    for has_signs in (True, False):
+        task = _tasks.Task(3, 0, _tasks.packed_shop(hard._parts[:3]), value, 10**15, has_signs, 60.0, root)
+        sent.append(_tasks.work(task))
+    directions = hard.prove(value).directions
+    equal("what is sent with signs", _tasks.signs_of(sent[0].bits, sent[0].written), directions)
+    wanted = sent[0]._replace(bits=b"", seconds=sent[1].seconds)
+    equal("what is sent by who counts", (sent[1], len(directions) > 100), (wanted, True))
     node = SHOP.prove(14, front=[2, 1], back=[3], budget=0)
     equal("a node of three jobs", (node.sequence, node.value, node.directions), ((2, 1, 3), 13, b""))
     shop = _parts.Instance(*SHOP._parts[:3])

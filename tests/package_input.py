@@ -527,7 +527,7 @@ def in_one_call(shop, lists, number, budget):
 
 
 def test_pieces():
-    """A search in pieces comes to what one call comes to, whatever their size is."""
+    """A search in pieces comes to what one call comes to, whatever their size is, and whether directions are kept."""
     draw = random.Random(5)
     kinds = set()
     for _ in range(60):
@@ -535,33 +535,38 @@ def test_pieces():
         number = shop.neh().value - draw.randint(-1, 12)
         front = array.array("H", draw.sample(range(1, 5), draw.choice([0, 0, 1, 2]))).tobytes()
         for budget in (0, 1, 7, 50, 10_000):
-            parts = [_parts.PackedPart(front, b"", 0, b"")]
-            pieces = _parts.Pieces(_parts.Instance(*shop._parts[:3]), parts, number, budget)
-            pieces._piece = draw.choice([1, 2, 3, 10, 1000])
-            pieces.search(lambda: None)
-            kind, directions, parts, sequence, makespan = pieces.found()
-            nodes = [node for part in parts for node in part.nodes()] if kind == _parts.OVER else []
             wanted = in_one_call(shop, (front, b""), number, budget)
-            equal(f"{shop} below {number} with {budget}", (kind, directions, nodes, sequence), wanted)
-            value = shop.makespan(array.array("H", sequence)) if kind == _parts.BELOW else 0
-            equal("the makespan of a sequence below a number", makespan, value)
-            kinds.add(kind)
+            for has_signs in (True, False):
+                parts = [_parts.PackedPart(front, b"", 0, b"")]
+                pieces = _parts.Pieces(_parts.Instance(*shop._parts[:3]), parts, number, budget, has_signs)
+                pieces._piece = draw.choice([1, 2, 3, 10, 1000])
+                pieces.search(lambda: None)
+                kind, count, parts, sequence, makespan, directions = pieces.found()
+                nodes = [node for part in parts for node in part.nodes()] if kind == _parts.OVER else []
+                equal(f"{shop} below {number} with {budget}", (kind, count, nodes, sequence),
+                      (wanted[0], len(wanted[1]), *wanted[2:]))
+                equal("its directions", directions, wanted[1] if has_signs else b"")
+                value = shop.makespan(array.array("H", sequence)) if kind == _parts.BELOW else 0
+                equal("the makespan of a sequence below a number", makespan, value)
+                kinds.add((kind, has_signs))
     # One that is stopped after some pieces has the first directions of the whole one, and the rest in its parts.
     shop, lists = Shop.generate(9, 6, 7), (b"", b"")
     whole = in_one_call(shop, lists, shop.certify().value, 10_000)
-    for most in range(1, 12):
+    for most, has_signs in [(most, has_signs) for most in range(1, 12) for has_signs in (True, False)]:
         ends = iter([False] * (most - 1) + [True])
         parts = [_parts.PackedPart(*lists, 0, b"")]
-        pieces = _parts.Pieces(_parts.Instance(*shop._parts[:3]), parts, shop.certify().value, 10_000)
+        pieces = _parts.Pieces(_parts.Instance(*shop._parts[:3]), parts, shop.certify().value, 10_000, has_signs)
         pieces._piece = 3
         pieces.search(lambda: next(ends))
-        kind, directions, parts, _, _ = pieces.found()
+        kind, written, parts, _, _, directions = pieces.found()
         nodes = [node for part in parts for node in part.nodes()]
-        rest = [in_one_call(shop, node, shop.certify().value, 10_000) for node in nodes]
+        rest = b"".join(in_one_call(shop, node, shop.certify().value, 10_000)[1] for node in nodes)
         equal(f"a search that is stopped after {most} pieces", kind, _parts.OVER)
-        equal("that it has begun", 0 < len(directions) <= 3 * most, True)
-        equal("its directions and those of its parts", directions + b"".join(each[1] for each in rest), whole[1])
-    equal("the kinds of results", kinds, {_parts.PROVED, _parts.BELOW, _parts.OVER})
+        equal("that it has begun", 0 < written <= 3 * most, True)
+        wanted = whole[1][:written] if has_signs else b""
+        equal("its directions and those of its parts", (directions, whole[1][written:]), (wanted, rest))
+    wanted = {(kind, has_signs) for kind in (_parts.PROVED, _parts.BELOW, _parts.OVER) for has_signs in (True, False)}
+    equal("the kinds of results", kinds, wanted)
 
 
 def test_time_limits():

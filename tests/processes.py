@@ -1,5 +1,5 @@
 """The package for Python in pools of processes, by fork and by spawn, and in eight threads; what a call on a small shop
-takes of memory and time; and what an import without a library says."""
+takes of memory and time, and a search that counts of memory; and what an import without a library says."""
 
 import concurrent.futures
 import multiprocessing
@@ -96,6 +96,20 @@ def use_little_memory():
     equal("a search with few addresses", say(code), (0, "True"))
 
 
+def count_in_little_memory():
+    """A search of seven million directions that only counts them takes no memory to speak of; with signs it takes as
+    many bytes."""
+    code = ("import resource\nfrom flowshop import Shop, _spread\nshop = Shop.generate(20, 20, 479340445)\n"
+            "held = resource.getrusage(resource.RUSAGE_SELF).ru_maxrss\n"
+            "with _spread.Spread(shop._parts[:3], _spread.Workers(None, 2), int) as spread:\n"
+            "    found = spread.prove(2250, 10**15, {})\n"
+            "print(found.written, resource.getrusage(resource.RUSAGE_SELF).ru_maxrss - held)")
+    (_, signs), (_, count) = (say(code.format(has_signs)) for has_signs in (True, False))
+    (wanted, most), (written, kilobytes) = (map(int, line.split()) for line in (signs, count))
+    equal("how many are counted", (written, written > 6_000_000), (wanted, True))
+    equal(f"that a count holds less than 3 MB, with {kilobytes} kB", kilobytes < 3072 < most, True)
+
+
 def miss_library():
     """An import with a library that is not there, or is another one."""
     for path, ends in [("/nothing.so", "No such file or directory"), (os.__file__, "invalid ELF header")]:
@@ -111,5 +125,6 @@ if __name__ == "__main__":
         use_pool(way)
     use_threads()
     use_little_memory()
+    count_in_little_memory()
     miss_library()
     end("processes and threads from Python")

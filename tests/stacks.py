@@ -23,9 +23,10 @@ BELOW = START.value + 1
 def search_by_package():
     """The makespan of a sequence that a search reaches, and what a worker gives."""
     parts = _parts.packed_parts([_parts.PackedPart(b"", b"", 0, b"")])
-    answer = _tasks.work(_tasks.Task(1, 0, _tasks.packed_shop(NUMBERS), BELOW, 100_000, 60.0, parts))
+    task = _tasks.Task(1, 0, _tasks.packed_shop(NUMBERS), BELOW, 100_000, True, 60.0, parts)
+    answers = [_tasks.work(task._replace(has_signs=has_signs)).makespan for has_signs in (True, False)]
     beam = _tasks.reach((0, _tasks.packed_shop(NUMBERS), "beam", (JOBS, 0, 2, 10**9)))
-    print(SHOP.prove(BELOW).value, answer.makespan, beam.makespan)
+    print(SHOP.prove(BELOW).value, *answers, beam.makespan)
 
 
 def call_package():
@@ -43,8 +44,8 @@ def call_package():
 
 def search():
     """The calls of the library that need the most."""
-    rooms = _parts.Rooms(_parts.Instance(*NUMBERS), 100_000)
-    print(rooms.search(b"", b"", BELOW), rooms.makespan)
+    both = [_parts.Rooms(_parts.Instance(*NUMBERS), 100_000, has_signs) for has_signs in (True, False)]
+    print([(rooms.search(b"", b"", BELOW), rooms.makespan) for rooms in both])
     sequence, text = (_library.u16 * 800)(), (_library.u8 * 24_000)()
     bounds, room = _library.BoundsRoom(sequence, 800), _library.TextRoom(text, 24_000)
     SHOP._call("certify", JOBS, _library.EffortNumbers(2, 1, 1, 1), 20_000, bounds, room)

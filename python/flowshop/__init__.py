@@ -3,7 +3,7 @@
 A shop has jobs 1 to n and machines 1 to m. Every machine takes the jobs in one common order, each job visits machine 1
 first, and the makespan is when the last job leaves the last machine. The calls are those of the library for C, whose
 results are proved. This package is tested: it hands numbers and texts to them and back, and makes the steps of
-`certify`. Whatever makes a certificate, Shop.check is a proved call. Calls let other threads run.
+`certify`. Whatever makes a certificate, Shop.check by one worker is a proved call. Calls let other threads run.
 
     Shop.from_jobs(table)       the shop of a table with a row for each job, with its names
     read_table("orders.csv")    the same of the file of a spreadsheet, where all that is in doubt is asked at once

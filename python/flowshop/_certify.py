@@ -5,7 +5,7 @@ from typing import Callable, Dict, NamedTuple, Optional, Tuple
 from ._library import AnswerNumbers, EffortNumbers, RunNumbers, TaskNumbers, byref, call, u32
 from ._options import option
 from ._parts import PROVED, REACHED, Instance, Reached
-from ._spread import Spread, Workers
+from ._spread import Found, Spread, Workers
 from ._tasks import Numbers
 from ._waiting import Progress, Watch
 
@@ -39,12 +39,14 @@ def effort_of(**numbers: int) -> Effort:
 
 
 class Known(NamedTuple):
-    """Bounds of the least makespan, a sequence that has the upper one, and directions that prove the lower one."""
+    """Bounds of the least makespan, a sequence that has the upper one, how many directions prove the lower one, and
+    these, where they are kept."""
 
     lower: int
     upper: int
     sequence: bytes
-    directions: bytes
+    written: int
+    directions: Optional[bytes]
 
 
 class Better:
@@ -84,18 +86,19 @@ class Better:
 
 class Kept(NamedTuple):
     """What a run keeps after a task: where it stands, the start, the best sequence, the one that was the best before
-    it, and the directions that prove its lower bound."""
+    it, how many directions prove its lower bound, and these, but for a run that only counts them."""
 
     numbers: bytes
     start: bytes
     best: bytes
     before: bytes
-    directions: bytes
+    written: int
+    directions: Optional[bytes]
 
     def known(self) -> Known:
         """What it proves."""
         run = RunNumbers.from_buffer_copy(self.numbers)
-        return Known(run.lower, run.upper, self.best, self.directions)
+        return Known(run.lower, run.upper, self.best, self.written, self.directions)
 
 
 class Run:
@@ -151,17 +154,19 @@ class Run:
 
     def _search(self, task: TaskNumbers) -> None:
         """Searches below a number, and keeps what is found."""
-        found = self._spread.prove(task.number, task.budget)
+        found = self._spread.prove(task.number, task.budget, self.kept.directions is not None)
         self._writing, self._written = 0, self._written + found.written
         better = _put(self._run, task, AnswerNumbers(found.kind, 0, found.makespan, found.written))
-        self._keep(found.sequence if better else None, found.directions if found.kind == PROVED else None)
+        self._keep(found.sequence if better else None, found if found.kind == PROVED else None)
 
-    def _keep(self, sequence: Optional[bytes], directions: Optional[bytes]) -> None:
-        """Keeps where the run stands, a better sequence where there is one, and directions where they prove more."""
-        _, start, best, before, proved = self.kept
+    def _keep(self, sequence: Optional[bytes], proved: Optional[Found]) -> None:
+        """Keeps where the run stands, a better sequence where there is one, and a proof of more where there is one."""
+        _, start, best, before, written, directions = self.kept
         if sequence is not None:
             best, before = sequence, best
-        self.kept = Kept(bytes(self._run), start, best, before, proved if directions is None else directions)
+        if proved is not None:
+            written, directions = proved.written, proved.directions
+        self.kept = Kept(bytes(self._run), start, best, before, written, directions)
 
     def _origin(self, task: TaskNumbers) -> bytes:
         """The sequence from which a beam or rounds begin."""
@@ -192,9 +197,9 @@ class Run:
             _put(run, task, AnswerNumbers(REACHED, 0, run.upper, 0))
 
 
-def begun(run: RunNumbers, start: bytes) -> Kept:
-    """What a run keeps at its beginning."""
-    return Kept(bytes(run), start, start, start, b"")
+def begun(run: RunNumbers, start: bytes, has_signs: bool) -> Kept:
+    """What a run keeps at its beginning, whose directions are kept or only counted."""
+    return Kept(bytes(run), start, start, start, 0, b"" if has_signs else None)
 
 
 def _put(run: RunNumbers, task: TaskNumbers, answer: AnswerNumbers) -> bool:

@@ -14,13 +14,14 @@ from pathlib import Path
 from typing import Any, Dict, Iterator, List, NamedTuple, Optional
 
 from ._certify import Effort
-from ._errors import NotLawful
+from ._errors import NotLawful, OptionError
 from ._files import (
     PROVED, WordError, Work, limit_of, make_folder, place_of_old, row_of, save_certificate, whole_of, words_of_blocks,
     works_of
 )
+from ._library import LIMITS
 from ._meter import Meter
-from ._options import OF_PARTS, Proof
+from ._options import MOST_KEPT, OF_PARTS, Proof, directions_of
 from ._rows import Row, Table
 from ._saving import target_of
 from ._spread import Workers
@@ -28,7 +29,7 @@ from ._starts import sequences_of
 from ._threads import Threads, result_of
 from ._waiting import Lines, Running, Watch
 
-_EFFORT = {"width": 4096, "rounds": 10_000, "seed": 1, "work": 8500, "directions": 100_000_000}
+_EFFORT = {"width": 4096, "rounds": 10_000, "seed": 1, "work": 8500}
 # PR_SET_PDEATHSIG of prctl
 _SIGNAL_AT_END_OF_PARENT = 1
 # How many seconds a table may take at an interrupt.
@@ -58,11 +59,13 @@ def words(parsers: "argparse._SubParsersAction[argparse.ArgumentParser]") -> Non
     starts = "the same for all blocks: a folder that has such a file for each, of the name of its certificate; or one "
     starts += "file with a line of jobs for each"
     begun.add_argument("--starts", metavar="FOLDER|FILE", help=starts)
-    for name, default in _EFFORT.items():
+    for name, default in {**_EFFORT, "directions": MOST_KEPT}.items():
         about = f"as of Shop.certify; else {default}"
+        if name == "directions":
+            about += f". With --proof signs at most {LIMITS.max_directions}, with --proof count {LIMITS.max_counted}"
         parser.add_argument(f"--{name}", type=int, default=default, metavar="N", help=about)
-    proof = "what each certificate has: a sign for each direction, or their count; else signs, since a count is tested "
-    proof += "by a search, which a run that goes on would make again"
+    proof = "what each certificate has: a sign for each direction, or their count, for which no memory is needed; else "
+    proof += "signs, since a count is tested by a search, which a run that goes on would make again"
     parser.add_argument("--proof", choices=("signs", "count"), default="signs", help=proof)
     parser.set_defaults(run=run)
 
@@ -123,7 +126,7 @@ def _workers(executor: str, count: Optional[int]) -> Iterator[Workers]:
 def _certified(work: Work, search: _Search) -> Row:
     """The row of a block, whose certificate is written where no lawful one is there."""
     try:
-        kept = work.shop.check(work.path)
+        kept = work.shop._checked(work.path, LIMITS.max_counted, search.workers)
         if not kept.optimal:
             search.lines.keep(f"{work.path}: its bounds differ; remove this file, and the block is searched anew")
         return row_of(work, kept)
@@ -135,7 +138,7 @@ def _certified(work: Work, search: _Search) -> Row:
     begun, meter = time.monotonic(), Meter()
     watch = Watch(search.time_limit, lambda progress: search.lines(f"{work.file} {work.block}: {progress}"))
     start, workers = search.starts.get(work.path), search.workers._replace(meter=meter)
-    state = work.shop._begin(start, search.effort, search.directions, watch.is_limited)
+    state = work.shop._begin(start, search.effort, search.directions, watch.is_limited, search.proof)
     found, _ = work.shop._certify(state, workers, watch, search.proof)
     times = meter.seconds(), time.monotonic() - begun
     save_certificate(work.path, found.text)
@@ -228,10 +231,18 @@ def _starts(works: List[Work], start: Optional[str], starts: Optional[str]) -> D
     return {works[0].path: works[0].shop._packed(Path(start), None)}
 
 
+def _directions_of(options: argparse.Namespace) -> int:
+    """The number of --directions. WordError where it is not within its limits."""
+    try:
+        return directions_of(options.directions, options.proof)
+    except OptionError as error:
+        raise WordError(f"--{error}") from None
+
+
 def run(options: argparse.Namespace) -> int:
     """Runs the command."""
-    *numbers, directions = (whole_of(name, getattr(options, name)) for name in _EFFORT)
-    effort = Effort(*numbers)
+    effort = Effort(*(whole_of(name, getattr(options, name)) for name in _EFFORT))
+    directions = _directions_of(options)
     count = None if options.workers in (None, -1) else whole_of("workers", options.workers, OF_PARTS)
     limit = limit_of(options)
     works = works_of(options)

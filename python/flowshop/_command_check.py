@@ -23,13 +23,16 @@ def words(parsers: "argparse._SubParsersAction[argparse.ArgumentParser]") -> Non
     parser.add_argument("--optimal", action="store_true", help=optimal)
     most = f"refuse each counted certificate of more nodes before its search; else of more than {LIMITS.max_nodes:,}"
     parser.add_argument("--most", type=int, default=LIMITS.max_nodes, metavar="N", help=most)
+    workers = "how many threads share the search of each counted certificate; else 1, and for -1 as many as there are "
+    workers += "processors"
+    parser.add_argument("--workers", type=int, default=1, metavar="K", help=workers)
     parser.set_defaults(run=run)
 
 
-def _found(work: Work, is_optimal: bool, most: int) -> Certificate:
+def _found(work: Work, is_optimal: bool, most: int, workers: int) -> Certificate:
     """What the certificate of a block proves. FlowshopError where it is not lawful, or is to prove a least makespan and
     does not; OSError where it is not read."""
-    found = work.shop.check(work.path, most=most)
+    found = work.shop.check(work.path, most=most, workers=workers)
     if is_optimal and not found.optimal:
         raise FlowshopError("BOUNDS", 0, f"refused bounds {found.lower} {found.upper}")
     return found
@@ -52,6 +55,7 @@ def run(options: argparse.Namespace) -> int:
     """Runs the command. Its status is 1 where a certificate is refused, or not there; then no file of a table is
     written, so that none lacks a row."""
     most = whole_of("most", options.most, OF_PARTS)
+    workers = options.workers if options.workers == -1 else whole_of("workers", options.workers, OF_PARTS)
     works = works_of(options)
     if not os.path.isdir(options.out):
         raise WordError(f"--out is {options.out}, and there is no such folder")
@@ -59,7 +63,7 @@ def run(options: argparse.Namespace) -> int:
     status = 0
     for work in works:
         try:
-            found = _found(work, options.optimal, most)
+            found = _found(work, options.optimal, most, workers)
             table.add(row_of(work, found))
             worth = _worth(work, found)
             if worth:

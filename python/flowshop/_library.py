@@ -76,7 +76,7 @@ class LimitNumbers(ctypes.Structure):
         *((f"max_{name}", u32) for name in ("work", "directions", "depth", "prefixes", "budget")),
         *((name, u32) for name in ("min_version", "max_version")),
         *((f"max_{name}", u32) for name in ("workers", "text", "certificate", "beside")),
-        ("max_nodes", u64),
+        *((f"max_{name}", u64) for name in ("nodes", "counted")),
     ]
 
 
@@ -225,7 +225,7 @@ CALLS: Dict[str, List[Any]] = {
     "check_within": [*_ON_SHOP, u64, out(BoundsRoom)],
     "solve": [*_ON_SHOP, out(Plan), out(BoundsRoom), out(TextRoom)],
     "certify": [*_ON_SHOP, out(EffortNumbers), u32, out(BoundsRoom), out(TextRoom)],
-    "run": [*_ON_SHOP, u32, u32, out(RunNumbers)],
+    "run": [*_ON_SHOP, u64, u32, out(RunNumbers)],
     "run_next": [out(RunNumbers), out(EffortNumbers), out(TaskNumbers)],
     "run_put": [out(RunNumbers), out(TaskNumbers), out(AnswerNumbers), out(u32)],
     "run_text": [*_ON_SHOP, u64, data, size, out(TextRoom)],
@@ -235,6 +235,7 @@ CALLS: Dict[str, List[Any]] = {
     "search_put": [out(SearchNumbers), out(PlaceNumbers), size, u64, out(SearchedNumbers), out(u64)],
     "search_found": [out(SearchNumbers), out(u32), out(u64)],
     "prove": [out(ShopNumbers), out(NodeLists), u64, out(PartRooms)],
+    "tally": [out(ShopNumbers), out(NodeLists), u64, u64, out(PartRooms)],
     "beam": [*_ON_SHOP, out(BeamOptions), out(ReachedRoom)],
     "rounds": [*_ON_SHOP, out(RoundsOptions), out(ReachedRoom)],
 }

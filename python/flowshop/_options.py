@@ -10,7 +10,10 @@ from ._threads import Executor
 
 # What the text of a certificate has: a sign for each direction, or their number; None: that which is not too long.
 Proof = Optional[Literal["signs", "count"]]
-# The most directions that are written as signs where nothing is said: MOST_UNASKED of the program (flow_commands).
+# Two numbers of the program, where nothing is said of the proof. A run of at most so many directions keeps their signs,
+# a longer one only their number; a run has so many where nothing is said of them (flow_words). Of at most so many signs
+# are written, of more their number (MOST_UNASKED of flow_commands).
+MOST_KEPT = 100_000_000
 _MOST_UNASKED = 10_000_000
 # The least and the greatest number of each option.
 RANGES: Dict[str, Tuple[int, int]] = {
@@ -27,6 +30,8 @@ RANGES: Dict[str, Tuple[int, int]] = {
 }
 # Those of the head of a benchmark text, which are only written down.
 STATED: Dict[str, Tuple[int, int]] = dict.fromkeys(("seed", "upper", "lower"), (0, LIMITS.max_number))
+# Those of a run whose certificate need not have signs.
+_OF_COUNTS: Dict[str, Tuple[int, int]] = {"directions": (1, LIMITS.max_counted)}
 # Those of a search by parts and of a check, and how many workers there are, which are threads of Python.
 OF_PARTS: Dict[str, Tuple[int, int]] = {
     "bound": (0, 2**64 - 1),
@@ -97,9 +102,26 @@ def proof_of(value: Any) -> Proof:
     raise OptionError("PROOF", 0, f"proof is {shown(value)}, and has to be 'signs' or 'count', or None")
 
 
+def keeps_signs(proof: Proof, most: int) -> bool:
+    """Whether a run that may write so many directions keeps their signs, and not only their number."""
+    return proof == "signs" or (proof is None and most <= MOST_KEPT)
+
+
 def has_signs(proof: Proof, directions: int) -> bool:
-    """Whether the text of so many directions has signs."""
+    """Whether the text of so many directions has signs, where these are kept."""
     return proof == "signs" or (proof is None and directions <= _MOST_UNASKED)
+
+
+def directions_of(value: SupportsIndex, proof: Proof) -> int:
+    """How many directions a run may write at most. OptionError where the number is not within its limits, which are
+    others where the text is to have signs."""
+    if proof != "signs":
+        return option("directions", value, _OF_COUNTS)
+    try:
+        return option("directions", value)
+    except OptionError as error:
+        limit = f"to {LIMITS.max_counted:,} with a count"
+        raise OptionError(error.name, 0, f"{error} with signs, and {limit}") from None
 
 
 def function_of(name: str, value: Any, wanted: str) -> None:

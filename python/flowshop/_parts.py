@@ -1,4 +1,5 @@
-"""Parts of a search, and the calls of the library that do a part: of a search for directions, a beam, and rounds."""
+"""Parts of a search, and the calls of the library that do a part: of a search for directions, which are kept or only
+counted, a beam, and rounds."""
 
 import ctypes
 import struct
@@ -87,7 +88,7 @@ class Instance:
         self.words = ShopNumbers(jobs, machines, times, len(times) // 4)
 
     def run(self, start: bytes, directions: int, is_limited: bool) -> RunNumbers:
-        """A run of certify from a start, each of whose searches writes at most so many directions."""
+        """A run of certify from a start, each of whose searches has at most so many directions."""
         run = RunNumbers()
         call("run", self.words, start, len(start) // 2, directions, int(is_limited), run)
         return run
@@ -109,22 +110,23 @@ class Instance:
 
 
 class Rooms:
-    """Room for so many directions, which searches of nodes write one after the other."""
+    """Room for so many directions, which searches of nodes write one after the other; or none, where they are only
+    counted."""
 
-    def __init__(self, instance: Instance, budget: int) -> None:
-        self._instance, self._budget = instance, budget
+    def __init__(self, instance: Instance, budget: int, has_signs: bool = True) -> None:
+        self._instance, self._budget, self._has_signs = instance, budget, has_signs
         jobs = instance.jobs
         self._rest = (u16 * (jobs * (jobs + 4)))()
         self._sequence = (u16 * jobs)()
-        self._directions = (u8 * budget)()
+        self._directions = (u8 * (budget if has_signs else 0))()
         self._begun = ctypes.addressof(self._directions)
-        self._rooms = PartRooms(self._sequence, jobs, rest=self._rest, rest_count=len(self._rest))
+        self._rooms = PartRooms(self._sequence, jobs, self._directions, 0, self._rest, len(self._rest))
         self._node = NodeLists()
-        self.written = 0
+        self.written: int = 0
 
     @property
     def left(self) -> int:
-        """How many more directions there is room for."""
+        """How many more directions there may be."""
         return self._budget - self.written
 
     @property
@@ -136,14 +138,18 @@ class Rooms:
         """Searches the node of two lists below a number: PROVED, BELOW or OVER. Refused where it is no node."""
         self._node.first, self._node.first_count = first, len(first) // 2
         self._node.last, self._node.last_count = last, len(last) // 2
-        self._rooms.directions = ctypes.cast(self._begun + self.written, out(u8))
-        self._rooms.directions_count = self.left
-        call("prove", self._instance.words, self._node, number, self._rooms)
+        shop = self._instance.words
+        if self._has_signs:
+            self._rooms.directions = ctypes.cast(self._begun + self.written, out(u8))
+            self._rooms.directions_count = self.left
+            call("prove", shop, self._node, number, self._rooms)
+        else:
+            call("tally", shop, self._node, number, self.left, self._rooms)
         self.written += self._rooms.directions_length
         return int(self._rooms.found)
 
     def directions(self, begin: int = 0) -> bytes:
-        """The directions that were written, from a place on."""
+        """The directions that were written, from a place on; not where they are only counted."""
         return ctypes.string_at(self._begun + begin, self.written - begin)
 
     def rest(self) -> bytes:
@@ -155,41 +161,59 @@ class Rooms:
         return bytes(self._sequence)
 
 
+class Searched(NamedTuple):
+    """What a search of parts has come to: PROVED, BELOW or OVER, how many directions there are, the parts that are left
+    where it is OVER, the sequence of BELOW with its makespan, and the directions, where they are kept."""
+
+    kind: int
+    written: int
+    parts: List[PackedPart]
+    sequence: bytes = b""
+    makespan: int = 0
+    directions: bytes = b""
+
+
 class Pieces:
     """A search of parts, one after the other, below a number with a budget of directions, in pieces of some hundredths
-    of a second, between which it can be stopped. What it comes to is what one call comes to."""
+    of a second, between which it can be stopped. What it comes to is what one call comes to. Directions are kept, or
+    only counted."""
 
-    def __init__(self, instance: Instance, parts: List[PackedPart], number: int, budget: int) -> None:
-        self._instance, self._number, self._budget = instance, number, budget
+    def __init__(
+        self, instance: Instance, parts: List[PackedPart], number: int, budget: int, has_signs: bool = True
+    ) -> None:
+        self._instance, self._number, self._budget, self._has_signs = instance, number, budget, has_signs
         self._piece = 1 + _PIECE // (instance.jobs * instance.machines + 450)
         self._written: List[bytes] = []
-        # What was found so far: the kind, how many directions, the parts that are left, the sequence and its makespan.
-        self._found: Tuple[int, int, List[PackedPart], bytes, int] = OVER, 0, parts, b"", 0
+        self._found = Searched(OVER, 0, parts)
+
+    def _rooms(self, count: int) -> Rooms:
+        """Room for the next piece, behind so many directions."""
+        return Rooms(self._instance, min(self._piece, self._budget - count), self._has_signs)
 
     def search(self, ends: Callable[[], object]) -> None:
         """Makes the pieces, one at least, until the search ends, or what is asked between them is true or raises."""
-        count, rooms = 0, Rooms(self._instance, min(self._piece, self._budget))
-        while self._found[2] and self._found[0] == OVER:
-            if self._written and ends():
+        count, is_first, rooms = 0, True, self._rooms(0)
+        while self._found.parts and self._found.kind == OVER:
+            if not is_first and ends():
                 return
             if rooms.left == 0 and count < self._budget:
-                rooms = Rooms(self._instance, min(self._piece, self._budget - count))
-            part, *others = self._found[2]
-            begin, left = rooms.written, [*part.after(1), *others]
+                rooms = self._rooms(count)
+            part, *others = self._found.parts
+            begin, left, is_first = rooms.written, [*part.after(1), *others], False
             kind = rooms.search(*part.nodes()[0], self._number)
-            self._written.append(rooms.directions(begin))
-            count += len(self._written[-1])
+            if self._has_signs:
+                self._written.append(rooms.directions(begin))
+            count += rooms.written - begin
             if kind == BELOW:
-                self._found = BELOW, count, [], rooms.reached(), rooms.makespan
+                self._found = Searched(BELOW, count, [], rooms.reached(), rooms.makespan)
             elif kind == OVER:
-                self._found = OVER, count, [*parts_of(rooms.rest()), *left], b"", 0
+                self._found = Searched(OVER, count, [*parts_of(rooms.rest()), *left])
                 if count == self._budget:
                     return
             else:
-                self._found = OVER if left else PROVED, count, left, b"", 0
+                self._found = Searched(OVER if left else PROVED, count, left)
 
-    def found(self) -> Tuple[int, bytes, List[PackedPart], bytes, int]:
-        """What the search has come to: PROVED, BELOW or OVER, its directions, the parts that are left where it is OVER,
-        and the sequence of BELOW with its makespan."""
-        kind, count, parts, sequence, makespan = self._found
-        return kind, b"".join(self._written)[:count], parts, sequence, makespan
+    def found(self) -> Searched:
+        """What the search has come to."""
+        found = self._found
+        return found._replace(directions=b"".join(self._written)[: found.written])

@@ -7,7 +7,7 @@ from ._certify import Effort, Kept, effort_of
 from ._errors import OptionError
 from ._found import numbers_of
 from ._library import RunNumbers, version
-from ._options import option
+from ._options import directions_of
 from ._tasks import Numbers
 
 # A version may have other tasks than another one.
@@ -28,12 +28,13 @@ class State(NamedTuple):
 
     def written(self, shop: Numbers) -> bytes:
         """The state as bytes: a line that names its kind and the version, the shop, the numbers of the run as it was
-        called, where it stands, the start, the best sequence, the one that was the best before it, and the directions.
-        """
+        called, where it stands, the start, the best sequence, the one that was the best before it, and the directions;
+        or in their place how many there are, where the run only counts them."""
         called = " ".join(map(str, [*self.effort, self.directions]))
         lists = [" ".join(map(str, numbers_of(each))).encode() for each in self.kept[1:4]]
-        lines = [_HEAD, _named(shop), called.encode(), self.kept.numbers.hex().encode(), *lists, self.kept.directions]
-        return b"\n".join(lines)
+        numbers, directions = self.kept.numbers.hex().encode(), self.kept.directions
+        last = str(self.kept.written).encode() if directions is None else directions
+        return b"\n".join([_HEAD, _named(shop), called.encode(), numbers, *lists, last])
 
 
 def _named(shop: Numbers) -> bytes:
@@ -58,9 +59,14 @@ def _read(shop: Numbers, state: bytes) -> State:
     width, rounds, seed, work, directions = (int(word) for word in called.split())
     effort = effort_of(width=width, rounds=rounds, seed=seed, work=work)
     start, best, before = (_packed(line, shop[0]) for line in rest[:3])
-    kept = Kept(bytes.fromhex(numbers.decode("ascii")), start, best, before, rest[3])
+    has_signs = not rest[3].isdigit()
+    most = directions_of(directions, "signs" if has_signs else "count")
+    proof = (len(rest[3]), rest[3]) if has_signs else (int(rest[3]), None)
+    if proof[0] > most:
+        raise ValueError
+    kept = Kept(bytes.fromhex(numbers.decode("ascii")), start, best, before, *proof)
     RunNumbers.from_buffer_copy(kept.numbers)
-    return State(effort, option("directions", directions), kept)
+    return State(effort, most, kept)
 
 
 def state_of(shop: Numbers, state: bytes) -> State:

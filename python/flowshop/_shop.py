@@ -15,6 +15,7 @@ from typing import (
 from . import _json
 from ._brief import Brief, BriefABC
 from ._certify import Better, Effort, Known, Run, begun, effort_of
+from ._checking import check_shared
 from ._clock import Plain, Times, times_of
 from ._drawing import with_times
 from ._errors import Interrupted, NotASequence, NotAShop, NotLawful, OptionError, OverBudget, TextError
@@ -24,10 +25,10 @@ from ._headings import length_of
 from ._labels import Unit, label_lines, unit_of
 from ._library import LIMITS, BoundsRoom, EffortNumbers, Plan, ReachedRoom, Refused, RunNumbers, ShopNumbers, SpansRoom
 from ._library import TextRoom, byref, call, size, u16, u32, u64
-from ._options import OF_PARTS, STATED, Proof, function_of, has_signs, option, proof_of, scale_of, time_limit_of
-from ._options import token_of, workers_of
+from ._options import MOST_KEPT, OF_PARTS, STATED, Proof, directions_of, function_of, has_signs, keeps_signs, option
+from ._options import proof_of, scale_of, time_limit_of, token_of, workers_of
 from ._page import MOST_BARS, Facts, page
-from ._parts import OVER, PROVED, Instance, PackedPart, Pieces, Rooms, parts_of
+from ._parts import OVER, PROVED, Instance, PackedPart, Pieces, Rooms, Searched, parts_of
 from ._results import Certificate, Names, Path, Picture, Report, Start, Timetable, listed, with_names
 from ._resume import State, refused, state_of
 from ._saving import save
@@ -590,7 +591,7 @@ class Shop(metaclass=Brief):
         except Refused as refused:
             raise _over_budget(refused, trees, plan.budget) from None
         if text is None:
-            return self.check(self._certificate(Known(self.bound(), self._makespan(begun), begun, b"")))
+            return self.check(self._certificate(Known(self.bound(), self._makespan(begun), begun, 0, b"")))
         sequence = tuple(jobs)
         return Certificate(bounds.lower, bounds.upper, sequence, text, self._named(sequence), self)
 
@@ -634,11 +635,12 @@ class Shop(metaclass=Brief):
             if limit is not None:
                 return self._proved_in(limit, number, Pieces(instance, [PackedPart(*lists, 0, b"")], number, room))
             rooms = Rooms(instance, room)
-            found = waited(lambda: rooms.search(*lists, number))
+            kind = waited(lambda: rooms.search(*lists, number))
         except Refused as refused:
             raise not_a_node(refused, *lists, self.jobs) from None
-        rest = parts_of(rooms.rest()) if found == OVER else []
-        return self._proved(number, found, rooms.directions(), rest, rooms.reached(), rooms.makespan)
+        rest = parts_of(rooms.rest()) if kind == OVER else []
+        found = Searched(kind, rooms.written, rest, rooms.reached(), rooms.makespan, rooms.directions())
+        return self._proved(number, found)
 
     def _proved_in(self, limit: float, number: int, pieces: Pieces) -> Union[Proved, Below, Over]:
         """What a search in pieces below a number comes to within so many seconds."""
@@ -646,19 +648,17 @@ class Shop(metaclass=Brief):
         try:
             watch.run(lambda: pieces.search(watch.pause), lambda seconds: Progress(1, 0, 0, 0, seconds))
         except KeyboardInterrupt:
-            raise Interrupted(self._proved(number, *pieces.found())) from None
-        return self._proved(number, *pieces.found())
+            raise Interrupted(self._proved(number, pieces.found())) from None
+        return self._proved(number, pieces.found())
 
-    def _proved(
-        self, number: int, kind: int, directions: bytes, parts: List[PackedPart], sequence: bytes, makespan: int
-    ) -> Union[Proved, Below, Over]:
+    def _proved(self, number: int, found: Searched) -> Union[Proved, Below, Over]:
         """What a search for directions that prove a number came to."""
-        if kind == PROVED:
-            return Proved(directions, number)
-        if kind == OVER:
-            return Over(directions, tuple(map(part_of, parts)), self.bound())
-        jobs = numbers_of(sequence)
-        return Below(jobs, makespan, self._named(jobs), self.bound(), self, directions)
+        if found.kind == PROVED:
+            return Proved(found.directions, number)
+        if found.kind == OVER:
+            return Over(found.directions, tuple(map(part_of, found.parts)), self.bound())
+        jobs = numbers_of(found.sequence)
+        return Below(jobs, found.makespan, self._named(jobs), self.bound(), self, found.directions)
 
     def certify(
         self,
@@ -668,7 +668,7 @@ class Shop(metaclass=Brief):
         rounds: int = 10_000,
         seed: int = 1,
         work: int = 8500,
-        directions: int = 100_000_000,
+        directions: int = MOST_KEPT,
         proof: Proof = None,
         workers: Union[int, Executor, None] = 1,
         time_limit: Optional[float] = None,
@@ -679,12 +679,14 @@ class Shop(metaclass=Brief):
     ) -> Certificate:
         """Bounds of the least makespan with a certificate of them, by searches from a sequence, or from that of `neh`,
         and from better ones. The least makespan is proved where `optimal` is true; the upper bound is at most the
-        makespan of the start. At most `directions` directions prove the lower one, 1 to 1,000,000,000: the more there
-        may be, the longer the searches take where they do not find the least makespan. The other numbers are those of
-        `improve`. With the numbers left out a call may take a minute and a half.
+        makespan of the start. At most `directions` directions prove the lower one: the more there may be, the longer
+        the searches take where they do not find the least makespan. The other numbers are those of `improve`. With the
+        numbers left out a call may take a minute and a half.
 
-        With `proof` as "signs" the text has a sign for each direction, with "count" their number alone: then it is
-        short, and a check makes the search again. Left out, it has signs where there are at most 10,000,000.
+        With `proof` as "signs" the text has a sign for each direction, and `directions` is 1 to 1,000,000,000; all of
+        them are kept in memory. With "count" it has their number alone, and `directions` is 1 to 1,000,000,000,000,000.
+        None is kept, so the text is short, and a check makes the search again. Left out, the run counts where
+        `directions` is above 100,000,000, and else has signs where at most 10,000,000 prove the bound.
 
         Searches are shared by `workers`: so many threads, 1 to 10,000, or one of each processor for -1 or None; or
         those of an executor, such as ProcessPoolExecutor, a client of dask, or MPIPoolExecutor: what has `submit`. The
@@ -694,55 +696,72 @@ class Shop(metaclass=Brief):
         few times a second; where it is True, a line on standard error tells the same. An interrupt ends the call within
         a second, as Interrupted, whose `result` is a certificate of the best bounds so far; an error of `progress` or
         of the executor has such a `result` too. Without an executor and a time limit `check` has read the certificate
-        of a run that has ended; in the place of a counted one that with the signs. `by` is that of `makespan`. Errors
+        of a run that has ended and keeps signs, also where their number is written. `by` is that of `makespan`. Errors
         are those of `improve` and of the executor.
 
         A `token`, such as a threading.Event, ends the call from another thread as a time limit does, once it is set.
         A certificate of a run that was stopped has a `state`: with `resume` as such a state, a file of it
         (pathlib.Path), or that certificate a run goes on behind the last task that it had done, and comes to what it
-        would have come to. Start, width, rounds, seed, work and directions are those of the state. OptionError where
-        `start` or `by` is given too, or where it is no state of a run of this shop by this version, as no text of a
-        certificate is.
+        would have come to. Start, width, rounds, seed, work and directions are those of the state. A state with signs
+        is checked; one of a run that counts has their number alone, which is taken as it stands there. OptionError
+        where `start` or `by` is given too, or "signs" with such a number, or where it is no state of a run of this shop
+        by this version, as no text of a certificate is.
 
         >>> certificate = shop.certify(workers=4, time_limit=60)
         >>> certificate.lower, certificate.upper
         (12, 12)
         """
         effort = effort_of(width=width, rounds=rounds, seed=seed, work=work)
-        most, form, limit = option("directions", directions), proof_of(proof), time_limit_of(time_limit)
+        form = proof_of(proof)
+        most, limit = directions_of(directions, form), time_limit_of(time_limit)
         executor, count = workers_of(workers)
         if not isinstance(progress, bool):
             function_of("progress", progress, "True, or a function that takes a Progress, or None")
         token_of(token)
         if resume is None:
-            state = self._begin(self._begun(start, by), effort, most, limit is not None)
+            state = self._begin(self._begun(start, by), effort, most, limit is not None, form)
         else:
-            state = self._resumed(resume, start, by)
+            state = self._resumed(resume, start, by, form)
         at_once = min(4, count) if executor is None else 4
         found, known = self._certify(state, Workers(executor, count, at_once), Watch(limit, progress, token), form)
-        is_read = executor is None and limit is None and found.state is None
+        is_read = executor is None and limit is None and found.state is None and known.directions is not None
         return self._read(found, known) if is_read else found
 
-    def _begin(self, start: Optional[bytes], effort: Effort, directions: int, is_limited: bool) -> State:
+    def _begin(
+        self, start: Optional[bytes], effort: Effort, directions: int, is_limited: bool, proof: Proof
+    ) -> State:
         """The state of a run at its beginning, from a sequence or that of `neh`. NotASequence where it is none."""
         first, run = self._begun(None) if start is None else start, RunNumbers()
         self._call("run", first, directions, int(is_limited), run)
-        return State(effort, directions, begun(run, first))
+        return State(effort, directions, begun(run, first, keeps_signs(proof, directions)))
 
-    def _resumed(self, resume: Union[bytes, os.PathLike[str], Certificate], start: Optional[Jobs], by: By) -> State:
-        """A state whose bounds the checker has read. OptionError where it is none, or comes with a start."""
+    def _resumed(
+        self, resume: Union[bytes, os.PathLike[str], Certificate], start: Optional[Jobs], by: By, proof: Proof
+    ) -> State:
+        """A state whose bounds the checker has read; where directions are only counted, the upper one alone is tested.
+        OptionError where it is none, comes with a start, or lacks the signs that are asked for."""
         if start is not None or by is not None:
             raise refused("resume has a start of its own: leave out start and by")
         given = resume.state if isinstance(resume, Certificate) else resume
         state = state_of(self._parts[:3], b"" if given is None else text_of(given))
         known = state.kept.known()
+        if known.directions is None and proof == "signs":
+            raise refused("resume is the state of a run that only counts directions: leave out proof, or give 'count'")
+        if not (self._has_read(known) if known.directions is not None else self._is_reached(known)):
+            raise refused()
+        return state if proof != "count" else state._replace(kept=state.kept._replace(directions=None))
+
+    def _is_reached(self, known: Known) -> bool:
+        """Whether what is known has the makespan of its sequence as upper bound, and no lower bound above it."""
+        return known.lower <= known.upper == self._makespan(known.sequence)
+
+    def _has_read(self, known: Known) -> bool:
+        """Whether the checker finds that the directions prove what is known."""
         try:
             found = waited(lambda: self.check(self._certificate(known, "signs")))
         except NotLawful:
-            raise refused() from None
-        if (found.lower, found.upper) != (known.lower, known.upper):
-            raise refused()
-        return state
+            return False
+        return (found.lower, found.upper) == (known.lower, known.upper)
 
     def _read(self, found: Certificate, known: Known) -> Certificate:
         """A certificate that the checker has read, or in its place that of the same directions with signs, where a
@@ -773,49 +792,62 @@ class Shop(metaclass=Brief):
         return found(), run.kept.known()
 
     def _certificate(self, known: Known, proof: Proof = None) -> Certificate:
-        """The certificate of what is known, with signs or with their number."""
-        jobs, directions = numbers_of(known.sequence), known.directions
-        signs = directions if has_signs(proof, len(directions)) else None
+        """The certificate of what is known, with signs, where they are kept, or with their number."""
+        jobs = numbers_of(known.sequence)
+        signs = known.directions if has_signs(proof, known.written) else None
 
         def write(room: TextRoom) -> None:
             if signs is None:
-                self._call("run_counted", known.sequence, known.lower, len(directions), room)
+                self._call("run_counted", known.sequence, known.lower, known.written, room)
             else:
                 self._call("run_text", known.sequence, known.lower, signs, len(signs), room)
 
         text = with_stack(lambda: written(LIMITS.max_beside + len(signs or b""), write))
         return Certificate(known.lower, known.upper, jobs, text, self._named(jobs), self)
 
-    def check(self, text: Text, *, most: int = 10_000_000_000) -> Certificate:
+    def check(
+        self, text: Text, *, most: int = 10_000_000_000, workers: Union[int, Executor, None] = 1
+    ) -> Certificate:
         """What a text proves, with the sequence that it states: a certificate of version 1 or 2, a two-ended one, or a
         counted one; line 1 tells which it is. It is given as bytes or str, as the path of a file (pathlib.Path), or as
         a Certificate, of which the text alone is read. The least makespan is proved where `optimal` is true. NotLawful
         with the first fault of the text where it is not lawful, or where a file of it has more than 1,000,000,000
         bytes, OSError where a file is not read.
 
-        Of a counted certificate the search is made again, on one thread: that takes seconds for ten million nodes, and
-        up to hours for billions. One that states more than `most` nodes, 0 to 18,446,744,073,709,551,615, is refused
-        before; of other texts that says nothing. An interrupt ends the call, and leaves the search to end by itself. A
-        shop keeps the last counted certificate that was checked, and does not search for the same one again.
+        Of a counted certificate the search is made again, which takes as long as before: seconds for ten million nodes,
+        and up to hours for billions. One that states more than `most` nodes, 0 to 18,446,744,073,709,551,615, is
+        refused before. `workers`, which are those of `certify`, share that search. Then the package adds up what they
+        count, as `certify` does; by one worker the whole check is a proved call. Of other texts both say nothing. An
+        interrupt ends the call, and leaves a search by one worker to end by itself. A shop keeps the last counted
+        certificate that was checked, and does not search for the same one again.
 
         >>> shop.check("flowshop two-ended 1\\n3 3\\n11 13\\n2 1 3\\n-\\nend\\n")
         Certificate(bounds 11 to 13, 1 direction)
-        >>> shop.check("flowshop counted 1\\n3 3\\n12 12\\n3 1 2\\n2\\nend\\n", most=1_000_000)
+        >>> shop.check("flowshop counted 1\\n3 3\\n12 12\\n3 1 2\\n2\\nend\\n", most=1_000_000, workers=4)
         Certificate(optimal 12, 2 nodes)
         """
-        read, allowed, last = text_of(text), option("most", most, OF_PARTS), self._counted
-        if last is not None and last.text == read and (last.count or 0) <= allowed:
+        return self._checked(text, option("most", most, OF_PARTS), Workers(*workers_of(workers)))
+
+    def _checked(self, text: Text, most: int, workers: Workers) -> Certificate:
+        """What a text proves, by workers that share the search of a counted one of at most so many nodes."""
+        read, last = text_of(text), self._counted
+        if last is not None and last.text == read and (last.count or 0) <= most:
             return last
         jobs = (u16 * self.jobs)()
         bounds, is_search = BoundsRoom(jobs, self.jobs), is_counted(read)
 
         def check() -> None:
-            call("check_within", self._lent, read, len(read), allowed, bounds)
+            call("check_within", self._lent, read, len(read), most, bounds)
 
         try:
-            waited(check) if is_search else check()
+            if not is_search:
+                check()
+            elif workers.are_several:
+                check_shared(self._parts[:3], self._lent, read, most, bounds, workers)
+            else:
+                waited(check)
         except Refused as refused:
-            raise not_lawful(refused, text, read, self.jobs, self.machines, allowed) from None
+            raise not_lawful(refused, text, read, self.jobs, self.machines, most) from None
         sequence = tuple(jobs)
         found = Certificate(bounds.lower, bounds.upper, sequence, read, self._named(sequence), self)
         if is_search:

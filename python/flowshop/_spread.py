@@ -47,6 +47,11 @@ class Workers(NamedTuple):
     at_once: int = 1
     meter: Optional[Meter] = None
 
+    @property
+    def are_several(self) -> bool:
+        """Whether they may be more than one."""
+        return self.executor is not None or self.size > 1
+
     def measured(self, call: Callable[[], _T]) -> Callable[[], _T]:
         """A call for a thread of its own, in which it is measured."""
         if self.meter is None:
@@ -56,12 +61,12 @@ class Workers(NamedTuple):
 
 
 class Found(NamedTuple):
-    """What a search below a number came to: PROVED with its directions; BELOW with a sequence and how many directions
-    came before it; or OVER."""
+    """What a search below a number came to: PROVED with how many directions there are, and these, where they are kept;
+    BELOW with a sequence and how many directions came before it; or OVER."""
 
     kind: int
     written: int
-    directions: bytes = b""
+    directions: Optional[bytes] = None
     sequence: bytes = b""
     makespan: int = 0
 
@@ -103,13 +108,15 @@ class Given:
 
 
 class Shared:
-    """A search whose parts are given to workers. The library keeps their order, and says when it is decided."""
+    """A search whose parts are given to workers. The library keeps their order, and says when it is decided. Directions
+    are kept, or only counted."""
 
-    def __init__(self, shop: PackedShop, number: int, budget: int) -> None:
-        self._shop, self._number, self._budget, self._begun = shop, number, budget, time.monotonic()
+    def __init__(self, shop: PackedShop, number: int, budget: int, has_signs: bool) -> None:
+        self._shop, self._number, self._budget, self._has_signs = shop, number, budget, has_signs
+        self._begun = time.monotonic()
         self._places, self._search = (PlaceNumbers * 64)(), SearchNumbers()
         call("search", budget, self._places, len(self._places), self._search)
-        # By places: the parts that are left there, the directions that were written there, and a sequence.
+        # By places: the parts that are left there, the directions of it that are kept, and a sequence.
         self._parts: Dict[int, List[PackedPart]] = {0: [_ROOT]}
         self._bits: Dict[int, Tuple[bytes, int]] = {}
         self._reached: Dict[int, Tuple[bytes, int]] = {}
@@ -141,7 +148,7 @@ class Shared:
             return None
         parts = packed_parts(self._parts[place.value - 1])
         left = self._budget + 1 - self._search.settled
-        given = Given(Task(place.value - 1, 0, self._shop, self._number, left, seconds, parts))
+        given = Given(Task(place.value - 1, 0, self._shop, self._number, left, self._has_signs, seconds, parts))
         self._given[given.task.place] = given
         return given
 
@@ -169,7 +176,8 @@ class Shared:
             return
         del self._parts[answer.place]
         self._slowest = max(self._slowest, time.monotonic() - self._given.pop(answer.place).since)
-        self._bits[answer.place] = answer.bits, answer.written
+        if self._has_signs:
+            self._bits[answer.place] = answer.bits, answer.written
         if answer.sequence:
             self._reached[answer.place] = answer.sequence, answer.makespan
         self._parts.update(enumerate(runs, first.value - 1))
@@ -188,8 +196,10 @@ class Shared:
         if kind.value == OVER:
             return Found(OVER, self._budget)
         if kind.value == BELOW:
-            return Found(BELOW, self.written, b"", *self._reached[place.value])
-        return Found(PROVED, self.written, b"".join(self._directions())) if kind.value == PROVED else None
+            return Found(BELOW, self.written, None, *self._reached[place.value])
+        if kind.value != PROVED:
+            return None
+        return Found(PROVED, self.written, b"".join(self._directions()) if self._has_signs else None)
 
     def _directions(self) -> Iterator[bytes]:
         """The directions of all places, in order."""
@@ -287,9 +297,9 @@ class Spread:
         self._heard = {worker: heard for worker, heard in self._heard.items() if heard > since}
         return max(self._workers.size, len(self._heard), 2)
 
-    def prove(self, number: int, budget: int) -> Found:
-        """What a search below a number comes to, with a budget of directions."""
-        shared, calls = Shared(self._shop, number, budget), self._calls()
+    def prove(self, number: int, budget: int, has_signs: bool) -> Found:
+        """What a search below a number comes to, with a budget of directions, which are kept or only counted."""
+        shared, calls = Shared(self._shop, number, budget, has_signs), self._calls()
         try:
             while True:
                 found = shared.found()

@@ -17,21 +17,23 @@ _TO_BITS, _TO_SIGNS = bytes.maketrans(b"+-", b"\0\1"), bytes.maketrans(b"01", b"
 
 
 class Task(NamedTuple):
-    """What a worker is given: some parts, one after the other, how many directions it may write, and in about how many
-    seconds. `place` is that of the parts in the search; `times` says how often they were given out before."""
+    """What a worker is given: some parts, one after the other, how many directions they may have, whether the signs of
+    these are given back, and in about how many seconds. `place` is that of the parts in the search; `times` says how
+    often they were given out before."""
 
     place: int
     times: int
     shop: PackedShop
     number: int
     budget: int
+    has_signs: bool
     seconds: float
     parts: bytes
 
 
 class Answer(NamedTuple):
-    """What a worker gives back: how many directions it wrote, and their bits; the sequence below the number that these
-    lead to, where there is one, with its makespan; and the parts that are left."""
+    """What a worker gives back: how many directions there are, and their bits, where the task has signs; the sequence
+    below the number that these lead to, where there is one, with its makespan; and the parts that are left."""
 
     place: int
     number: int
@@ -93,13 +95,13 @@ def _answer(task: Task, worker: int) -> Answer:
     """What a worker of this number gives back of a task: it searches as long as there are directions and time left, and
     one piece at least."""
     begun = time.monotonic()
-    pieces = Pieces(_instance(*task.shop), parts_of(task.parts), task.number, task.budget)
+    pieces = Pieces(_instance(*task.shop), parts_of(task.parts), task.number, task.budget, task.has_signs)
     pieces.search(lambda: time.monotonic() > begun + task.seconds)
-    kind, directions, rest, sequence, makespan = pieces.found()
+    kind, count, rest, sequence, makespan, directions = pieces.found()
     left = packed_parts(rest) if kind == OVER else b""
     bits = bits_of(directions)
     seconds = time.monotonic() - begun
-    return Answer(task.place, task.number, len(directions), bits, sequence, makespan, left, seconds, worker)
+    return Answer(task.place, task.number, count, bits, sequence, makespan, left, seconds, worker)
 
 
 def reach(words: Tuple[int, PackedShop, str, Tuple[Any, ...]]) -> Reached:
