@@ -133,7 +133,7 @@ def part_of(name, shop, lists, numbers, directions, room=None, rest_room=None):
     node = Node(*lent(U16, lists[0]), *lent(U16, lists[1]))
     part = results(Part, sequence, directions, rest) if directions else results(records.Tally, sequence, rest)
     refused = call(name, shop_of(shop), node, *map(U64, numbers), part)
-    equal("what is not looked at", bool(directions) or (part.directions, part.entries) == (7, 7), True)
+    equal("what is not looked at", bool(directions) or (part.directions, part.unseen) == (7, 7), True)
     if refused:
         return refused
     text = part.directions_length
@@ -737,7 +737,8 @@ def compare_calls():
         (lambda: tally(SHOP, 13, rest_room=0)[2:], ([3, 1, 2], 12)),
         (lambda: tally(SHOP, 2**64 - 1, START, budget=0), ("BELOW", 0, START, 13)),
         (lambda: tally(SHOP, 13, [2, 1], [3], 0), ("PROVED", 0)),
-        (lambda: tally((1, 1, [0]), 1, budget=0, rest_room=0), ("BELOW", 0, [1], 0)),
+        (lambda: tally((1, 1, [0]), 1, budget=1, rest_room=0), ("BELOW", 1, [1], 0)),
+        (lambda: tally((1, 1, [0]), 1, budget=0), ("OVER", 0, [([], [], 0, [])])),
         (lambda: tally((1, 1, [999_999]), 999_999, budget=0, rest_room=0), ("PROVED", 0)),
         # The jobs of the greatest shop are all alike, so that the bound of its root is the makespan of each sequence. A
         # node is opened for each job of the first sequence.

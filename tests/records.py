@@ -92,7 +92,7 @@ ROOMS = ("sequence", [U16]), ("directions", [U8]), ("rest", [U16])
 LENGTHS = ("directions_length", SIZE), ("rest_length", SIZE)
 Part = record("Part", *ROOMS, ("found", U32), ("makespan", U64), *LENGTHS)
 # The same for a search that counts: it does not look at the room for directions, which is nowhere here.
-NOWHERE = ("directions", SIZE), ("entries", SIZE)
+NOWHERE = ("directions", SIZE), ("unseen", SIZE)
 Tally = record("Tally", ROOMS[0], *NOWHERE, ROOMS[2], ("found", U32), ("makespan", U64), *LENGTHS)
 
 

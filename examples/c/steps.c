@@ -1,6 +1,7 @@
-/* Finds bounds of the least makespan of a published shop task by task, and says after each what is known: steps [TASKS]
+/* Finds bounds of the least makespan of a published shop task by task, and says after each what is known:
+ * steps [TASKS [count]]
  * After so many tasks, or an interrupt (Ctrl-C), it stops. It writes the text that proves the bounds to
- * steps.certificate. */
+ * steps.certificate: with `count` one that has the number of its directions alone, and needs no memory for signs. */
 #include "flowshop.h"
 #include <inttypes.h>
 #include <signal.h>
@@ -28,6 +29,7 @@ int main(int count, char **words) {
     static uint8_t found[MOST], directions[MOST], bytes[MOST + 3300];
     static uint16_t rest[JOBS * (JOBS + 4)], kept[3][JOBS], sequence[JOBS]; /* the start, the best, the one before it */
     const long most = count > 1 ? strtol(words[1], NULL, 10) : 1000000;
+    const int counts = count > 2 && strcmp(words[2], "count") == 0;
     const flowshop_shop shop = {JOBS, MACHINES, times, JOBS * MACHINES};
     const flowshop_effort effort = {1024, 1000, 1, 1000};
     size_t length = 0;
@@ -49,7 +51,8 @@ int main(int count, char **words) {
         if (task.kind == FLOWSHOP_TASK_END) break;
         if (task.kind == FLOWSHOP_TASK_SEARCH) {
             flowshop_part part = {sequence, JOBS, found, task.budget, rest, sizeof rest / sizeof *rest, 0, 0, 0, 0};
-            done(flowshop_prove(&shop, &root, task.number, &part));
+            done(counts ? flowshop_tally(&shop, &root, task.number, task.budget, &part)
+                        : flowshop_prove(&shop, &root, task.number, &part));
             answer.found = part.found;
             answer.makespan = part.makespan;
             answer.directions = part.directions_length;
@@ -67,13 +70,15 @@ int main(int count, char **words) {
             memcpy(kept[2], kept[1], sizeof kept[1]);
             memcpy(kept[1], sequence, sizeof kept[1]);
         } else if (answer.found == FLOWSHOP_PROVED) {
-            memcpy(directions, found, length = answer.directions);
+            length = answer.directions;
+            if (!counts) memcpy(directions, found, length);
         }
         printf("step %" PRIu32 ": least makespan %" PRIu64 " to %" PRIu64 "\n", run.step, run.lower, run.upper);
         fflush(stdout);
     }
     flowshop_text text = {bytes, sizeof bytes, 0};
-    done(flowshop_run_text(&shop, kept[1], JOBS, run.lower, directions, length, &text));
+    done(counts ? flowshop_run_counted(&shop, kept[1], JOBS, run.lower, length, &text)
+                : flowshop_run_text(&shop, kept[1], JOBS, run.lower, directions, length, &text));
     FILE *file = fopen("steps.certificate", "wb");
     if (file && fwrite(bytes, 1, text.length, file) == text.length && fclose(file) == 0) return 0;
     fprintf(stderr, "not done: steps.certificate\n");

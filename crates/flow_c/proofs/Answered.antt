@@ -2,13 +2,13 @@
 use Rattle.std.proofs.Common.{◌≡◌, ℕ, true, false, List, [], ◌++◌, length, Some, None, ap, sym, ◌∙◌}
 use Rattle.std.proofs.Common.{inl, inr, append_assoc, append-nil}
 use Rattle.std.specs.List.{flat_map, range_with_len}
-use Rattle.flow_directions.specs.Search.{Visit, signs, first_reached, visits, parts_visits, Continues}
-use Rattle.flow_directions.specs.declared.found.Advanced.TheVariants as advanced
+use Rattle.flow_directions.specs.Search.{Visit, signs, first_reached, parts_visits, Continues}
 use Rattle.flow_directions.proofs.VisitSteps.{none-or-reached, signs-append, first_reached-append}
 use Rattle.flow_directions.proofs.VisitSteps.{signs-append-reached, first_reached-append-reached}
 use Rattle.flow_parts.specs.Meanings.{Meaning, IsTrueAnswer}
 use Rattle.flow_parts.specs.declared.answer.Searched.{Searched}
-use Rattle.flow_c.specs.Shared.{AnswersAreTrue, ProvedGoesOn}
+use Rattle.flow_c.specs.Shared.{AnswersAreTrue, ProvedGoesOn, met_at}
+use Rattle.flow_c.specs.declared.came.Came.TheVariants as came
 
 -- two texts, one after the other
 continues-on : (all : List Visit) (before text : List ℕ) (xs ys : List Visit) → Continues all before xs →
@@ -36,10 +36,9 @@ continues-before xs ys more text goes = elim (none-or-reached (first_reached xs)
 ]
 
 pub proved-goes-on : ProvedGoesOn
-proved-goes-on shop threshold budget first last before text all more goes found =
-    continues-on all before text.items (visits shop threshold first last ++ more) more goes
-    (continues-before (visits shop threshold first last) [] more text.items
-    (sym found.1 ∙ sym (append-nil text.items), found.0))
+proved-goes-on shop threshold budget node before text all more goes found =
+    continues-on all before text (met_at shop threshold node ++ more) more goes
+    (continues-before (met_at shop threshold node) [] more text (sym found.1 ∙ sym (append-nil text), found.0))
 
 module _ (meaning : Meaning) (number begins : ℕ) (searched : Searched)
     (written : searched.written ≡ length (meaning.text number)) where
@@ -56,20 +55,20 @@ module _ (meaning : Meaning) (number begins : ℕ) (searched : Searched)
   goes-on text more not is left goes = record { written = sym written; then = rw (not, is, left) goes }
 
 pub answers-are-true : AnswersAreTrue
-answers-are-true shop threshold budget first last before more (advanced.Proved text) meaning number begins searched
-    goes found written says =
-    goes-on meaning number begins searched written (before ++ text.items) more says.1 says.0 says.2
-    (proved-goes-on shop threshold budget first last before text (meaning.parts number) more goes found)
-answers-are-true shop threshold budget first last before more (advanced.Below sequence makespan text) meaning number
-    begins searched goes found written says =
-    let here : List Visit = visits shop threshold first last in
+answers-are-true shop threshold budget node before more text came.Proved meaning number begins searched goes found
+    written says =
+    goes-on meaning number begins searched written (before ++ text) more says.1 says.0 says.2
+    (proved-goes-on shop threshold budget node before text (meaning.parts number) more goes found)
+answers-are-true shop threshold budget node before more text (came.Below sequence makespan) meaning number begins
+    searched goes found written says =
+    let here : List Visit = met_at shop threshold node in
     reaches meaning number begins searched written says.1
     (goes.0 ∙ ap (λ t. before ++ t) (signs-append-reached here more sequence found.0.0 ∙ sym found.1) ∙ sym says.0)
     (goes.1 ∙ first_reached-append-reached here more sequence found.0.0 ∙ ap Some (sym says.2))
-answers-are-true shop threshold budget first last before more (advanced.Rest text parts) meaning number begins searched
-    goes found written says =
-    let here : List Visit = visits shop threshold first last in
+answers-are-true shop threshold budget node before more text (came.Rest parts) meaning number begins searched goes found
+    written says =
+    let here : List Visit = met_at shop threshold node in
     let left : List Visit = parts_visits shop threshold parts.items in
-    goes-on meaning number begins searched written (before ++ text.items) (left ++ more) says.1 says.0 says.2
-    (continues-on (meaning.parts number) before text.items (here ++ more) (left ++ more) goes
-    (continues-before here left more text.items found.2))
+    goes-on meaning number begins searched written (before ++ text) (left ++ more) says.1 says.0 says.2
+    (continues-on (meaning.parts number) before text (here ++ more) (left ++ more) goes
+    (continues-before here left more text found.2))

@@ -1,6 +1,7 @@
 -- How long certificates of bounds are, and how a two-ended one is put together from one with no directions.
 use Rattle.std.proofs.Common.{◌≡◌, ◌⊎◌, inr, ◌∙◌, refl, ap, sym, ℕ, ◌+◌, ◌-◌, ◌*◌, ◌^◌, ◌<◌, ◌≤◌, List, [], ◌∷◌, ◌++◌}
-use Rattle.std.proofs.Common.{length, take, drop, min, nat_le, Bool, true, false, subst, if◌then◌else◌, arith, append_assoc, length-append, length-drop}
+use Rattle.std.proofs.Common.{length, take, drop, arith, append_assoc, length-append, length-drop}
+use Rattle.std.proofs.Common.{min, nat_le, Bool, true, false, subst, if◌then◌else◌}
 use Rattle.std.proofs.Math.Seq.{take-append_seam, drop-append_seam}
 use Rattle.std.proofs.lemmas.Fmt.{length-decimal-le}
 use Rattle.std.specs.Fmt.{decimal}
@@ -232,8 +233,8 @@ pub text-kept : (shop : Shop) (start : List ℕ) (most : ℕ) (bounds : Bounds) 
     length (directions_of shop bounds.lower [] []) ≤ most_searched most →
     around ≡ two_ended_text shop bounds sequence [] →
     IsTextFrom shop start most (with_directions around signs.items) bounds sequence
-text-kept shop start most bounds sequence signs around proof limits is attained no_worse proves keeps kept floor few text
-    =
+text-kept shop start most bounds sequence signs around proof limits is attained no_worse proves keeps kept floor few
+    text =
     let same : signs.items ≡ directions_of shop bounds.lower [] [] =
     subst (λ kept. Keeps kept (directions_of shop bounds.lower [] [])) kept keeps in
     text-found shop start most bounds sequence signs.items around limits is attained no_worse

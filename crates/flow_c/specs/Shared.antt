@@ -1,12 +1,9 @@
 -- Searches that are shared: what numbers say of an answer, what a call answers, and which answers are true.
 use Rattle.std.specs.Prelude.{ℕ, ◌≡◌, ◌+◌, ◌-◌, ◌^◌, ◌⊎◌, min, nat_eq, not, true, false, List, ◌++◌, length}
 use Rattle.std.specs.Prelude.{Option, Some, None}
-use Rattle.std.specs.Global.{Vec}
 use Rattle.std.specs.List.{flat_map, range_with_len}
 use Rattle.flow_shop.specs.Shop.{Shop}
-use Rattle.flow_directions.specs.Search.{Visit, visits, parts_visits, Continues, IsAdvanced}
-use Rattle.flow_directions.specs.declared.found.Advanced.{Advanced}
-use Rattle.flow_directions.specs.declared.found.Advanced.TheVariants as advanced
+use Rattle.flow_directions.specs.Search.{Visit, visits, parts_visits, Continues}
 use Rattle.flow_parts.specs.Meanings.{Meaning, IsTrueAnswer}
 use Rattle.flow_parts.specs.Searches.{GivesNone, GivesPlace}
 use Rattle.flow_parts.specs.declared.place.Place.{Place}
@@ -18,7 +15,10 @@ use Rattle.flow_parts.specs.declared.answer.Decided.{Decided}
 use Rattle.flow_parts.specs.declared.answer.Decided.TheVariants.{Proved, Below, Over}
 use Rattle.flow_c.specs.declared.fault.Fault.{Fault}
 use Rattle.flow_c.specs.declared.fault.Fault.TheVariants.{Room, NoAnswer}
-use Rattle.flow_c.specs.Searches.{proved, below, over}
+use Rattle.flow_c.specs.Searches.{proved, below, over, IsCome}
+use Rattle.flow_c.specs.declared.came.Came.{Came}
+use Rattle.flow_c.specs.declared.came.Came.TheVariants as came
+use Rattle.flow_c.specs.declared.node.NodeLists.{NodeLists}
 use Rattle.flow_c.specs.declared.search.SearchedNumbers.{SearchedNumbers}
 
 -- what became of a place, as numbers say it
@@ -64,34 +64,38 @@ found_place (Some (Proved directions)) = 0
 found_place (Some (Below place directions)) = place
 found_place (Some Over) = 0
 
--- An answer to a place says what a search of a node came to, with the directions that were written there before, and
--- with more that is to be met behind the node: the place has these directions and those of the search; and the new
--- places stand for the parts that are left and for what is behind them; or a sequence was reached.
-abbrev pub Says : Shop → ℕ → Meaning → ℕ → ℕ → Searched → List ℕ → List Visit → Advanced → Type 0
-Says shop threshold meaning number begins searched before more (advanced.Proved text) =
-    (meaning.text number ≡ before ++ text.items) × (searched.reached ≡ false)
+-- An answer to a place says what a search of a node came to, which took these directions, with those that were taken
+-- there before, and with more that is to be met behind the node: the place has all these directions; and the new places
+-- stand for the parts that are left and for what is behind them; or a sequence was reached.
+abbrev pub Says : Shop → ℕ → Meaning → ℕ → ℕ → Searched → List ℕ → List Visit → List ℕ → Came → Type 0
+Says shop threshold meaning number begins searched before more text came.Proved =
+    (meaning.text number ≡ before ++ text) × (searched.reached ≡ false)
     × (flat_map meaning.parts (range_with_len begins searched.left) ≡ more)
-Says shop threshold meaning number begins searched before more (advanced.Below sequence makespan text) =
-    (meaning.text number ≡ before ++ text.items) × (searched.reached ≡ true) × (meaning.sequence number ≡ sequence)
-Says shop threshold meaning number begins searched before more (advanced.Rest text parts) =
-    (meaning.text number ≡ before ++ text.items) × (searched.reached ≡ false)
+Says shop threshold meaning number begins searched before more text (came.Below sequence makespan) =
+    (meaning.text number ≡ before ++ text) × (searched.reached ≡ true) × (meaning.sequence number ≡ sequence)
+Says shop threshold meaning number begins searched before more text (came.Rest parts) =
+    (meaning.text number ≡ before ++ text) × (searched.reached ≡ false)
     × (flat_map meaning.parts (range_with_len begins searched.left) ≡ parts_visits shop threshold parts.items ++ more)
+
+-- what the search meets at a node
+abbrev pub met_at : Shop → ℕ → NodeLists → List Visit
+met_at shop threshold node = visits shop threshold node.first.now node.last.now
 
 -- a search that proves the threshold for a node goes on with what is behind the node (law: answers_are_true)
 abbrev pub ProvedGoesOn : Type 0
 ProvedGoesOn =
-    (shop : Shop) (threshold budget : ℕ) (first last before : List ℕ) (text : Vec ℕ) (all more : List Visit) →
-    Continues all before (visits shop threshold first last ++ more) →
-    IsAdvanced shop threshold budget first last (advanced.Proved text) →
-    Continues all (before ++ text.items) more
+    (shop : Shop) (threshold budget : ℕ) (node : NodeLists) (before text : List ℕ) (all more : List Visit) →
+    Continues all before (met_at shop threshold node ++ more) → IsCome shop threshold budget node text came.Proved →
+    Continues all (before ++ text) more
 
 -- An answer is true that says what a search of a node came to, where the parts of the place meet the directions that
--- were written before, then what that node meets, and then the rest (law: answers_are_true).
+-- were taken before, then what that node meets, and then the rest. Whether the directions were written or only counted,
+-- the answer says how many they are (law: answers_are_true).
 abbrev pub AnswersAreTrue : Type 0
 AnswersAreTrue =
-    (shop : Shop) (threshold budget : ℕ) (first last before : List ℕ) (more : List Visit) (came : Advanced)
-    (meaning : Meaning) (number begins : ℕ) (searched : Searched) →
-    Continues (meaning.parts number) before (visits shop threshold first last ++ more) →
-    IsAdvanced shop threshold budget first last came → searched.written ≡ length (meaning.text number) →
-    Says shop threshold meaning number begins searched before more came →
+    (shop : Shop) (threshold budget : ℕ) (node : NodeLists) (before : List ℕ) (more : List Visit) (text : List ℕ)
+    (came : Came) (meaning : Meaning) (number begins : ℕ) (searched : Searched) →
+    Continues (meaning.parts number) before (met_at shop threshold node ++ more) →
+    IsCome shop threshold budget node text came → searched.written ≡ length (meaning.text number) →
+    Says shop threshold meaning number begins searched before more text came →
     IsTrueAnswer meaning number begins searched

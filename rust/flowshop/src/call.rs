@@ -391,24 +391,14 @@ fn searched(
 }
 
 /// Searches the node of two lists below a number, with room for so many directions.
-pub(crate) fn prove(
-    shop: Numbers,
-    lists: (&[u16], &[u16]),
-    number: u64,
-    most: usize,
-) -> Result<Searched, Refused> {
+pub(crate) fn prove(shop: Numbers, lists: (&[u16], &[u16]), number: u64, most: usize) -> Result<Searched, Refused> {
     // SAFETY: the node and the part are those of this search, and each pointer goes with its count.
     let call = |node, part| unsafe { sys::flowshop_prove(&shop.record(), node, number, part) };
     searched(shop, lists, Some(Room::new(most)?), call)
 }
 
 /// Searches the node of two lists below a number, and counts so many directions at most.
-pub(crate) fn tally(
-    shop: Numbers,
-    lists: (&[u16], &[u16]),
-    number: u64,
-    budget: u64,
-) -> Result<Searched, Refused> {
+pub(crate) fn tally(shop: Numbers, lists: (&[u16], &[u16]), number: u64, budget: u64) -> Result<Searched, Refused> {
     // SAFETY: the node and the part are those of this search, and each pointer goes with its count. No room for
     // directions is looked at.
     let call = |node, part| unsafe { sys::flowshop_tally(&shop.record(), node, number, budget, part) };

@@ -293,8 +293,28 @@ fn searches() {
         (&[3, 1], &[2, 1], Error::Twice { place: 4 }),
     ] {
         assert_eq!(shop.prove(&node(first, last), 12, 9), Err(wanted));
+        assert_eq!(shop.tally(&node(first, last), 12, 9), Err(wanted));
     }
     assert_eq!(shop.prove(&node(&[], &[]), 12, usize::MAX), Err(Error::Memory));
+}
+
+#[test]
+fn directions_are_counted() {
+    // Two directions prove 12 for all sequences.
+    let (shop, root) = (three(), node(&[], &[]));
+    for budget in [2, 3, u64::MAX] {
+        assert_eq!(shop.tally(&root, 12, budget), Ok(Tally::Proved { count: 2 }));
+    }
+    assert_eq!(shop.tally(&root, 10, 0), Ok(Tally::Proved { count: 0 }));
+    let sequence = shop.sequence([2, 1, 3]).unwrap();
+    assert_eq!(shop.tally(&node(&[2, 1, 3], &[]), 14, 0), Ok(Tally::Below { sequence, count: 0 }));
+    match shop.tally(&root, 12, 0).unwrap() {
+        Tally::Over { count: 0, parts } => {
+            assert!(parts.iter().flat_map(Part::nodes).eq([root.clone()]));
+        }
+        other => panic!("{other:?}"),
+    }
+    assert!(matches!(shop.tally(&root, 12, 1), Ok(Tally::Over { count: 1, .. })));
 }
 
 #[test]

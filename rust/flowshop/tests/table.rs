@@ -36,6 +36,15 @@ fn refused(error: Error) -> String {
     format!("refused {name} {}", places.join(" ")).trim_end().to_string()
 }
 
+/// What a search found, with how many directions there are in their place.
+fn counted(found: &Found) -> Tally {
+    match found.clone() {
+        Found::Proved { directions } => Tally::Proved { count: directions.len() as u64 },
+        Found::Below { sequence, directions } => Tally::Below { sequence, count: directions.len() as u64 },
+        Found::Over { directions, parts } => Tally::Over { count: directions.len() as u64, parts },
+    }
+}
+
 /// The directions of a node, joined of parts with room for so many; and the first sequence below the number.
 fn search(shop: &Shop, node: Node, number: u64, most: usize) -> Result<String, Error> {
     let (mut said, mut left) = (String::new(), vec![node]);
@@ -44,7 +53,9 @@ fn search(shop: &Shop, node: Node, number: u64, most: usize) -> Result<String, E
             Some(node) => node,
             None => return Ok(said),
         };
-        match shop.prove(&node, number, most)? {
+        let found = shop.prove(&node, number, most)?;
+        assert_eq!(shop.tally(&node, number, most as u64)?, counted(&found));
+        match found {
             Found::Proved { directions } => said += &directions,
             Found::Below { directions, sequence } => {
                 return Ok(format!("{said}{directions} {sequence} {}", sequence.makespan()));
