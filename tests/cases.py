@@ -550,8 +550,8 @@ CASES["words"] = [
         "| 1 --bounds| 1 --certificate 1| 1 --mirrored| 1 --progress --progress| 1 --progress=1"
         "| 1 --time-limit 1.5| 1 --time-limit 10s)",
         line="refused command line"),
-    *[Run(f"certify three_machines.txt 1 --{name}(| 4294967296| -1| 1 --{name} 1)", line="refused command line")
-      for name in ("directions", "workers", "rounds", "time-limit")],
+    *[Run(f"certify three_machines.txt 1 --{name}(| {above}| -1| 1 --{name} 1)", line="refused command line")
+      for name, above in (("directions", 2**64), ("workers", 2**32), ("rounds", 2**32), ("time-limit", 2**32))],
     Run("improve three_machines.txt 1 --rounds", line="refused command line"),
     Run("schedule three_machines.txt 1(| sequence 2)", line="refused command line"),
     Run("schedule three_machines.txt 1 sequence --form(| pdf| png| CSV| csv --form svg)", line="refused command line"),
