@@ -408,7 +408,8 @@ def use_counts():
 
 
 def check_once(found):
-    """The last counted certificate is searched for once, by whatever asks for it; another shop searches for itself."""
+    """The last counted certificate is searched for once, by whatever asks for it; another shop searches for itself, and
+    one that several workers have checked is searched for once more."""
     shop, call = Shop.from_jobs(ROWS), _library._CALLS["check_within"]
     keep = mock.Mock(side_effect=call)
     with mock.patch.dict(_library._CALLS, check_within=keep):
@@ -426,6 +427,12 @@ def check_once(found):
             equal("one with signs", shop.check(LEAST).upper, 12)
         equal("how often, with signs", keep.call_count, 5)
         equal("another shop", refused(Shop.from_jobs([[1] * 3] * 3).check, found)[1], "NOT_ATTAINED")
+        # Several workers test all but the search, with 0 as the most nodes.
+        shop, calls = Shop.from_jobs(ROWS), keep.call_count
+        for workers in (2, 1, 2, 1):
+            equal(f"a check by {workers}", shop.check(found, workers=workers), found)
+        given = [words[0][3] for words in keep.call_args_list[calls:]]
+        equal("what is searched for by one worker", given, [0, 0, refusals.MOST_NODES])
 
 
 def draw_timetables():

@@ -61,7 +61,7 @@ class Shop(metaclass=Brief):
 
     __slots__ = ("_parts", "_lent", "_naming", "_bound", "_counted")
     # Jobs, machines, times, the names of both, and the unit of the times; what each call is lent of them; the jobs by
-    # their names; what `bound` gives, once it is known; and the counted certificate that was the last to be checked.
+    # their names; what `bound` gives, once it is known; and the counted certificate that one worker checked last.
     _parts: Tuple[int, int, bytes, Optional[Names], Optional[Names], Unit]
     _lent: Any
     _naming: Naming
@@ -819,7 +819,7 @@ class Shop(metaclass=Brief):
         refused before. `workers`, which are those of `certify`, share that search. Then the package adds up what they
         count, as `certify` does; by one worker the whole check is a proved call. Of other texts both say nothing. An
         interrupt ends the call, and leaves a search by one worker to end by itself. A shop keeps the last counted
-        certificate that was checked, and does not search for the same one again.
+        certificate that one worker has checked, and does not search for the same one again.
 
         >>> shop.check("flowshop two-ended 1\\n3 3\\n11 13\\n2 1 3\\n-\\nend\\n")
         Certificate(bounds 11 to 13, 1 direction)
@@ -850,7 +850,7 @@ class Shop(metaclass=Brief):
             raise not_lawful(refused, text, read, self.jobs, self.machines, most) from None
         sequence = tuple(jobs)
         found = Certificate(bounds.lower, bounds.upper, sequence, read, self._named(sequence), self)
-        if is_search:
+        if is_search and not workers.are_several:
             object.__setattr__(self, "_counted", found)
         return found
 
