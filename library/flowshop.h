@@ -151,7 +151,8 @@ typedef struct flowshop_outcome {
     size_t place;
 } flowshop_outcome;
 
-/* The limits: those of enum flowshop_limit, and of texts. What is said of the program is no limit of a call. */
+/* The limits: those of enum flowshop_limit, of texts, and of counts. What is said of the program is no limit of a call.
+ */
 typedef struct flowshop_limit_numbers {
     uint32_t max_jobs;
     uint32_t max_machines;
@@ -162,7 +163,7 @@ typedef struct flowshop_limit_numbers {
     uint32_t max_width;
     uint32_t max_rounds;
     uint32_t max_work;
-    uint32_t max_directions;
+    uint32_t max_directions; /* of flowshop_certify */
     uint32_t max_depth;
     uint32_t max_prefixes;
     uint32_t max_budget;
@@ -561,10 +562,10 @@ FLOWSHOP_CALL flowshop_outcome flowshop_tally(const flowshop_shop *shop, const f
                                               uint64_t budget, flowshop_part *part) FLOWSHOP_NOEXCEPT;
 
 /* Begins a search that is shared, of at most so many directions. It keeps the order of its parts, whoever searches them
- * and whenever they end; it does not know the shop. A place stands for some parts of flowshop_prove, one after the
- * other: place 0 for the node of the search. The caller keeps the parts of each place, and the directions that were
- * written there. Joined in order, from place 0 by `next`, these are the directions of the search. The other calls take
- * the same array, or a longer one that begins with it.
+ * and whenever they end; it does not know the shop. A place stands for some parts of flowshop_prove or flowshop_tally,
+ * one after the other: place 0 for the node of the search. The caller keeps the parts of each place, and the directions
+ * that were written there, unless they are only counted. Joined in order, from place 0 by `next`, these are the
+ * directions of the search. The other calls take the same array, or a longer one that begins with it.
  * Fault: ROOM (of places). */
 FLOWSHOP_CALL flowshop_outcome flowshop_search(uint64_t budget, flowshop_place *places, size_t places_count,
                                                flowshop_search_state *search) FLOWSHOP_NOEXCEPT;
@@ -616,14 +617,14 @@ FLOWSHOP_CALL flowshop_outcome flowshop_rounds(const flowshop_shop *shop, const 
 /* A run of certify from the sequence `start`, whose searches have at most so many directions each: `directions` is 1 to
  * 1000000000000000. Where `limited` is not 0, the run may be stopped before its end, and raises the lower bound early.
  * flowshop_run_next says what is to be done, and flowshop_run_put is told what became of it; flowshop_certify does the
- * same on one thread. The caller keeps the start, the best sequence and the one that was the best before it, and the
- * directions of the last search that proved its number, or how many they are. At any time these are a certificate of
- * the bounds of the run, which flowshop_run_text writes, or flowshop_run_counted with the count alone: so a run may be
- * stopped between two tasks, shown, kept, and gone on with. Its tasks do not depend on who does them. What it begins
- * with, which task is next, and what an answer changes is proved to be what Schedule of flow_certify says
- * (docs/proved.md).
- * A caller who keeps the count alone needs no memory for signs, and searches by flowshop_tally. Where `directions` is at
- * most 1000000000, no search has more than 999990000, the most signs that the program's `check` reads. Where it is
+ * same on one thread, with signs. The caller keeps the start, the best sequence and the one that was the best before
+ * it, and the directions of the last search that proved its number, or how many they are. At any time these are a
+ * certificate of the bounds of the run, which flowshop_run_text writes, or flowshop_run_counted with the count alone:
+ * so a run may be stopped between two tasks, shown, kept, and gone on with. Its tasks do not depend on who does them.
+ * What it begins with, which task is next, and what an answer changes is proved to be what Schedule of flow_certify
+ * says (docs/proved.md).
+ * A caller who keeps the count alone needs no memory for signs, and searches by flowshop_tally. Where `directions` is
+ * at most 1000000000, no search has more than 999990000, the most signs that the program's `check` reads. Where it is
  * greater, a search may have as many as it says, and their number alone is to be kept.
  * Faults in order: JOBS, MACHINES, COUNT, TIME; LENGTH, JOB, TWICE (of start); DIRECTIONS. */
 FLOWSHOP_CALL flowshop_outcome flowshop_run(const flowshop_shop *shop, const uint16_t *start, size_t start_count,

@@ -141,6 +141,15 @@ def compare_checks(executor):
                 got = refused(Shop.generate(20, 10, 1).check, text, workers=workers)
                 got = got[1] if isinstance(got, tuple) else (got.lower, got.upper)
                 equal(f"a check of {stated} nodes below {number} by {workers}", got, wanted)
+        right = counted_text(SOME, start, lower, count)
+        for text, most, wanted in [
+            (right, count - 1, "MOST"), (right, count, (lower, start.value)), (right[:-1], count, "END"),
+            (right.replace("end", "ends"), count, "END"), (right.replace("end", "ends"), count - 1, "MOST"),
+        ]:
+            for workers in (1, executor):
+                got = refused(Shop.generate(20, 10, 1).check, text, most=most, workers=workers)
+                got = got[1] if isinstance(got, tuple) else (got.lower, got.upper)
+                equal(f"a check of {text[-9:]!r} with {most} nodes at most by {workers}", got, wanted)
 
 
 def compare_texts(pool):

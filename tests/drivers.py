@@ -65,8 +65,8 @@ def compare_drivers(workers, folder):
         wanted, count = run(*words, **numbers), run(*words, **numbers, proof="count")
         texts = {"the program by three threads": run(*words, **numbers, workers=3)}
         if THREADS:
-            for count in (1, 4):
-                texts[f"C by {count}"] = run(THREADS, folder / "shop", 1, count, *numbers.values())
+            for threads in (1, 4):
+                texts[f"C by {threads}"] = run(THREADS, folder / "shop", 1, threads, *numbers.values())
         for name, each in {"one": 1, "three threads": 3, **workers}.items():
             texts[f"the package by {name}"] = shop.certify(**numbers, workers=each).text
             counted = shop.certify(**numbers, workers=each, proof="count").text
