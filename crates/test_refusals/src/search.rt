@@ -1,6 +1,6 @@
 //! Plans, outcomes, verdicts, directions and bounds.
 
-use flow_certify::{Certified, MostDirections, certify};
+use flow_certify::{Certified, MostDirections, Proof, ProofLimits, certify};
 use flow_commands::CommandFault;
 use flow_core::{Instance, Sequence};
 use flow_directions::{Alone, Found, ProveFault, prove};
@@ -96,25 +96,40 @@ pub(crate) fn plan_is_solved(alloc: Global, three: &Instance) -> Result<bool, Co
     Ok(is_solved(alloc, three)? && is_over(alloc, three)?)
 }
 
-/// Whether a search ended with this lower bound, by these directions, and with the best sequence of the instance with
-/// three machines.
+/// Whether a search ended with this lower bound, by these directions or their number, and with the best sequence of the
+/// instance with three machines.
 fn is_certified(found: &Certified, lower: u64, directions: &[u8]) -> bool {
     let is_best = found.upper == 12 && found.sequence.jobs() == [3, 1, 2].as_slice();
-    is_best && found.lower == lower && found.directions.as_slice() == directions
+    let is_kept = match &found.proof {
+        Proof::Signs(signs) => signs.as_slice() == directions,
+        Proof::Count(count) => *count == directions.len() as u64,
+    };
+    is_best && found.lower == lower && is_kept
 }
 
-/// `certify` of the instance with three machines, with no beam and no round. The least makespan is proved from a
-/// sequence of makespan 13; with one direction the bounds are 10, by no direction, and 12, by a sequence with that
-/// makespan.
-pub(crate) fn bounds_are_found(alloc: Global, three: &Instance) -> Result<bool, CommandFault> {
+/// What `certify` comes to from a start, with no beam and no round, and at most so many directions.
+fn certified(
+    alloc: Global,
+    three: &Instance,
+    start: &[u16],
+    most: u64,
+    keeps_signs: bool,
+) -> Result<Certified, CommandFault> {
     let effort = Effort::new(0, 0, 1, 0)?;
-    let start = Sequence::new(alloc, three, &[2, 1, 3])?;
-    let most = MostDirections::new(100).ok_or(CommandFault::Directions)?;
-    let least = certify(alloc, &Alone, three, &start, &effort, most)?;
-    let start = Sequence::new(alloc, three, &[3, 1, 2])?;
-    let most = MostDirections::new(1).ok_or(CommandFault::Directions)?;
-    let bounds = certify(alloc, &Alone, three, &start, &effort, most)?;
-    Ok(is_certified(&least, 12, b"++") && is_certified(&bounds, 10, b""))
+    let start = Sequence::new(alloc, three, start)?;
+    let most = MostDirections::new(most).ok_or(CommandFault::Directions)?;
+    let limits = ProofLimits { most, keeps_signs };
+    Ok(certify(alloc, &Alone, three, &start, &effort, limits)?)
+}
+
+/// `certify` of the instance with three machines. The least makespan is proved from a sequence of makespan 13, by signs
+/// and by a count; with one direction the bounds are 10, by no direction, and 12, by a sequence with that makespan.
+pub(crate) fn bounds_are_found(alloc: Global, three: &Instance) -> Result<bool, CommandFault> {
+    let signed = certified(alloc, three, &[2, 1, 3], 100, true)?;
+    let counted = certified(alloc, three, &[2, 1, 3], 100, false)?;
+    let bounds = certified(alloc, three, &[3, 1, 2], 1, true)?;
+    let is_proved = is_certified(&signed, 12, b"++") && is_certified(&counted, 12, b"++");
+    Ok(is_proved && is_certified(&bounds, 10, b""))
 }
 
 /// What `prove` finds for a number, of the instance with three machines.

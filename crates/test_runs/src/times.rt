@@ -1,9 +1,9 @@
 //! Runs of `certify` and `improve` whose time is over, at each moment.
 
 use crate::searches::{ANY, effort_of, start_of};
-use flow_certify::{Certified, MostDirections, certify};
+use flow_certify::{Certified, MostDirections, Proof, ProofLimits, certify};
 use flow_core::{Instance, generate};
-use flow_directions::{Alone, Found, News, Prover};
+use flow_directions::{Alone, Counted, Found, News, Prover};
 use flow_improve::{BeamLimits, Deadline, beam_until, improve, improve_until};
 use std::alloc::{AllocError, Global};
 use std::cell::Cell;
@@ -54,6 +54,19 @@ impl Prover for Time {
         Alone.prove(alloc, instance, threshold, budget)
     }
 
+    fn count_directions(
+        &self,
+        alloc: Global,
+        instance: &Instance,
+        threshold: u64,
+        budget: u64,
+    ) -> Result<Option<Counted>, AllocError> {
+        if Deadline::is_over(self) {
+            return Ok(None);
+        }
+        Alone.count_directions(alloc, instance, threshold, budget)
+    }
+
     fn is_limited(&self) -> bool {
         self.most < u64::MAX
     }
@@ -93,19 +106,22 @@ fn a_run_keeps_what_it_found_in_its_time(rt: HostRuntime) -> Result<(), Fail> {
     let instance = Instance::new(rt.alloc(), 3, 3, &THREE_MACHINES)?;
     let start = start_of(rt.alloc(), &instance, &[2, 1, 3]).ok_or("no start")?;
     let effort = effort_of([0, 0, 1, 0]).ok_or("no effort")?;
-    let directions = MostDirections::new(100).ok_or("no limit")?;
+    let limit = MostDirections::new(100).ok_or("no limit")?;
     for (most, lower, upper, text) in &ENDS {
-        let found = certify(
-            rt.alloc(),
-            &Time::new(*most),
-            &instance,
-            &start,
-            &effort,
-            directions,
-        )?;
-        assert_eq!(rt; found.lower, *lower, "{most}");
-        assert_eq!(rt; found.upper, *upper, "{most}");
-        assert!(rt; found.directions.as_slice() == *text, "{most}");
+        for keeps_signs in [true, false] {
+            let limits = ProofLimits {
+                most: limit,
+                keeps_signs,
+            };
+            let time = Time::new(*most);
+            let found = certify(rt.alloc(), &time, &instance, &start, &effort, limits)?;
+            assert_eq!(rt; found.lower, *lower, "{most}");
+            assert_eq!(rt; found.upper, *upper, "{most}");
+            assert_eq!(rt; found.proof.directions(), text.len() as u64, "{most}");
+            if let Proof::Signs(signs) = &found.proof {
+                assert!(rt; signs.as_slice() == *text, "{most}");
+            }
+        }
     }
     Ok(())
 }
@@ -114,14 +130,17 @@ fn a_run_keeps_what_it_found_in_its_time(rt: HostRuntime) -> Result<(), Fail> {
 const SHOP: (u32, u32, u32) = (20, 5, 495_070_989);
 
 /// The most directions of its runs.
-const FEW: u32 = 20;
+const FEW: u64 = 20;
 
 /// What a run finds in its time.
-fn certified(alloc: Global, instance: &Instance, time: &Time, most: u32) -> Option<Certified> {
+fn certified(alloc: Global, instance: &Instance, time: &Time, most: u64) -> Option<Certified> {
     let start = start_of(alloc, instance, ANY)?;
     let effort = effort_of([64, 100, 1, 100])?;
-    let directions = MostDirections::new(most)?;
-    certify(alloc, time, instance, &start, &effort, directions).ok()
+    let limits = ProofLimits {
+        most: MostDirections::new(most)?,
+        keeps_signs: true,
+    };
+    certify(alloc, time, instance, &start, &effort, limits).ok()
 }
 
 /// A run ends soon once its time is over: it asks no more than once for each beam and each of the other searches.
@@ -164,7 +183,7 @@ fn a_run_ends_soon_at_any_moment(rt: HostRuntime) -> Result<(), Fail> {
 /// One whose least makespan is not proved by the searches of the first step, and the most directions of its runs.
 const HARD: (u32, u32, u32) = (20, 10, 1_672_900_551);
 
-const MANY: u32 = 10_000_000;
+const MANY: u64 = 10_000_000;
 
 /// Where the time is limited, the lower bound is raised before the beams, and else it is not: what a run with no limit
 /// writes is what it always wrote.

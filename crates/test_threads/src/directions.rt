@@ -3,7 +3,7 @@
 use flow_directions::{Counted, Counter, Found, Prover, count, prove};
 use flow_generator::generate;
 use flow_shop::Instance;
-use flow_workers::{News, Watch, Workers, count_by, prove_by};
+use flow_workers::{News, Unwatched, Watch, Workers, count_by, prove_by};
 use sha2::{Digest, Sha256};
 use std::alloc::Global;
 use std::cell::Cell;
@@ -124,8 +124,9 @@ fn is_published<R: Threads + Sync>(rt: &R, alloc: Global, row: &Published, worke
     begins && text.len() as u64 == length && below == Ok(Some(alone))
 }
 
-/// Whether so many workers count these directions, with a budget of as many and of any number, and below the next number
-/// what one thread counts, and tell a watch of all directions. With a budget of one less, or of none, they are over it.
+/// Whether so many workers count these directions, with a budget of as many and of any number, and below the next
+/// number what one thread counts, and tell a watch of all directions. With a budget of one less, or of none, they are
+/// over it. For a run they count the same, and, unwatched, they are over a budget of half of them.
 fn is_counted<R: Threads + Sync>(rt: &R, alloc: Global, row: &Published, workers: usize) -> bool {
     let (jobs, machines, seed, number, length, _) = *row;
     let Ok(instance) = generate(alloc, jobs, machines, seed) else {
@@ -139,6 +140,16 @@ fn is_counted<R: Threads + Sync>(rt: &R, alloc: Global, row: &Published, workers
     };
     let counted = workers.count(alloc, &instance, number, length);
     if counted != Ok(Counted::Proved(length)) || told.fell.get() || told.last.get() != length {
+        return false;
+    }
+    let unwatched = Workers {
+        rt,
+        count: workers.count,
+        watch: &Unwatched,
+    };
+    let of_run = workers.count_directions(alloc, &instance, number, length);
+    let of_half = unwatched.count_directions(alloc, &instance, number, length / 2);
+    if of_run != Ok(Some(Counted::Proved(length))) || of_half != Ok(Some(Counted::Over)) {
         return false;
     }
     for (budget, wanted) in [
@@ -214,22 +225,32 @@ fn rounds_grow_with_the_directions(rt: HostRuntime) {
 /// Workers, and how often a watch is asked whether the time is over before it is: after 0 rounds, 1 and 5.
 static ENDS: [(usize, u64); 6] = [(1, 0), (1, 1), (1, 5), (4, 0), (4, 1), (4, 5)];
 
-/// A search ends with nothing where its time is over, and asks no more then; also by one worker.
+/// A search ends with nothing where its time is over, and asks no more then; also by one worker, and where it counts.
 #[test]
 fn a_search_ends_where_its_time_is_over(rt: HostRuntime) -> Result<(), Fail> {
     let (jobs, machines, seed, number, length, _) = PUBLISHED[1];
     let instance = generate(rt.alloc(), jobs, machines, seed)?;
     for (count, most) in &ENDS {
-        let told = Told::until(*most);
+        let (told, told_of_count) = (Told::until(*most), Told::until(*most));
+        let (rt, count) = (&rt, *count);
         let workers = Workers {
-            rt: &rt,
-            count: *count,
+            rt,
+            count,
             watch: &told,
         };
         let found = workers.prove(rt.alloc(), &instance, number, length)?;
         assert_eq!(rt; found, None, "{count} workers, {most}");
-        assert_eq!(rt; told.asked.get(), most.saturating_add(1), "{count} workers");
-        assert!(rt; told.last.get() < length, "{count} workers, {most}");
+        let counting = Workers {
+            rt,
+            count,
+            watch: &told_of_count,
+        };
+        let counted = counting.count_directions(rt.alloc(), &instance, number, length)?;
+        assert_eq!(rt; counted, None, "{count} workers, {most}");
+        for told in [&told, &told_of_count] {
+            assert_eq!(rt; told.asked.get(), most.saturating_add(1), "{count} workers");
+            assert!(rt; told.last.get() < length, "{count} workers, {most}");
+        }
     }
     Ok(())
 }
