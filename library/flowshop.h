@@ -6,8 +6,9 @@
  * list of all job numbers, each once.
  *
  * A slice is a pointer and a count of entries. A call with a null pointer, also of a slice whose count is 0, is refused
- * before all else: FLOWSHOP_NULL. Each pointer is aligned for its type, and what is written to overlaps nothing else
- * that the call is lent. Nothing is kept of what a call is lent, and nothing is left for the caller to free.
+ * before all else: FLOWSHOP_NULL; but flowshop_tally does not look at `directions`. Each pointer is aligned for its
+ * type, and what is written to overlaps nothing else that the call is lent. Nothing is kept of what a call is lent, and
+ * nothing is left for the caller to free.
  *
  * Each call but flowshop_version returns its outcome: a status, which is FLOWSHOP_DONE or the number of what is wrong,
  * the first fault in the order that the call lists; and a place. FLOWSHOP_MEMORY, where memory ran out, can come in the
