@@ -24,6 +24,16 @@ static void done(flowshop_outcome outcome) {
     exit(1);
 }
 
+/* Searches below the number of a task. The directions are counted, or written to the room of the part. */
+static flowshop_answer search_below(const flowshop_shop *shop, const flowshop_task *task, int counts,
+                                    flowshop_part part) {
+    const flowshop_node root = flowshop_root();
+    done(counts ? flowshop_tally(shop, &root, task->number, task->budget, &part)
+                : flowshop_prove(shop, &root, task->number, &part));
+    const flowshop_answer answer = {part.found, 0, part.makespan, part.directions_length};
+    return answer;
+}
+
 int main(int count, char **words) {
     static uint32_t times[JOBS * MACHINES];
     static uint8_t found[MOST], directions[MOST], bytes[MOST + 3300];
@@ -45,17 +55,13 @@ int main(int count, char **words) {
     reached.sequence = sequence;
     for (long tasks = 0; tasks < most && !stopped; tasks++) {
         flowshop_answer answer = {FLOWSHOP_REACHED, 0, 0, 0};
-        const flowshop_node root = flowshop_root();
         uint32_t better;
         done(flowshop_run_next(&run, &effort, &task));
         if (task.kind == FLOWSHOP_TASK_END) break;
         if (task.kind == FLOWSHOP_TASK_SEARCH) {
-            flowshop_part part = {sequence, JOBS, found, task.budget, rest, sizeof rest / sizeof *rest, 0, 0, 0, 0};
-            done(counts ? flowshop_tally(&shop, &root, task.number, task.budget, &part)
-                        : flowshop_prove(&shop, &root, task.number, &part));
-            answer.found = part.found;
-            answer.makespan = part.makespan;
-            answer.directions = part.directions_length;
+            const flowshop_part part = {
+                sequence, JOBS, counts ? NULL : found, task.budget, rest, sizeof rest / sizeof *rest, 0, 0, 0, 0};
+            answer = search_below(&shop, &task, counts, part);
         } else {
             if (task.kind == FLOWSHOP_TASK_BEAM) {
                 done(flowshop_beam(&shop, kept[task.origin], JOBS, &task.beam, &reached));
