@@ -816,9 +816,11 @@ def use_command():
         # Counts, whose searches a run that goes on and a check make again.
         out = pathlib.Path(folder, "counts")
         words = BLOCKS, "--out", out, "--workers", 2, "--json", out / "table"
-        for verb, more, is_searched in [("certify", ["--proof", "count", "--directions", 10**12], True),
-                                        ("certify", [], False), ("check", [], False)]:
+        for verb, more, is_searched, said in [("certify", ["--proof", "count", "--directions", 10**12], True, 0),
+                                              ("certify", ["--proof", "count"], False, 0),
+                                              ("certify", [], False, len(wanted)), ("check", [], False, 0)]:
             run = command(verb, *words, *more)
+            equal("how many are not as asked for", run.stderr.count("it has a count; remove this file"), said)
             equal(f"the status of {verb} with counts", run.returncode, 0)
             rows = json.loads((out / "table").read_text())
             got = [(row["kind"], row["directions"], row["seconds"] is not None) for row in rows]

@@ -382,7 +382,7 @@ def use_counts():
         got = [SHOP.check(text, most=most).upper for text in (LEAST, TREE, BOUNDS)]
         equal("those of other texts", got, [12, 12, 13])
     sentence = "line 5 is '2', how many nodes the search opens, and this check opens 1 at most; "
-    sentence += "a greater most allows more, and takes longer"
+    sentence += "check(text, most=N), or --most N of the command check, allows more, and takes longer"
     equal("what is said of too many", refused(SHOP.check, COUNTED, most=1), ("NotLawful", "MOST", 5, sentence))
     for most, said in ((-1, "-1"), (2**64, "18,446,744,073,709,551,616"), (1.5, "1.5")):
         sentence = f"most is {said}, and has to be a whole number from 0 to 18,446,744,073,709,551,615"
@@ -746,6 +746,12 @@ def refuse_texts():
             _, lower, *upper = line.split()
             got, wanted = (got.lower, got.upper), (int(lower), int(*upper or [lower]))
         equal(f"a check of {text[:99]} with {more}", got, wanted)
+    changed = "the text was cut off or changed, or is of another shop"
+    for lower, count, said in [(12, 3, "and the search below the lower bound opens more nodes or fewer"),
+                               (13, 2, "and the search below the lower bound opens more nodes or fewer"),
+                               (13, 4, "but the search below the lower bound meets a sequence below it")]:
+        text = COUNTED.replace(b"12 12\n3 1 2\n2", b"%d 12\n3 1 2\n%d" % (lower, count))
+        equal("what is said of a count", refused(SHOP.check, text)[3], f"line 5 is '{count}', {said}; {changed}")
     advice = "; a str is the text itself, and a file is named by pathlib.Path"
     equal("the name of a file", refused(SHOP.check, "shop.certificate")[3].endswith(advice), True)
     equal("a text with other signs", refused(SHOP.check, "\ud800é")[:2], ("NotLawful", "HEADER"))

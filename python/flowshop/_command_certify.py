@@ -22,6 +22,7 @@ from ._files import (
 from ._library import LIMITS
 from ._meter import Meter
 from ._options import MOST_KEPT, OF_PARTS, Proof, directions_of
+from ._results import Certificate
 from ._rows import Row, Table
 from ._saving import target_of
 from ._spread import Workers
@@ -123,12 +124,22 @@ def _workers(executor: str, count: Optional[int]) -> Iterator[Workers]:
         raise WordError(f"--executor is {executor}, and has to be threads, processes, mpi or dask:ADDRESS")
 
 
+def _unlike(kept: Certificate, proof: Proof) -> str:
+    """What is to be said of a certificate that is kept: that its bounds differ, or that it has not the proof that is
+    asked for; else nothing."""
+    said = [] if kept.optimal else ["its bounds differ"]
+    if (kept.kind, proof) in (("counted", "signs"), ("two-ended", "count")):
+        said.append("it has signs" if proof == "count" else "it has a count")
+    return ", and ".join(said)
+
+
 def _certified(work: Work, search: _Search) -> Row:
     """The row of a block, whose certificate is written where no lawful one is there."""
     try:
         kept = work.shop._checked(work.path, LIMITS.max_counted, search.workers)
-        if not kept.optimal:
-            search.lines.keep(f"{work.path}: its bounds differ; remove this file, and the block is searched anew")
+        said = _unlike(kept, search.proof)
+        if said:
+            search.lines.keep(f"{work.path}: {said}; remove this file, and the block is searched anew")
         return row_of(work, kept)
     except FileNotFoundError:
         pass

@@ -143,16 +143,20 @@ _UNLAWFUL: Dict[str, Tuple[int, str]] = {
     "VALUE": (3, "line 3 is {text}, and has to be the value that is proved, or both bounds"),
     "COUNT": (5, "line 5 is {text}, and has to be how many nodes the search opens"),
     "MOST": (5, "line 5 is {text}, how many nodes the search opens, and this check opens {most:,} at most; "
-             "a greater most allows more, and takes longer"),
+             "check(text, most=N), or --most N of the command check, allows more, and takes longer"),
     "SEQUENCE": (4, "line 4 is {text}, and has to have each job from 1 to {jobs} once"),
     "NOT_ATTAINED": (4, f"line 4 is {{text}}, a sequence of another makespan than line 3 says; {_CHANGED}"),
     "TREE": (0, f"line {{line}} is {{text}}, which is not one whole proof; {_CHANGED}"),
+    "NODES": (5, f"line 5 is {{text}}, and the search below the lower bound opens more nodes or fewer; {_CHANGED}"),
     "WEAK": (0, f"line {{line}} has a bound that is below the value; {_CHANGED}"),
     "LOW": (0, f"line {{line}} leads to a makespan that is below the value; {_CHANGED}"),
+    "MET": (5, f"line 5 is {{text}}, but the search below the lower bound meets a sequence below it; {_CHANGED}"),
     "END": (0, "what follows the last tree, the directions or the number of nodes is not the line 'end' alone"),
 }
 # The first line of a counted certificate, and the first lines up to its bounds.
 _COUNTED = b"flowshop counted 1\n"
+# What is said of one in the place of a fault of directions.
+_OF_COUNTED = {"TREE": "NODES", "LOW": "MET"}
 _COUNTED_BOUNDS = re.compile(_COUNTED + rb"[^\n]*\n([0-9]+) ([0-9]+)\n")
 
 
@@ -191,7 +195,8 @@ def is_counted(text: bytes) -> bool:
 
 def not_lawful(refused: Refused, given: Text, text: bytes, jobs: int, machines: int, most: int) -> NotLawful:
     """The refusal of a text that is no certificate of a shop of these sizes, or has more than the most nodes."""
-    only, form = _UNLAWFUL["COUNT" if refused.name == "VALUE" and _has_bounds(text) else refused.name]
+    fault = "COUNT" if refused.name == "VALUE" and _has_bounds(text) else refused.name
+    only, form = _UNLAWFUL[_OF_COUNTED.get(fault, fault) if is_counted(text) else fault]
     line = refused.place or only
     sentence = form.format(line=line, text=_line(text, line), jobs=jobs, machines=machines, most=most)
     if isinstance(given, str) and b"\n" not in text:

@@ -29,7 +29,8 @@ PATIENCE = 0.5
 @dataclass(frozen=True)
 class Progress(Bounded):
     """How far `certify` has come: the step, 1 to 8; the bounds so far; how many directions its searches have written;
-    and how many seconds it has taken. Of a run that goes on with a state both count from 0.
+    and how many seconds it has taken. Of a run that goes on with a state both count from 0. Where a search by workers
+    finds a sequence, directions that they wrote behind it do not count, so the number may fall.
 
     >>> reports = []
     >>> certificate = shop.certify(progress=reports.append)
