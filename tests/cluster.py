@@ -943,7 +943,7 @@ def refuse_words():
             ([pathlib.Path(folder, "nothing")], 3, "[Errno 2] No such file or directory"),
             ([TOP / "VERSION"], 1, "line 1 of "),
             ([BLOCKS, "--directions", "1000000001"], 2, "--directions is 1,000,000,001, and has to be a whole number "
-             "from 1 to 1,000,000,000 with signs, and to 1,000,000,000,000,000 with a count\n"),
+             "from 1 to 1,000,000,000 with signs, and to 1,000,000,000,000,000 with a count; --proof count asks for "),
             ([BLOCKS, "--proof", "count", "--directions", 10**15 + 1], 2, "--directions is 1,000,000,000,000,001, and "
              "has to be a whole number from 1 to 1,000,000,000,000,000\n"),
             (["t.txt", "--csv", "-"], 2, "--csv is -, and has to be a file; the table is printed anyway"),

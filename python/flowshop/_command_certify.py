@@ -247,7 +247,8 @@ def _directions_of(options: argparse.Namespace) -> int:
     try:
         return directions_of(options.directions, options.proof)
     except OptionError as error:
-        raise WordError(f"--{error}") from None
+        more = "; --proof count asks for one" if options.proof == "signs" else ""
+        raise WordError(f"--{error}{more}") from None
 
 
 def run(options: argparse.Namespace) -> int:
