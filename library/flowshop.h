@@ -563,8 +563,9 @@ FLOWSHOP_CALL flowshop_outcome flowshop_tally(const flowshop_shop *shop, const f
 /* Begins a search that is shared, of at most so many directions. It keeps the order of its parts, whoever searches them
  * and whenever they end; it does not know the shop. A place stands for some parts of flowshop_prove, one after the
  * other: place 0 for the node of the search. The caller keeps the parts of each place, and the directions that were
- * written there. Joined in order, from place 0 by `next`, these are the directions of the search. The other calls take
- * the same array, or a longer one that begins with it.
+ * written there. Joined in order, from place 0 by `next`, these are the directions of the search. With flowshop_tally
+ * there are none to keep, and only how many were counted is told. The other calls take the same array, or a longer one
+ * that begins with it.
  * Fault: ROOM (of places). */
 FLOWSHOP_CALL flowshop_outcome flowshop_search(uint64_t budget, flowshop_place *places, size_t places_count,
                                                flowshop_search_state *search) FLOWSHOP_NOEXCEPT;
