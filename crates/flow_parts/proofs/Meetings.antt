@@ -5,7 +5,8 @@ use Rattle.std.specs.List.{AllByRecursion, flat_map, range_with_len}
 use Rattle.std.proofs.lemmas.Bool.{cases_eq}
 use Rattle.flow_parts.specs.declared.place.Place.{Place}
 use Rattle.flow_parts.specs.Orders.{place_at, is_open}
-use Rattle.flow_parts.specs.Meanings.{met, behind, Meaning, place_met, order_met, BeginsRight, GivesKeep, GivesNoneKeeps}
+use Rattle.flow_parts.specs.Meanings.{met, behind, Meaning, place_met, order_met, BeginsRight, GivesKeep}
+use Rattle.flow_parts.specs.Meanings.{GivesNoneKeeps}
 use Rattle.flow_parts.proofs.Behind.{behind-nil, behind-assoc, met-append}
 use Rattle.flow_parts.proofs.Numbers.{all-weaker}
 use Rattle.flow_parts.proofs.Skips.{same-place}
