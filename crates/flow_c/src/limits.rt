@@ -38,7 +38,7 @@ pub struct LimitNumbers {
     pub max_rounds: u32,
     /// The most work, in millions of steps.
     pub max_work: u32,
-    /// The most directions.
+    /// The most directions of `flowshop_certify`.
     pub max_directions: u32,
     /// The greatest depth.
     pub max_depth: u32,

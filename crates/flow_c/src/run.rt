@@ -166,7 +166,7 @@ fn run_of(
 }
 
 /// A run from a sequence of an instance, whose searches have at most so many directions each. Where these are more than
-/// the signs of a certificate may be, they are only counted. Its time is limited where `limited` is not 0: then it
+/// the signs of a certificate may be, they are to be counted. Its time is limited where `limited` is not 0: then it
 /// raises the lower bound early.
 #[unsafe(no_mangle)]
 pub extern "C" fn flowshop_run(

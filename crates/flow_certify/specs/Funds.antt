@@ -20,9 +20,9 @@ cost shop makespan = (shop.jobs * shop.machines + FIXED) * (if nat_le makespan 6
 abbrev pub all_directions : Shop → ℕ → ℕ → ℕ
 all_directions shop makespan limit = limit * SHARE / cost shop makespan
 
--- the fund of a run at its beginning: one search may write no more than the limit lets it, and four fifths of what all
--- may write; half of what all may write is kept; and a search costs a third of the square of the jobs beside its
--- directions
+-- the fund of a run at its beginning: one search may write no more than the limit lets it, and no more than four fifths
+-- of what all may write; half of what all may write is kept; and a search costs a third of the square of the jobs beside
+-- its directions
 abbrev pub first_fund : Shop → ℕ → ℕ → Fund
 first_fund shop makespan limit = record {
   most = min (most_searched limit) (all_directions shop makespan limit - all_directions shop makespan limit / 5);

@@ -16,6 +16,6 @@ abbrev pub most_signs : ℕ
 most_signs = 999990000
 
 -- how many directions one search may write at a caller's limit: up to `most_directions` no more than `check` reads as
--- signs; at a greater limit, where they are only counted, as many as it says
+-- signs; at a greater limit, where they are to be counted, as many as it says
 abbrev pub most_searched : ℕ → ℕ
 most_searched limit = if nat_le limit most_directions then min limit most_signs else limit

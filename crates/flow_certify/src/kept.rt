@@ -11,6 +11,7 @@ ghost use Rattle.flow_certify.specs.Tasks.{IsAsked, may_become};
 ghost use Rattle.flow_certify.specs.declared.task.Task.TheVariants.{Search};
 ghost use Rattle.flow_certify.specs.declared.task.Answer.TheVariants as answer;
 ghost use Rattle.flow_certify.specs.internal.Keeping.{IsLater, IsProved};
+ghost use Rattle.flow_certify.specs.internal.Outcomes.{IsToldOf};
 
 use crate::proof::{Outcome, Proof, ProofLimits, search};
 use crate::run::Run;
@@ -128,6 +129,8 @@ impl Kept {
         requires task { task.now ≡ Search threshold budget }
         requires asked { IsAsked self.old.run task.now }
         ensures later { IsLater shared.now.instance.now self.old self.new }
+        ensures told { IfOk result (λ goes_on. goes_on ≡ true →
+            IsToldOf shared.now.instance.now threshold budget task.now self.old.run self.new.run) }
         ensures tasks { IfOk result (λ goes_on. goes_on ≡ true → self.new.run.tasks ≡ self.old.run.tasks - 1) }
     {
         let Some(outcome) = search(shared, self.proof.has_signs(), threshold, budget)? else {

@@ -7,7 +7,8 @@ ghost use Rattle.flow_certify.specs.Signs.{may_be_most, most_searched};
 use flow_limits::MAX_DIRECTIONS;
 use std::marker::Model;
 
-/// The greatest limit on the directions of a certificate. Those of a limit above `MAX_DIRECTIONS` are only counted.
+/// The greatest limit on the directions of a certificate. Those of a limit above `MAX_DIRECTIONS` are to be counted, since
+/// `check` does not read so many signs.
 pub const MAX_COUNTED_DIRECTIONS: u64 = 1_000_000_000_000_000;
 
 /// The most directions that fit, with the other lines of a two-ended certificate, into the text that `check` reads.

@@ -66,7 +66,7 @@ writes_signs ByLength most count = keeps_signs ByLength most && nat_le count mos
 writes_signs Signs most count = true
 writes_signs Count most count = false
 
--- whether a request asks for these directions as signs
+-- whether these directions are written as signs, at a request
 abbrev pub is_signed : CertifyRequest → List ℕ → Bool
 is_signed request directions = writes_signs request.proof request.directions (length directions)
 

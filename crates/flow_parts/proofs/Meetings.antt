@@ -6,6 +6,7 @@ use Rattle.std.proofs.lemmas.Bool.{cases_eq}
 use Rattle.flow_parts.specs.declared.place.Place.{Place}
 use Rattle.flow_parts.specs.Orders.{place_at, is_open}
 use Rattle.flow_parts.specs.Meanings.{met, behind, Meaning, place_met, order_met, BeginsRight, GivesKeep}
+use Rattle.flow_parts.specs.Meanings.{GivesNoneKeeps}
 use Rattle.flow_parts.proofs.Behind.{behind-nil, behind-assoc, met-append}
 use Rattle.flow_parts.proofs.Numbers.{all-weaker}
 use Rattle.flow_parts.proofs.Skips.{same-place}
@@ -90,4 +91,28 @@ gives-keep search old new order number meaning all gives stands =
                 let same = others q not in
                 known (ap is_open (sym same) ∙ closed) ∙ ap (λ p. p.written) (sym same)
           ]) stands.lengths;
+    }
+
+-- what places stand for does not depend on what they skip
+skips-met : (meaning : Meaning) (at at' : ℕ → Place) →
+    ((q : ℕ) → at' q ≡ record (at q) { skip = (at' q).skip }) → (xs : List ℕ) →
+    order_met meaning at' xs ≡ order_met meaning at xs
+skips-met meaning at at' same [] = refl
+skips-met meaning at at' same (x ∷ xs) =
+    let here : place_met meaning at' x ≡ place_met meaning at x =
+    ap (λ p. cond (is_open p) (met (meaning.parts x))
+        (meaning.text x, cond (eqb p.state 3) (Some (meaning.sequence x)) None)) (same x) in
+    ap (λ one. behind one (order_met meaning at' xs)) here
+    ∙ ap (behind (place_met meaning at x)) (skips-met meaning at at' same xs)
+
+pub gives-none-keeps : GivesNoneKeeps
+gives-none-keeps search old new order meaning all gives stands =
+    let same : (q : ℕ) → place_at new q ≡ record (place_at old q) { skip = (place_at new q).skip } =
+    λ q. same-place order (place_at old) (place_at new) q (gives.same q) in
+    record {
+      met_in_all = skips-met meaning (place_at old) (place_at new) same order ∙ stands.met_in_all;
+      lengths = all-weaker (λ q. is_open (place_at old q) ≡ false → length (meaning.text q) ≡ (place_at old q).written)
+          (λ q. is_open (place_at new q) ≡ false → length (meaning.text q) ≡ (place_at new q).written) order
+          (λ q known closed. known (ap is_open (sym (same q)) ∙ closed) ∙ ap (λ p. p.written) (sym (same q)))
+          stands.lengths;
     }

@@ -13,7 +13,7 @@ use Rattle.flow_parts.specs.declared.answer.Searched.{Searched}
 use Rattle.flow_parts.specs.declared.answer.Decided.{Decided}
 use Rattle.flow_parts.specs.declared.answer.Decided.TheVariants.{Proved, Below, Over}
 use Rattle.flow_parts.specs.Orders.{place_at, is_open}
-use Rattle.flow_parts.specs.Searches.{GivesPlace, IsSearch, IsPut, is_given, decided_of}
+use Rattle.flow_parts.specs.Searches.{GivesNone, GivesPlace, IsSearch, IsPut, is_given, decided_of}
 
 -- what a search meets: the signs of the nodes that it opens before a sequence is reached, and that sequence
 abbrev pub Met : Type 0
@@ -78,6 +78,12 @@ GivesKeep =
     (search : Search) (old new : List Place) (order : List ℕ) (number : ℕ) (meaning : Meaning) (all : List Visit) →
     GivesPlace search old new order number → StandsFor meaning old order all →
     StandsFor meaning new order all
+
+-- where no place is given, the places stand for the same (law: places_stand_for_the_search)
+abbrev pub GivesNoneKeeps : Type 0
+GivesNoneKeeps =
+    (search : Search) (old new : List Place) (order : List ℕ) (meaning : Meaning) (all : List Visit) →
+    GivesNone search old new order → StandsFor meaning old order all → StandsFor meaning new order all
 
 -- after true answers the places still stand for what is met in all, in whatever order the answers came (law:
 -- places_stand_for_the_search)

@@ -56,8 +56,8 @@ impl Search {
         })
     }
 
-    /// Gives the first place in order that waits. None where none waits. Of the places before it only what searched ones
-    /// skip changes, so that the next call passes over them at once.
+    /// Gives the first place in order that waits. None where none waits. Of the places before it nothing changes but what
+    /// searched ones skip, so that the next call passes over them at once.
     pub fn give(&self, places: &mut [Place]) -> Option<u64>
         ensures given { (order : List ℕ) → IsSearch self.now places.old order → IfSome result
             (λ number. GivesPlace self.now places.old places.new order number) }

@@ -306,8 +306,8 @@ fn commands() -> [CommandWords; 9] {
     [
         CommandWords {
             name: "certify",
-            about: "Writes a certificate: a sequence, and bounds of the least makespan, which are one number where that \
-is proved",
+            about: "Writes a certificate: a sequence, and bounds of the least makespan, which are one number where \
+that is proved",
             ending: "Where the bounds differ, more --directions and --work may bring them together, or another --seed \
 or --start.\n\nExample: ./flowshop certify examples/three_machines.txt 1 >certificate",
             words: &CERTIFY,

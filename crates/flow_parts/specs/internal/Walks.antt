@@ -63,16 +63,16 @@ pub record IsBegun (places : List Place) (start : ℕ) (order : List ℕ) : Type
   pub short : length below ≤ length places
   pub skips : SkipsSearched (place_at places) order
 
--- of a run of searched places that goes on with the place of a link, the first one: that place itself, where there was
--- none; else it may skip to that place now, and nothing else has changed
+-- the first place of a run of searched places that goes on with the place of a link: that place, where there was no run;
+-- else the first place of the run stays, may skip to that place now, and nothing else has changed
 pub record IsRunTo (at at' : ℕ → Place) (run link run' : ℕ) : Type 0 where
   pub begins : run ≡ 0 → run' ≡ link
   pub others : (number : ℕ) → number + 1 ≢ run → at' number ≡ at number
   pub goes_on : run ≢ 0 → (run' ≡ run) × ((at' (run - 1) ≡ at (run - 1))
       ⊎ (at' (run - 1) ≡ record (at (run - 1)) { skip = link }))
 
--- the link of the first of some places that waits, or 0, where none waits; and only skips of the searched places before
--- it are others, which are true
+-- the link of the first of some places that waits, or 0, where none waits; nothing has changed but what searched places
+-- before it skip, and what is skipped was searched
 pub record IsFirstWaiting (at at' : ℕ → Place) (order : List ℕ) (link : ℕ) : Type 0 where
   pub passed : List ℕ
   pub same : (number : ℕ) → IsSameButSkip passed at at' number

@@ -67,8 +67,8 @@ static ROWS: [Row; 17] = rows! {
     b"", None, NONE, 0, UNASKED, Err(CommandFault::Text(TextFault::NoBlock));
 };
 
-/// The request of `certify` with these numbers of an improvement, so many directions, so many workers, and a form of the
-/// proof.
+/// The request of `certify` with these numbers of an improvement, so many directions, so many workers, and a form of
+/// the proof.
 fn certified(numbers: [u32; 4], directions: u64, workers: u32, proof: ProofForm) -> Request {
     Request::Certify {
         request: CertifyRequest {
