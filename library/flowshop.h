@@ -621,8 +621,8 @@ FLOWSHOP_CALL flowshop_outcome flowshop_rounds(const flowshop_shop *shop, const 
  * stopped between two tasks, shown, kept, and gone on with. Its tasks do not depend on who does them. What it begins
  * with, which task is next, and what an answer changes is proved to be what Schedule of flow_certify says
  * (docs/proved.md).
- * A caller who keeps the count alone needs no memory for signs, and searches by flowshop_tally. Where `directions` is at
- * most 1000000000, no search has more than 999990000, the most signs that the program's `check` reads. Where it is
+ * A caller who keeps the count alone needs no memory for signs, and searches by flowshop_tally. Where `directions` is
+ * at most 1000000000, no search has more than 999990000, the most signs that the program's `check` reads. Where it is
  * greater, a search may have as many as it says, and their number alone is to be kept.
  * Faults in order: JOBS, MACHINES, COUNT, TIME; LENGTH, JOB, TWICE (of start); DIRECTIONS. */
 FLOWSHOP_CALL flowshop_outcome flowshop_run(const flowshop_shop *shop, const uint16_t *start, size_t start_count,
