@@ -34,7 +34,7 @@ pub struct Certified {
 /// Bounds of the least makespan, a sequence that has the upper one, and the directions that prove the lower one, or how
 /// many they are. The prover searches for directions. It is told which step begins, and which bounds are known before
 /// each task and at the end. What is found does not depend on which prover it is, unless its time is over: then the run
-/// ends soon, with what it knows. Nor do bounds, sequence and number of directions depend on whether the signs are kept.
+/// ends soon, with what it knows. Bounds, sequence and number of directions are the same whether signs are kept or not.
 pub fn certify<P: Prover>(
     alloc: Global,
     prover: &P,

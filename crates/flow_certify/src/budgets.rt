@@ -46,8 +46,8 @@ pub struct Fund {
 }
 
 impl Fund {
-    /// What searches may write, where `limit` is the caller's, and `makespan` is that of the start. One search may write
-    /// no more than the limit lets it, and four fifths of what all may.
+    /// What searches may write, where `limit` is the caller's, and `makespan` is that of the start. One search may
+    /// write no more than the limit lets it, and four fifths of what all may.
     pub(crate) fn new(instance: &Instance, makespan: u64, limit: MostDirections) -> Fund
         ensures fund { result ≡ first_fund instance.now makespan limit }
         ensures most { result.most ≤ most_searched limit }

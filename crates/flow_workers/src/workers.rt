@@ -273,6 +273,14 @@ pub struct Workers<'a, R, W> {
     pub watch: &'a W,
 }
 
+impl<'a, R: Threads + Sync, W: Watch> Workers<'a, R, W> {
+    /// Whether a run searches as one thread does: one worker, of whose directions nobody is told, and with no limit on
+    /// its time.
+    fn is_alone(&self) -> bool {
+        self.count <= 1 && !self.watch.is_on() && !self.watch.is_limited()
+    }
+}
+
 impl<'a, R: Threads + Sync, W: Watch> Prover for Workers<'a, R, W> {
     // Threads may share what starts them.
     ghost is_ready = { λ _. IsSync R.row };
@@ -284,7 +292,7 @@ impl<'a, R: Threads + Sync, W: Watch> Prover for Workers<'a, R, W> {
         threshold: u64,
         budget: u64,
     ) -> Result<Option<Found>, AllocError> {
-        if self.count <= 1 && !self.watch.is_on() && !self.watch.is_limited() {
+        if self.is_alone() {
             return Alone.prove(alloc, instance, threshold, budget);
         }
         prove_by(self, alloc, instance, threshold, budget)
@@ -297,7 +305,7 @@ impl<'a, R: Threads + Sync, W: Watch> Prover for Workers<'a, R, W> {
         threshold: u64,
         budget: u64,
     ) -> Result<Option<Counted>, AllocError> {
-        if self.count <= 1 && !self.watch.is_on() && !self.watch.is_limited() {
+        if self.is_alone() {
             return Alone.count_directions(alloc, instance, threshold, budget);
         }
         let sought = Sought {

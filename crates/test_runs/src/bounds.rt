@@ -65,7 +65,7 @@ fn comes_to(
 /// Jobs, machines and times; a start, and the most directions; and what is wanted.
 type Row = (u32, u32, &'static [u32], &'static [u16], u64, Wanted);
 
-static ROWS: [Row; 13] = rows! {
+static ROWS: [Row; 14] = rows! {
     // Below 13 there is a sequence of 12, and two directions prove 12.
     3, 3, &THREE_MACHINES, &[2, 1, 3], 100_000_000, (12, 12, b"++");
     3, 3, &THREE_MACHINES, &[2, 1, 3], MAX_COUNTED_DIRECTIONS, (12, 12, b"++");
@@ -78,6 +78,8 @@ static ROWS: [Row; 13] = rows! {
     3, 2, &TWO_MACHINES, &[1, 2, 3], 100, (9, 9, b"");
     3, 2, &TWO_MACHINES, &[2, 1, 3], 1, (9, 9, b"");
     3, 2, &TWO_MACHINES, &[1, 2, 3], 1, (9, 11, b"");
+    // The start has Taillard's bound, so the first search has the greatest budget.
+    2, 2, &[10, 0, 10, 0], &[1, 2], MAX_COUNTED_DIRECTIONS, (20, 20, b"++");
     14, 2, &ONE_LONG_JOB, ANY, 30_000, (24, 33, b"");
     14, 2, &ONE_LONG_JOB, ANY, 1, (24, 33, b"");
     1, 1, &[7], ANY, 5, (7, 7, b"");

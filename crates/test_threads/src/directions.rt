@@ -124,18 +124,9 @@ fn is_published<R: Threads + Sync>(rt: &R, alloc: Global, row: &Published, worke
     begins && text.len() as u64 == length && below == Ok(Some(alone))
 }
 
-/// What a search that counts is to find with a budget, where so many directions prove the threshold.
-fn within(length: u64, budget: u64) -> Counted {
-    if length <= budget {
-        Counted::Proved(length)
-    } else {
-        Counted::Over
-    }
-}
-
-/// Whether so many workers count these directions, with a budget of as many and of any number, and below the next number
-/// what one thread counts, and tell a watch of all directions. With a budget of one less, or of none, they are over it.
-/// For a run they count the same, watched or not.
+/// Whether so many workers count these directions, with a budget of as many and of any number, and below the next
+/// number what one thread counts, and tell a watch of all directions. With a budget of one less, or of none, they are
+/// over it. For a run they count the same, and, unwatched, they are over a budget of half of them.
 fn is_counted<R: Threads + Sync>(rt: &R, alloc: Global, row: &Published, workers: usize) -> bool {
     let (jobs, machines, seed, number, length, _) = *row;
     let Ok(instance) = generate(alloc, jobs, machines, seed) else {
@@ -156,12 +147,17 @@ fn is_counted<R: Threads + Sync>(rt: &R, alloc: Global, row: &Published, workers
         count: workers.count,
         watch: &Unwatched,
     };
-    for budget in [u64::MAX, length.saturating_sub(1), 0] {
-        let wanted = Ok(Some(within(length, budget)));
-        if count_by(&workers, alloc, &instance, number, budget) != Ok(within(length, budget))
-            || workers.count_directions(alloc, &instance, number, budget) != wanted
-            || unwatched.count_directions(alloc, &instance, number, budget) != wanted
-        {
+    let of_run = workers.count_directions(alloc, &instance, number, length);
+    let of_half = unwatched.count_directions(alloc, &instance, number, length / 2);
+    if of_run != Ok(Some(Counted::Proved(length))) || of_half != Ok(Some(Counted::Over)) {
+        return false;
+    }
+    for (budget, wanted) in [
+        (u64::MAX, Counted::Proved(length)),
+        (length.saturating_sub(1), Counted::Over),
+        (0, Counted::Over),
+    ] {
+        if count_by(&workers, alloc, &instance, number, budget) != Ok(wanted) {
             return false;
         }
     }
