@@ -143,7 +143,7 @@ static CERTIFY: [Word; 12] = [
             default: "100000000",
         },
         help: "How many directions a proof has at most, 1 to 1000000000000000, and to 1000000000 with --proof signs; \
-fewer where the shop is large. More may prove what fewer do not, and may take 3 to 8 minutes with one worker for each \
+fewer where the shop is large. More may prove what fewer do not, and may take up to 8 minutes with one worker for each \
 1000000000; --time-limit ends a run",
     },
     Word {
@@ -152,8 +152,8 @@ fewer where the shop is large. More may prove what fewer do not, and may take 3 
         help: "signs for a two-ended certificate, which has a sign for each direction: it is as long as the proof, and \
 check follows it. count for a counted one, which has their number: it is short, the run keeps no signs, and check \
 repeats the search, with check --workers on several threads, and with check --most where there are more than \
-10000000000. signs FILE INDEX CERT makes a two-ended one of it. Left out, signs where there are at most 10000000, and \
-at most 100000000 were asked for",
+10000000000. signs FILE INDEX CERT makes a two-ended one of it. Left out, signs where at most 10000000 directions \
+prove the bound and --directions is at most 100000000, else a count",
     },
     WORKERS,
     PROGRESS,
@@ -251,7 +251,8 @@ the SHA-256 of FILE and CERT",
             value: "N",
             default: "10000000000",
         },
-        help: "The most nodes that a counted certificate may state, 0 to 18446744073709551615; the check opens so many",
+        help: "The most nodes that a counted certificate may state, 0 to 18446744073709551615; one that \
+states more is refused before its search",
     },
     Word {
         name: "workers",
