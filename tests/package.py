@@ -97,11 +97,10 @@ def compare_header():
     equal("trees, stack and time", got, (numbers["MAX_PREFIXES"], True, numbers["MAX_TIME"]))
     most = inspect.signature(Shop.check).parameters["most"].default
     equal("the nodes of a check", (most, _library.LIMITS.max_nodes), (refusals.MOST_NODES,) * 2)
-    code = (TOP / "crates" / "flow_commands" / "src" / "certify.rt").read_text().replace("_", "")
-    unasked = int(re.search(r"const MOSTUNASKED: usize = (\d+);", code)[1])
+    code = (TOP / "crates" / "flow_commands" / "src" / "proof.rt").read_text().replace("_", "")
+    unasked, kept = (int(re.search(rf"const {name}: u64 = (\d+);", code)[1]) for name in ("MOSTUNASKED", "MOSTKEPT"))
     equal("signs that nobody asked for", [_options.has_signs(None, unasked + more) for more in (0, 1)], [True, False])
-    words = (TOP / "crates" / "flow_words" / "src" / "grammar.rt").read_text().partition('name: "directions"')[2]
-    equal("how many directions are kept", _options.MOST_KEPT, int(re.search(r'default: "(\d+)"', words)[1]))
+    equal("how many directions are kept", _options.MOST_KEPT, kept)
 
 
 def make_shops():
