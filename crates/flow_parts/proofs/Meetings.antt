@@ -101,7 +101,7 @@ skips-met meaning at at' same [] = refl
 skips-met meaning at at' same (x ∷ xs) =
     let here : place_met meaning at' x ≡ place_met meaning at x =
     ap (λ p. cond (is_open p) (met (meaning.parts x))
-        (meaning.text x, cond (eqb p.state 3) (Some (meaning.sequence x)) None)) (same x) in
+    (meaning.text x, cond (eqb p.state 3) (Some (meaning.sequence x)) None)) (same x) in
     ap (λ one. behind one (order_met meaning at' xs)) here
     ∙ ap (behind (place_met meaning at x)) (skips-met meaning at at' same xs)
 
