@@ -81,10 +81,14 @@ fn request_of(words: &[String]) -> Option<Request<'_>> {
     let (command, words) = words.split_first()?;
     let mut words = words.iter().map(String::as_str);
     while let Some(word) = words.next() {
-        match word {
-            "--sequence" if !sequence => sequence = true,
-            "--optimal" if !optimal => optimal = true,
-            "--most" if most.is_none() => most = Some(words.next()?.parse().ok()?),
+        // The number of an option is the next word, or stands behind `=`.
+        let joined = word.split_once('=');
+        match joined.map_or((word, None), |(name, number)| (name, Some(number))) {
+            ("--sequence", None) if !sequence => sequence = true,
+            ("--optimal", None) if !optimal => optimal = true,
+            ("--most", number) if most.is_none() => {
+                most = Some(number.or_else(|| words.next())?.parse().ok()?);
+            }
             _ if word.starts_with('-') => return None,
             _ => names.push(word),
         }

@@ -15,10 +15,13 @@ GREAT = (255, 256, 65_535, 65_536, 10**6, 2**31, 2**32 - 1, 2**32, 2**63, 2**64 
 
 
 def drawn_shop(draw, most_jobs, most_machines):
-    """A shop with times that are small or great; some have many ties, many zeros, or one time alone."""
+    """A shop with times that are small, great, or such that makespans are near the greatest number of 15 or 16 bits;
+    some have many ties, many zeros, or one time alone."""
     jobs, machines = (max(draw.randint(1, most), draw.randint(1, most)) for most in (most_jobs, most_machines))
-    most = draw.choice([2, 9, 9, 20, 99, 99, 999_999])
-    few = [draw.randint(0, most) for _ in range(draw.choice([1, 2, 3] + [99] * 12))]
+    near = [limit // (jobs + machines - 1) for limit in (32_767, 65_535)]
+    ranges = [(0, most) for most in (2, 9, 9, 20, 99, 99, 999_999)] + [(time - 1, time + 1) for time in near]
+    least, most = draw.choice([*ranges, (999_998, 999_999)])
+    few = [draw.randint(least, most) for _ in range(draw.choice([1, 2, 3] + [99] * 12))]
     zeros = draw.choice([0, 0, 0, 0, 0, 0.3, 0.8])
     return jobs, machines, [0 if draw.random() < zeros else draw.choice(few) for _ in range(jobs * machines)]
 

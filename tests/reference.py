@@ -5,6 +5,7 @@ jobs, its machines, and its times, machine by machine; jobs are counted from 1."
 
 import collections
 import itertools
+import operator
 
 # --- Shops and sequences ---
 
@@ -44,7 +45,10 @@ def spans(shop, sequence):
 
 def fronts(shop, sequence):
     """When the last job of a list leaves each machine."""
-    return [end for _, end in spans(shop, sequence)[-1]] if sequence else [0] * shop[1]
+    rows, front = rows_of(shop), [0] * shop[1]
+    for job in sequence:
+        front = longer(front, rows[job - 1])
+    return front
 
 
 def makespan(shop, sequence):
@@ -84,6 +88,10 @@ def longer(ends, times):
 class Search:
     """The search for directions of a shop. A node has two lists, the fronts of the first, the backs of the last, and
     the times of the jobs in neither."""
+
+    # How the rule compares: the sum at the front with that at the back, three times the smaller number of children with
+    # twice the larger, and the weight of the other end with that of the end that the plain rule takes.
+    keeps_front, looks_ahead, takes_other = operator.ge, operator.ge, operator.lt
 
     def __init__(self, shop):
         self.jobs = rows_of(shop)
@@ -125,11 +133,11 @@ class Search:
         """Whether a node whose bound is below a number is opened at the front, where these are its children."""
         few = [sum(bound(child) < number for child in side) for side in sides]
         sums = [sum(map(bound, side)) for side in sides]
-        plain = few[0] < few[1] or (few[0] == few[1] and sums[0] >= sums[1])
-        if len(sides[0]) < 3 or min(few) < 2 or 3 * min(few) < 2 * max(few):
+        plain = few[0] < few[1] or (few[0] == few[1] and self.keeps_front(*sums))
+        if len(sides[0]) < 3 or min(few) < 2 or not self.looks_ahead(3 * min(few), 2 * max(few)):
             return plain
         mine, other = (self.weight(number, side) for side in (sides if plain else sides[::-1]))
-        return plain != (other < mine)
+        return plain != self.takes_other(other, mine)
 
     def search(self, number, node=None):
         """What the search for a number meets at a node: its directions, up to the first sequence below the number; and
