@@ -258,8 +258,9 @@ class Spread:
         self._executor: Executor = workers.executor or self._threads or Here()
         self._is_elsewhere = not isinstance(self._executor, (Here, Threads))
         self._is_shared = not isinstance(self._executor, Here)
-        # When each worker was heard last.
+        # When each worker was heard last, and when it was looked for those that are not heard any more.
         self._heard: Dict[int, float] = {}
+        self._counted = 0.0
         # How many nodes a task has, as earlier ones have shown.
         self._nodes = 1
         self._ahead: Set[Calls] = set()
@@ -283,8 +284,10 @@ class Spread:
         """How many workers there are; of those elsewhere two, or as many as were heard in the last seconds."""
         if not self._is_elsewhere:
             return self._workers.size
-        since = time.monotonic() - _HEARD
-        self._heard = {worker: heard for worker, heard in self._heard.items() if heard > since}
+        now = time.monotonic()
+        if now > self._counted + _LOOK:
+            self._counted = now
+            self._heard = {worker: heard for worker, heard in self._heard.items() if heard > now - _HEARD}
         return max(self._workers.size, len(self._heard), 2)
 
     def prove(self, number: int, budget: int) -> Found:
