@@ -634,6 +634,30 @@ def lose_worker():
             equal("how soon it comes", time.monotonic() - begun < seconds + 10, True)
 
 
+def cut_parts():
+    """Parts as runs of a weight, where a node weighs a fifth of one that has placed a job less: up to 400 such levels,
+    so that deeper nodes have a weight too."""
+    deep, shallow = (_parts.PackedPart(b"12" * depth, b"34", end, b"56" * size) for depth, end, size in
+                     ((3, _parts.FRONT, 5), (2, _parts.BACK, 2)))
+    node = _parts.PackedPart(b"12" * 3, b"3456", 0, b"")
+    # Five nodes of 0.00032, two of 0.0016, and one of 0.00032.
+    equal("what they weigh", round(_spread.weight_of_all([deep, shallow, node]), 6), 0.00512)
+    levels = [_parts.PackedPart(b"12" * depth, b"", 0, b"") for depth in range(1, 801)]
+    for parts, least, most, wanted in [
+        ([], 1.0, 3, []), ([node], 1.0, 3, [[1]]), ([deep, shallow], 0.0015, 9, [[5], [1], [1]]),
+        ([deep, shallow], 0.0017, 9, [[5, 1], [1]]), ([deep, shallow], 0.0015, 1, [[5], [2]]),
+        ([deep, shallow], 0.0015, 0, [[5, 2]]), ([deep, shallow], 0.001, 9, [[4], [1, 1], [1]]),
+        ([deep, node, shallow], 0.0018, 9, [[5, 1], [2]]), ([shallow, deep], 0.0015, 9, [[1], [1], [5]]),
+        ([deep, shallow], 0.0, 9, [[1]] * 7), ([deep, shallow], 0.0, 3, [[1], [1], [1], [2, 2]]),
+        (levels, 0.1, 9, [[1], [1] * 799]), (levels[::-1], 0.1, 9, [[1] * 800]),
+    ]:
+        runs = list(_spread.runs_of(parts, least, most))
+        got = [[part.size() for part in run] for run in runs]
+        equal(f"{most} runs of {len(parts)} parts of {least}", got, wanted)
+        nodes = [node for run in runs for part in run for node in part.nodes()]
+        equal(f"the nodes of these {most}", nodes, [node for part in parts for node in part.nodes()])
+
+
 def drop_calls():
     """What becomes of calls that nobody waits for: a future that can be released is, also where it cannot be cancelled,
     and another one is cancelled. Rounds that have ended are none of them."""
@@ -1396,7 +1420,7 @@ def use_local():
         interrupt_runs(pool)
         lose_results()
         lose_progress(pool)
-    for part in (lose_worker, drop_calls, stop_threads, use_eight_threads, use_command, use_odd_names,
+    for part in (lose_worker, cut_parts, drop_calls, stop_threads, use_eight_threads, use_command, use_odd_names,
                  keep_links_and_pipes, keep_streams, refuse_words, use_terminal, stop_command, stop_at_pipes,
                  write_to_full_pipes, restore_handler, kill_command, end_writing, use_page):
         part()

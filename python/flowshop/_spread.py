@@ -6,6 +6,7 @@ how much the next one has, and nothing else."""
 
 import ctypes
 import functools
+import math
 import queue
 import time
 from concurrent.futures import BrokenExecutor
@@ -23,6 +24,12 @@ _T = TypeVar("_T")
 _GIVEN = 1
 # How many seconds a task takes about: while there are few parts to give, and else; and elsewhere at most.
 _SHORT, _LONG, _LONG_ELSEWHERE = 0.02, 0.2, 1.0
+# For how many workers short tasks are as short as that. For more they are longer, as answers would come too fast.
+_FEW = 40
+# How many times as many directions as a node has the one above it, about; and for how many levels that counts.
+_FALL, _LEVELS = 5.0, 400
+# How much less an answer tells than the next one about how long a task takes.
+_FADE = 0.98
 # How many seconds lie at most between two looks at whether a search is to end.
 _LOOK = 0.05
 # How many seconds longer than the slowest one a task may take before another worker is given it too.
@@ -33,8 +40,6 @@ _HEARD = 10.0
 _LONGEST_BEAM = 60.0
 # How many times a task is given out whose worker fails.
 _TRIES = 3
-# The most nodes of a task, but of those behind others.
-_MOST_NODES = 4096
 _ROOT = PackedPart(b"", b"", 0, b"")
 
 
@@ -71,20 +76,31 @@ class Found(NamedTuple):
     makespan: int = 0
 
 
-def runs_of(parts: List[PackedPart], nodes: int, most: int) -> Iterator[List[PackedPart]]:
-    """Parts as runs of so many nodes, in order: so many runs at most, and one of the others."""
+def weight_of(part: PackedPart) -> float:
+    """Which share of a whole search a node of a part has, about."""
+    depth = (len(part.first) + len(part.last)) // 2 + (part.end != 0)
+    return float(_FALL ** -min(depth, _LEVELS))
+
+
+def weight_of_all(parts: List[PackedPart]) -> float:
+    """Which share of a whole search parts have, about."""
+    return sum(weight_of(part) * part.size() for part in parts)
+
+
+def runs_of(parts: List[PackedPart], least: float, most: int) -> Iterator[List[PackedPart]]:
+    """Parts as runs, in order, each of this weight or just more: so many runs at most, and one of the others."""
     run: List[PackedPart] = []
-    free = nodes
+    free = least
     for part in parts:
-        left = [part]
+        weight, left = weight_of(part), [part]
         while left:
             part = left.pop()
-            run.append(part.before(free) if most > 0 else part)
-            left = part.after(min(free, part.size())) if most > 0 else []
-            free -= run[-1].size()
-            if free == 0 and most > 0:
+            nodes = max(1, min(part.size(), math.ceil(free / weight))) if most > 0 else part.size()
+            run.append(part.before(nodes))
+            left, free = part.after(nodes), free - nodes * weight
+            if free <= 0 and most > 0:
                 yield run
-                run, free, most = [], nodes, most - 1
+                run, free, most = [], least, most - 1
     if run:
         yield run
 
@@ -124,6 +140,8 @@ class Shared:
         # ones were looked for.
         self._given: Dict[int, Given] = {}
         self._slowest, self._looked = 0.0, 0.0
+        # How many seconds the last answers took, and which share of the search was done in these.
+        self._took, self._done = 0.0, 0.0
 
     @property
     def written(self) -> int:
@@ -131,9 +149,9 @@ class Shared:
         return int(self._search.written)
 
     def seconds(self) -> float:
-        """How many seconds a task takes elsewhere: an eighth of those of the search so far, so that little is searched
-        in vain behind the place that decides."""
-        return max(_LONG, min(_LONG_ELSEWHERE, (time.monotonic() - self._begun) / 8))
+        """How many seconds a task takes elsewhere, where many parts wait: an eighth of those of the search so far, so
+        that little is searched in vain behind the place that decides."""
+        return min(_LONG_ELSEWHERE, (time.monotonic() - self._begun) / 8)
 
     @property
     def open(self) -> int:
@@ -165,10 +183,15 @@ class Shared:
         gone = [place for place in self._given if self._places[place].state != _GIVEN]
         return [self._given.pop(place) for place in gone]
 
-    def put(self, answer: Answer, nodes: int, most: int) -> None:
-        """Takes an answer to a task. What is left is given in tasks of so many nodes, so many of these at most, and one
-        of the others."""
-        runs = list(runs_of(parts_of(answer.rest), nodes, most))
+    def put(self, answer: Answer, seconds: float, missing: int, most: int) -> None:
+        """Takes an answer to a task. What is left is given in tasks of so many seconds, and in shorter ones while so
+        many tasks are missing; so many of these at most, and one of the others."""
+        parts = parts_of(answer.rest)
+        whole = weight_of_all(parts)
+        self._took = _FADE * self._took + answer.seconds
+        self._done = _FADE * self._done + max(0.0, weight_of_all(self._parts.get(answer.place, [])) - whole)
+        least = min(seconds * self._done / self._took if self._took else 0.0, whole / max(1, missing))
+        runs = list(runs_of(parts, least, most))
         searched, first = SearchedNumbers(answer.written, len(runs), int(bool(answer.sequence))), u64()
         self._make_room(len(runs))
         call("search_put", self._search, self._places, len(self._places), answer.place, searched, byref(first))
@@ -268,10 +291,9 @@ class Spread:
         self._executor: Executor = workers.executor or self._threads or Here()
         self._is_elsewhere = not isinstance(self._executor, (Here, Threads))
         self._is_shared = not isinstance(self._executor, Here)
-        # When each worker was heard last.
+        # When each worker was heard last, and when it was looked for those that are not heard any more.
         self._heard: Dict[int, float] = {}
-        # How many nodes a task has, as earlier ones have shown.
-        self._nodes = 1
+        self._counted = 0.0
         self._ahead: Set[Calls] = set()
         self.at_once = workers.at_once
 
@@ -293,8 +315,10 @@ class Spread:
         """How many workers there are; of those elsewhere two, or as many as were heard in the last seconds."""
         if not self._is_elsewhere:
             return self._workers.size
-        since = time.monotonic() - _HEARD
-        self._heard = {worker: heard for worker, heard in self._heard.items() if heard > since}
+        now = time.monotonic()
+        if now > self._counted + _LOOK:
+            self._counted = now
+            self._heard = {worker: heard for worker, heard in self._heard.items() if heard > now - _HEARD}
         return max(self._workers.size, len(self._heard), 2)
 
     def prove(self, number: int, budget: int, has_signs: bool) -> Found:
@@ -313,14 +337,22 @@ class Spread:
         finally:
             calls.drop()
 
+    def _short(self) -> float:
+        """How many seconds a task takes while few parts wait."""
+        return min(_LONG_ELSEWHERE, _SHORT * max(1, self._size / _FEW))
+
+    def _seconds(self, shared: Shared) -> float:
+        """How many seconds a task takes."""
+        return max(self._short(), shared.seconds() if self._is_elsewhere else _LONG)
+
     def _give(self, shared: Shared, calls: Calls) -> None:
         """Gives tasks to all workers: elsewhere some more, so that none waits for the next one, and new ones are found;
         and what takes much longer there than it should to one worker more."""
         size = self._size
         most = size + max(1, size // 2) if self._is_elsewhere else size
-        long = shared.seconds() if self._is_elsewhere else _LONG
+        short, long = self._short(), self._seconds(shared)
         while len(calls) < most:
-            given = shared.give(_SHORT if shared.open - len(calls) < size else long)
+            given = shared.give(short if shared.open - len(calls) < size else long)
             if given is None:
                 break
             given.begin(calls)
@@ -345,11 +377,8 @@ class Spread:
         calls.drop(given.calls)
         given.calls.clear()
         self._heard[answer.worker] = time.monotonic()
-        if answer.rest:
-            self._nodes = max(1, self._nodes - self._nodes // 4)
-        elif answer.seconds < given.task.seconds / 2:
-            self._nodes = min(_MOST_NODES, self._nodes + self._nodes // 4 + 1)
-        shared.put(answer, self._nodes, 2 * self._size if self._is_shared else 0)
+        most = 2 * self._size if self._is_shared else 0
+        shared.put(answer, self._seconds(shared), most - (shared.open - len(calls)), most)
         for dropped in shared.dropped() if answer.sequence else []:
             calls.drop(dropped.calls)
             dropped.calls.clear()
